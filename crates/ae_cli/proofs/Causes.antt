@@ -33,7 +33,8 @@ module _ (old new : Seen) where
   abbrev Rises : Type 0
   Rises = Rose old.out.faults new.out.faults ⊎ Rose old.tap.faults new.tap.faults
 
-  pub run_caused : (summary : Bool) (version : FrameVersion) (r : Ran) → IsOfPeer r → (r ≡ ran.Unread unread.ReadFault → Rose old.script.faults new.script.faults) → (r ≡ ran.Stopped stop.WriteFault → Rises)
+  pub run_caused : (summary : Bool) (version : FrameVersion) (r : Ran) → IsOfPeer r
+      → (r ≡ ran.Unread unread.ReadFault → Rose old.script.faults new.script.faults) → (r ≡ ran.Stopped stop.WriteFault → Rises)
       → (r ≡ ran.Stopped stop.EntropyFault → Rose old.entropy.faults new.entropy.faults) → (r ≡ ran.Stopped stop.VaultFault → Rose old.vault.faults new.vault.faults)
       → IsCaused (uses (Some (command.Run summary version))) (status_of r) old new
   run_caused summary version ran.Done p s w e v = tt
@@ -50,7 +51,8 @@ module _ (old new : Seen) where
   run_caused summary version (ran.Unread (unread.BadLine line)) p s w e v = tt
   run_caused summary version (ran.Unread unread.OutOfMemory) p s w e v = tt
 
-  pub drive_caused : (version : FrameVersion) (r : Ran) → (r ≡ ran.Unread unread.ReadFault → Rose old.script.faults new.script.faults) → (r ≡ ran.Stopped stop.ReadFault → Rose old.replies.faults new.replies.faults)
+  pub drive_caused : (version : FrameVersion) (r : Ran) → (r ≡ ran.Unread unread.ReadFault → Rose old.script.faults new.script.faults)
+      → (r ≡ ran.Stopped stop.ReadFault → Rose old.replies.faults new.replies.faults)
       → (r ≡ ran.Stopped stop.WriteFault → Rises) → (r ≡ ran.Stopped stop.EntropyFault → Rose old.entropy.faults new.entropy.faults)
       → (r ≡ ran.Stopped stop.VaultFault → Rose old.vault.faults new.vault.faults) → IsCaused (uses (Some (command.Drive version))) (status_of r) old new
   drive_caused version ran.Done s l w e v = tt

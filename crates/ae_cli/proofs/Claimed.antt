@@ -84,7 +84,8 @@ module _ (law : ClashesExactly) (keys : KeyMap) where
         let there = law.only keys trusted number act held state place.0 place.1 in
         (there.0, there.1, there.2, (place.0, there.3))
 
-    has_untyped : IsReached keys trusted state number act held → (batch : Batch) (now : State) → batch_of act held ≡ Some batch → now ≡ state → (at : ℕ) → IsUntypedAt now number batch at → Untyped keys trusted number act held state
+    has_untyped : IsReached keys trusted state number act held → (batch : Batch) (now : State)
+        → batch_of act held ≡ Some batch → now ≡ state → (at : ℕ) → IsUntypedAt now number batch at → Untyped keys trusted number act held state
     has_untyped reached batch now of here at u = inl (record {
       reached = reached;
       batch = batch;
@@ -97,10 +98,12 @@ module _ (law : ClashesExactly) (keys : KeyMap) where
     own_clash : HasUntyped keys (record { trusted = trusted; session = number; act = act; held = held; state = state }) → Clashes
     own_clash u = (law.exactly keys trusted number act held state u.batch u.bound u.reached u.of_turn u.is_bound).1 u.untyped
 
-  clash_so : (trusted : List (List ℕ)) (number : ℕ) (act : Act) (held : Option Pending) (state : State) → IsClash (means keys trusted number act held state).comes → Untyped keys trusted number act held state
+  clash_so : (trusted : List (List ℕ)) (number : ℕ) (act : Act) (held : Option Pending) (state : State)
+      → IsClash (means keys trusted number act held state).comes → Untyped keys trusted number act held state
   clash_so trusted number (Whole batch) None state is =
       let r = runs_clashing trusted number (Whole batch) None state is in
-      has_untyped trusted number (Whole batch) None state (unfit_is_none state number batch (readied state (execution_of keys trusted state number)) (why_unfit batch) is) r.0 r.1 r.2.0 r.2.1 r.3.0 r.3.1
+      has_untyped trusted number (Whole batch) None state
+      (unfit_is_none state number batch (readied state (execution_of keys trusted state number)) (why_unfit batch) is) r.0 r.1 r.2.0 r.2.1 r.3.0 r.3.1
   clash_so trusted number (Whole batch) (Some p) state is = absurd is
   clash_so trusted number (Half batch) None state is =
       let r = runs_clashing trusted number (Half batch) None state is in
@@ -108,12 +111,14 @@ module _ (law : ClashesExactly) (keys : KeyMap) where
   clash_so trusted number (Half batch) (Some p) state is = absurd is
   clash_so trusted number Execute (Some p) state is =
       let r = runs_clashing trusted number Execute (Some p) state is in
-      has_untyped trusted number Execute (Some p) state (opened_is_none keys trusted state number p (why_unopened keys trusted p.keys (map (λ u. u.enc) (uses_of p))) is) r.0 r.1 r.2.0 r.2.1 r.3.0 r.3.1
+      has_untyped trusted number Execute (Some p) state
+      (opened_is_none keys trusted state number p (why_unopened keys trusted p.keys (map (λ u. u.enc) (uses_of p))) is) r.0 r.1 r.2.0 r.2.1 r.3.0 r.3.1
   clash_so trusted number Execute None state is = absurd is
   clash_so trusted number (Rotate old new) None state is = inr (record { old = old; new = new; rotates = refl; free = refl; runs = (law.rotated keys trusted number old new state).0 is })
   clash_so trusted number (Rotate old new) (Some p) state is = absurd is
 
-  untyped_so : (trusted : List (List ℕ)) (number : ℕ) (act : Act) (held : Option Pending) (state : State) → Untyped keys trusted number act held state → IsClash (means keys trusted number act held state).comes
+  untyped_so : (trusted : List (List ℕ)) (number : ℕ) (act : Act) (held : Option Pending) (state : State)
+      → Untyped keys trusted number act held state → IsClash (means keys trusted number act held state).comes
   untyped_so trusted number act held state (inl u) = own_clash trusted number act held state u
   untyped_so trusted number act held state (inr u) =
       subst (λ act. IsClash (means keys trusted number act held state).comes) (sym u.rotates)
@@ -173,7 +178,8 @@ module _ (version : FrameVersion) (keys : KeyMap) (steps : List Step) (old new :
   abbrev Caused : Ran → Type 0
   Caused r = IsCaused (uses (Some (command.Run false version))) (status_of r) old new
 
-  ends_so : (r : Ran) (count : Count) (bytes : List ℕ) → RunsScript r count bytes (run_devices version old) (run_devices version new) → IsDoneOrFault r → Printed r → Tapped r → Caused r → Ends (status_of r)
+  ends_so : (r : Ran) (count : Count) (bytes : List ℕ) → RunsScript r count bytes (run_devices version old) (run_devices version new)
+      → IsDoneOrFault r → Printed r → Tapped r → Caused r → Ends (status_of r)
   ends_so ran.Done count bytes c d p t w = inl (record { ends = rw p.1 refl; text = p.0; frames = t })
   ends_so ran.Refusals count bytes c d p t w = inl (record { ends = rw p.1 refl; text = p.0; frames = t })
   ends_so (ran.Stopped (stop.BadReply place)) count bytes c d p t w = absurd d
@@ -202,7 +208,8 @@ module _ (version : FrameVersion) (keys : KeyMap) (steps : List Step) (old new :
   does_so : (words : List (List ℕ)) → command_in words ≡ Some (command.Run false version) → (end : Status) → Does words end old new → old.peer.state ≡ Some empty_state
       → (bytes : List ℕ) → old.script.content ≡ Some bytes → IsScript bytes steps → old.vault.content ≡ Some keys → Alike keys steps → Ends end
   unfolding Does
-  does_so words is end (inl did) state bytes told script keys_told alike = asked_so words end (subst (λ (x : Option Command). DidAsked x words end old new) is did) state bytes told script keys_told alike
+  does_so words is end (inl did) state bytes told script keys_told alike = asked_so words end
+      (subst (λ (x : Option Command). DidAsked x words end old new) is did) state bytes told script keys_told alike
   does_so words is end (inr none) state bytes told script keys_told alike = subst Ends (sym none.0) (untouched status.OutOfMemory tt (ap (run_devices version) none.1))
 
 pub headline : ClashesExactly → Headline

@@ -99,45 +99,57 @@ module _ (words : List (List ℕ)) (end : Status) (old new : Seen) where
     awaited = λ w place b. a w place (bad_reply r place (sym e ∙ b));
   }
 
-  pub did_run : (version : FrameVersion) → command_in words ≡ Some (command.Run false version) → (r : Ran) → end ≡ status_of r → OfBytes (λ bytes. IsRunOf r bytes (run_devices version old) (run_devices version new)) → Taken (TakesScript (runs.read_by r)) → Awaited r → IsOfPeer r
-      → (r ≡ ran.Unread unread.ReadFault → ReadRose) → (r ≡ ran.Stopped stop.WriteFault → PutRose) → (r ≡ ran.Stopped stop.EntropyFault → EntropyRose) → (r ≡ ran.Stopped stop.VaultFault → VaultRose) → Does words end old new
+  pub did_run : (version : FrameVersion) → command_in words ≡ Some (command.Run false version) → (r : Ran)
+      → end ≡ status_of r → OfBytes (λ bytes. IsRunOf r bytes (run_devices version old) (run_devices version new)) → Taken (TakesScript (runs.read_by r)) → Awaited r → IsOfPeer r
+      → (r ≡ ran.Unread unread.ReadFault → ReadRose) → (r ≡ ran.Stopped stop.WriteFault → PutRose)
+      → (r ≡ ran.Stopped stop.EntropyFault → EntropyRose) → (r ≡ ran.Stopped stop.VaultFault → VaultRose) → Does words end old new
   did_run version is r e h t a p s w d v =
-      did_asked (command.Run false version) is (status_of r) e (ran_so (λ x bytes. IsRunOf x bytes (run_devices version old) (run_devices version new)) r e h t a) (run_caused old new false version r p s w d v)
+      did_asked (command.Run false version) is (status_of r) e
+      (ran_so (λ x bytes. IsRunOf x bytes (run_devices version old) (run_devices version new)) r e h t a) (run_caused old new false version r p s w d v)
 
-  pub did_summary : (version : FrameVersion) → command_in words ≡ Some (command.Run true version) → (r : Ran) → end ≡ status_of r → OfBytes (λ bytes. IsSummaryOf r bytes (run_devices version old) (run_devices version new)) → Taken (TakesScript (runs.read_by r)) → Awaited r → IsOfPeer r
-      → (r ≡ ran.Unread unread.ReadFault → ReadRose) → (r ≡ ran.Stopped stop.WriteFault → PutRose) → (r ≡ ran.Stopped stop.EntropyFault → EntropyRose) → (r ≡ ran.Stopped stop.VaultFault → VaultRose) → Does words end old new
+  pub did_summary : (version : FrameVersion) → command_in words ≡ Some (command.Run true version) → (r : Ran)
+      → end ≡ status_of r → OfBytes (λ bytes. IsSummaryOf r bytes (run_devices version old) (run_devices version new)) → Taken (TakesScript (runs.read_by r)) → Awaited r → IsOfPeer r
+      → (r ≡ ran.Unread unread.ReadFault → ReadRose) → (r ≡ ran.Stopped stop.WriteFault → PutRose)
+      → (r ≡ ran.Stopped stop.EntropyFault → EntropyRose) → (r ≡ ran.Stopped stop.VaultFault → VaultRose) → Does words end old new
   did_summary version is r e h t a p s w d v =
-      did_asked (command.Run true version) is (status_of r) e (ran_so (λ x bytes. IsSummaryOf x bytes (run_devices version old) (run_devices version new)) r e h t a) (run_caused old new true version r p s w d v)
+      did_asked (command.Run true version) is (status_of r) e
+      (ran_so (λ x bytes. IsSummaryOf x bytes (run_devices version old) (run_devices version new)) r e h t a) (run_caused old new true version r p s w d v)
 
-  pub did_drive : (version : FrameVersion) → command_in words ≡ Some (command.Drive version) → (r : Ran) → end ≡ status_of r → OfBytes (λ bytes. IsDriveOf r bytes (drive_devices version old) (drive_devices version new)) → Taken (TakesScript (runs.read_by r))
+  pub did_drive : (version : FrameVersion) → command_in words ≡ Some (command.Drive version) → (r : Ran)
+      → end ≡ status_of r → OfBytes (λ bytes. IsDriveOf r bytes (drive_devices version old) (drive_devices version new)) → Taken (TakesScript (runs.read_by r))
       → (r ≡ ran.Unread unread.ReadFault → ReadRose) → (r ≡ ran.Stopped stop.ReadFault → Rose old.replies.faults new.replies.faults) → (r ≡ ran.Stopped stop.WriteFault → PutRose)
       → (r ≡ ran.Stopped stop.EntropyFault → EntropyRose) → (r ≡ ran.Stopped stop.VaultFault → VaultRose) → Does words end old new
   did_drive version is r e h t s l w d v =
       did_asked (command.Drive version) is (status_of r) e (record { how = r; ends = e; bytes = h.0; told = h.1; did = h.2; taken = t }) (drive_caused old new version r s l w d v)
 
-  pub did_check : command_in words ≡ Some command.Check → (c : Checked) → end ≡ status_of_checking c → OfBytes (λ bytes. ChecksScript c bytes old.out.content new.out.content) → Taken (TakesScript (checks.read_by c))
+  pub did_check : command_in words ≡ Some command.Check → (c : Checked) → end ≡ status_of_checking c
+      → OfBytes (λ bytes. ChecksScript c bytes old.out.content new.out.content) → Taken (TakesScript (checks.read_by c))
       → (c ≡ checked.ReadFault → ReadRose) → (c ≡ checked.WriteFault → WriteRose) → Does words end old new
   did_check is c e h t s w =
       did_asked command.Check is (status_of_checking c) e (record { how = c; ends = e; bytes = h.0; told = h.1; did = h.2; taken = t }) (check_caused old new c s w)
 
-  pub did_wrap : (path : List ℕ) → command_in words ≡ Some (command.Wrap path) → (r : Wrapped) → end ≡ status_of_wrapping path r → OfBytes (λ bytes. Wraps r path bytes (wrap_devices old) (wrap_devices new)) → Taken (Takes r)
+  pub did_wrap : (path : List ℕ) → command_in words ≡ Some (command.Wrap path) → (r : Wrapped)
+      → end ≡ status_of_wrapping path r → OfBytes (λ bytes. Wraps r path bytes (wrap_devices old) (wrap_devices new)) → Taken (Takes r)
       → (r ≡ wrapped.ReadFault → ReadRose) → (r ≡ wrapped.VaultFault → VaultRose) → (r ≡ wrapped.WriteFault → WriteRose) → Does words end old new
   did_wrap path is r e h t s v w =
       did_asked (command.Wrap path) is (status_of_wrapping path r) e (record { how = r; ends = e; bytes = h.0; told = h.1; did = h.2; taken = t }) (wrap_caused old new path r s v w)
 
   pub did_serve : command_in words ≡ Some (command.Serve false) → (s : Served) → end ≡ status_of_serving s → ServesStream s old.script.content new.script.content old.out.content new.out.content
-      → ((bytes frames : List ℕ) (stream_end : End) (after : State) → old.script.content ≡ Some bytes → ServeAll empty_state (take most_stream_bytes bytes) stream_end frames after → IsServed s bytes stream_end frames old.out.content new.out.content)
+      → ((bytes frames : List ℕ) (stream_end : End) (after : State) → old.script.content ≡ Some bytes
+      → ServeAll empty_state (take most_stream_bytes bytes) stream_end frames after → IsServed s bytes stream_end frames old.out.content new.out.content)
       → (s ≡ served.ReadFault → ReadRose) → (s ≡ served.WriteFault → WriteRose) → Does words end old new
   did_serve is s e h x r w = did_asked (command.Serve false) is (status_of_serving s) e (record { how = s; ends = e; serves = h; exact = x }) (serve_caused old new s r w)
 
   pub did_journal : command_in words ≡ Some (command.Serve true) → (e : Ended) → end ≡ status_of_journaling e
       → ServesJournal e old.script.content new.script.content old.disk.content new.disk.content old.out.content new.out.content
-      → ServesExactly e old.script.content old.disk.content old.out.content new.out.content → WhereTold StaysServable old.disk.content new.disk.content → IsntDamaged e old.disk.content new.disk.content
+      → ServesExactly e old.script.content old.disk.content old.out.content new.out.content
+      → WhereTold StaysServable old.disk.content new.disk.content → IsntDamaged e old.disk.content new.disk.content
       → (e ≡ ended.ReadFault → ReadRose) → (e ≡ ended.WriteFault → WriteRose) → (e ≡ ended.DiskFault → Rose old.disk.faults new.disk.faults) → Does words end old new
   did_journal is e s h x v u r w d =
       did_asked (command.Serve true) is (status_of_journaling e) s (record { how = e; ends = s; serves = h; exact = x; servable = v; undamaged = u }) (journal_caused old new e r w d)
 
-  pub did_gen : (size : ℕ) → command_in words ≡ Some (command.Gen size) → (r : Generated) → end ≡ status_of_generating r → PutsScript r size old.out.content new.out.content → (r ≡ generated.WriteFault → WriteRose) → Does words end old new
+  pub did_gen : (size : ℕ) → command_in words ≡ Some (command.Gen size) → (r : Generated) → end ≡ status_of_generating r
+      → PutsScript r size old.out.content new.out.content → (r ≡ generated.WriteFault → WriteRose) → Does words end old new
   did_gen size is r e h w = did_asked (command.Gen size) is (status_of_generating r) e (record { how = r; ends = e; puts = h }) (gen_caused old new size r w)
 
 -- without memory

@@ -76,7 +76,8 @@ pub record DidGen (size : ℕ) (end : Status) (old new : Seen) : Type 0 where
 abbrev pub Did : Command → Status → Seen → Seen → Type 0
 Did (command.Run false version) end old new = DidRun (λ ran bytes. IsRunOf ran bytes (run_devices version old) (run_devices version new)) end old new
 Did (command.Run true version) end old new = DidRun (λ ran bytes. IsSummaryOf ran bytes (run_devices version old) (run_devices version new)) end old new
-Did (command.Drive version) end old new = DidScript status_of (λ ran bytes. IsDriveOf ran bytes (drive_devices version old) (drive_devices version new)) (λ ran. TakesScript (runs.read_by ran)) end old new
+Did (command.Drive version) end old new = DidScript status_of (λ ran bytes. IsDriveOf ran bytes (drive_devices version old) (drive_devices version new))
+    (λ ran. TakesScript (runs.read_by ran)) end old new
 Did command.Check end old new = DidScript status_of_checking (λ checked bytes. ChecksScript checked bytes old.out.content new.out.content) (λ checked. TakesScript (checks.read_by checked)) end old new
 Did (command.Wrap path) end old new = DidScript (status_of_wrapping path) (λ wrapped bytes. Wraps wrapped path bytes (wrap_devices old) (wrap_devices new)) wraps.Takes end old new
 Did (command.Serve false) end old new = DidServe end old new

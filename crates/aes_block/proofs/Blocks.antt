@@ -9,7 +9,27 @@ use Rattle.std.proofs.lemmas.List.FromFn.{fill_by_all, length-map-range_with_len
 use Rattle.std.proofs.lemmas.Nat.{xor_lt}
 use Rattle.aes_block.specs.Bytes.{AreBytes}
 use Rattle.aes_block.specs.Field.{product}
-use Rattle.aes_block.specs.Aes.{IsBlock, IsKey, add_round_key, cell, column, from_columns, inv_mix_columns, inv_mix_polynomial, inv_shift_rows, inv_sub_byte, inv_sub_bytes, mix_columns, mix_polynomial, shift_rows, sub_byte, sub_bytes, sum_of_four, word, word_product}
+use Rattle.aes_block.specs.Aes.{
+  IsBlock,
+  IsKey,
+  add_round_key,
+  cell,
+  column,
+  from_columns,
+  inv_mix_columns,
+  inv_mix_polynomial,
+  inv_shift_rows,
+  inv_sub_byte,
+  inv_sub_bytes,
+  mix_columns,
+  mix_polynomial,
+  shift_rows,
+  sub_byte,
+  sub_bytes,
+  sum_of_four,
+  word,
+  word_product,
+}
 use Rattle.aes_block.proofs.Computed.{same_below, SameBelow}
 use Rattle.aes_block.proofs.Inverses.{inv_sub_byte-lt, inv_sub_byte-sub_byte, sub_byte-inv_sub_byte, sub_byte-lt}
 use Rattle.aes_block.proofs.Linear.{product-lt}
@@ -94,7 +114,8 @@ pub IsBlock-add_round_key : (words : List (List ℕ)) (round : ℕ) (s : List �
 unfolding add_round_key
 IsBlock-add_round_key words round s keys block =
     IsBlock-map (λ k. bit_xor (slice_index s k) (slice_index (word words (4 * round + k / 4)) (k % 4)))
-    (λ k. xor_lt 8 (slice_index s k) (slice_index (word words (4 * round + k / 4)) (k % 4)) (byte_at s block.1 k) (byte_at (word words (4 * round + k / 4)) (word_at words keys (4 * round + k / 4)) (k % 4)))
+    (λ k. xor_lt 8 (slice_index s k) (slice_index (word words (4 * round + k / 4)) (k % 4)) (byte_at s block.1 k)
+    (byte_at (word words (4 * round + k / 4)) (word_at words keys (4 * round + k / 4)) (k % 4)))
 
 xor-twice : (a b : ℕ) → bit_xor (bit_xor a b) b ≡ a
 xor-twice a b = rw (xor_assoc a b b, xor_self b) (xor_zero_r a)

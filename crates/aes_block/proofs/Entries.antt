@@ -87,7 +87,9 @@ unfolding times_x partial_product product
 inv_mixed_3 = refl
 
 mixed-product : (i j k l : ℕ) → i < 256 → j < 256 → k < 256 → l < 256
-    → word_of (bit_xor (bit_xor (bit_xor (slice_index (slice_index_or MIXED 0 []) i) (slice_index (slice_index_or MIXED 1 []) j)) (slice_index (slice_index_or MIXED 2 []) k)) (slice_index (slice_index_or MIXED 3 []) l))
+    → word_of
+    (bit_xor (bit_xor (bit_xor (slice_index (slice_index_or MIXED 0 []) i) (slice_index (slice_index_or MIXED 1 []) j)) (slice_index (slice_index_or MIXED 2 []) k))
+    (slice_index (slice_index_or MIXED 3 []) l))
     ≡ word_product mix_polynomial (sub_byte i ∷ sub_byte j ∷ sub_byte k ∷ sub_byte l ∷ [])
 mixed-product i j k l li lj lk ll =
     word_of-four _ _ _ _ _ _ _ _
@@ -97,7 +99,9 @@ mixed-product i j k l li lj lk ll =
     (entry (slice_index_or MIXED 3 []) mix_polynomial SBOX 3 l (sub_byte l) mixed_3 ll (SBOX-at l ll) (sub_byte-lt l ll))
 
 inv_mixed-product : (i j k l : ℕ) → i < 256 → j < 256 → k < 256 → l < 256
-    → word_of (bit_xor (bit_xor (bit_xor (slice_index (slice_index_or INV_MIXED 0 []) i) (slice_index (slice_index_or INV_MIXED 1 []) j)) (slice_index (slice_index_or INV_MIXED 2 []) k)) (slice_index (slice_index_or INV_MIXED 3 []) l))
+    → word_of
+    (bit_xor (bit_xor (bit_xor (slice_index (slice_index_or INV_MIXED 0 []) i) (slice_index (slice_index_or INV_MIXED 1 []) j))
+    (slice_index (slice_index_or INV_MIXED 2 []) k)) (slice_index (slice_index_or INV_MIXED 3 []) l))
     ≡ word_product inv_mix_polynomial (inv_sub_byte i ∷ inv_sub_byte j ∷ inv_sub_byte k ∷ inv_sub_byte l ∷ [])
 inv_mixed-product i j k l li lj lk ll =
     word_of-four _ _ _ _ _ _ _ _
@@ -107,17 +111,27 @@ inv_mixed-product i j k l li lj lk ll =
     (entry (slice_index_or INV_MIXED 3 []) inv_mix_polynomial INV_SBOX 3 l (inv_sub_byte l) inv_mixed_3 ll (INV_SBOX-at l ll) (inv_sub_byte-lt l ll))
 
 pub word_of-mixed : (i j k l key : ℕ) → i < 256 → j < 256 → k < 256 → l < 256
-    → word_of (bit_xor (bit_xor (bit_xor (bit_xor (slice_index (slice_index_or MIXED 0 []) i) (slice_index (slice_index_or MIXED 1 []) j)) (slice_index (slice_index_or MIXED 2 []) k)) (slice_index (slice_index_or MIXED 3 []) l)) key)
+    → word_of
+    (bit_xor (bit_xor
+    (bit_xor (bit_xor (slice_index (slice_index_or MIXED 0 []) i) (slice_index (slice_index_or MIXED 1 []) j)) (slice_index (slice_index_or MIXED 2 []) k))
+    (slice_index (slice_index_or MIXED 3 []) l)) key)
     ≡ word_sum (word_product mix_polynomial (sub_byte i ∷ sub_byte j ∷ sub_byte k ∷ sub_byte l ∷ [])) (word_of key)
 word_of-mixed i j k l key li lj lk ll =
-    word_of-xor (bit_xor (bit_xor (bit_xor (slice_index (slice_index_or MIXED 0 []) i) (slice_index (slice_index_or MIXED 1 []) j)) (slice_index (slice_index_or MIXED 2 []) k)) (slice_index (slice_index_or MIXED 3 []) l)) key
+    word_of-xor
+    (bit_xor (bit_xor (bit_xor (slice_index (slice_index_or MIXED 0 []) i) (slice_index (slice_index_or MIXED 1 []) j)) (slice_index (slice_index_or MIXED 2 []) k))
+    (slice_index (slice_index_or MIXED 3 []) l)) key
     ∙ ap (λ (w : List ℕ). word_sum w (word_of key)) (mixed-product i j k l li lj lk ll)
 
 pub word_of-inv_mixed : (i j k l key : ℕ) → i < 256 → j < 256 → k < 256 → l < 256
-    → word_of (bit_xor (bit_xor (bit_xor (bit_xor (slice_index (slice_index_or INV_MIXED 0 []) i) (slice_index (slice_index_or INV_MIXED 1 []) j)) (slice_index (slice_index_or INV_MIXED 2 []) k)) (slice_index (slice_index_or INV_MIXED 3 []) l)) key)
+    → word_of
+    (bit_xor (bit_xor
+    (bit_xor (bit_xor (slice_index (slice_index_or INV_MIXED 0 []) i) (slice_index (slice_index_or INV_MIXED 1 []) j))
+    (slice_index (slice_index_or INV_MIXED 2 []) k)) (slice_index (slice_index_or INV_MIXED 3 []) l)) key)
     ≡ word_sum (word_product inv_mix_polynomial (inv_sub_byte i ∷ inv_sub_byte j ∷ inv_sub_byte k ∷ inv_sub_byte l ∷ [])) (word_of key)
 word_of-inv_mixed i j k l key li lj lk ll =
-    word_of-xor (bit_xor (bit_xor (bit_xor (slice_index (slice_index_or INV_MIXED 0 []) i) (slice_index (slice_index_or INV_MIXED 1 []) j)) (slice_index (slice_index_or INV_MIXED 2 []) k)) (slice_index (slice_index_or INV_MIXED 3 []) l)) key
+    word_of-xor
+    (bit_xor (bit_xor (bit_xor (slice_index (slice_index_or INV_MIXED 0 []) i) (slice_index (slice_index_or INV_MIXED 1 []) j))
+    (slice_index (slice_index_or INV_MIXED 2 []) k)) (slice_index (slice_index_or INV_MIXED 3 []) l)) key
     ∙ ap (λ (w : List ℕ). word_sum w (word_of key)) (inv_mixed-product i j k l li lj lk ll)
 
 -- a product to which nothing is added

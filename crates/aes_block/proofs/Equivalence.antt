@@ -7,7 +7,25 @@ use Rattle.std.proofs.lemmas.List.{length-map, map-set, take_more_set}
 use Rattle.std.proofs.lemmas.List.FromFn.{get_or-map-range_with_len, map-range_with_len_more}
 use Rattle.aes_block.specs.Field.{product}
 use Rattle.aes_block.specs.Bytes.{AreBytes}
-use Rattle.aes_block.specs.Aes.{IsBlock, IsKey, add_round_key, cell, column, decryption, expanded_key, inv_cipher, inv_mix_columns, inv_mix_polynomial, inv_rounds, inv_shift_rows, inv_sub_bytes, sum_of_four, word, word_product, word_sum}
+use Rattle.aes_block.specs.Aes.{
+  IsBlock,
+  IsKey,
+  add_round_key,
+  cell,
+  column,
+  decryption,
+  expanded_key,
+  inv_cipher,
+  inv_mix_columns,
+  inv_mix_polynomial,
+  inv_rounds,
+  inv_shift_rows,
+  inv_sub_bytes,
+  sum_of_four,
+  word,
+  word_product,
+  word_sum,
+}
 use Rattle.aes_block.specs.Columns.{word_of, words_of}
 use Rattle.aes_block.specs.Equivalent.{equivalent_cipher, equivalent_rounds, inv_key_word, inv_key_words}
 use Rattle.aes_block.proofs.Blocks.{AreBytes-map, AreWords, IsBlock-inv_shift_rows, IsBlock-inv_sub_bytes, byte_at, four_joined, word_at}

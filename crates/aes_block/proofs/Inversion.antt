@@ -1,7 +1,40 @@
 -- The inverse cipher undoes the cipher, and the cipher the inverse cipher.
 use Rattle.std.proofs.Common.{◌≡◌, ℕ, zero, suc, ◌+◌, ◌-◌, List, length, refl, ap, ◌∙◌, arith}
-use Rattle.aes_block.specs.Aes.{IsBlock, IsKey, add_round_key, cipher, decryption, encryption, expanded_key, inv_cipher, inv_mix_columns, inv_rounds, inv_shift_rows, inv_sub_bytes, mix_columns, rounds, shift_rows, sub_bytes}
-use Rattle.aes_block.proofs.Blocks.{AreWords, IsBlock-add_round_key, IsBlock-inv_mix_columns, IsBlock-inv_shift_rows, IsBlock-inv_sub_bytes, IsBlock-mix_columns, IsBlock-shift_rows, IsBlock-sub_bytes, add_round_key-twice, inv_mix_columns-mix_columns, inv_shift_rows-shift_rows, inv_sub_bytes-sub_bytes, mix_columns-inv_mix_columns, shift_rows-inv_shift_rows, sub_bytes-inv_sub_bytes}
+use Rattle.aes_block.specs.Aes.{
+  IsBlock,
+  IsKey,
+  add_round_key,
+  cipher,
+  decryption,
+  encryption,
+  expanded_key,
+  inv_cipher,
+  inv_mix_columns,
+  inv_rounds,
+  inv_shift_rows,
+  inv_sub_bytes,
+  mix_columns,
+  rounds,
+  shift_rows,
+  sub_bytes,
+}
+use Rattle.aes_block.proofs.Blocks.{
+  AreWords,
+  IsBlock-add_round_key,
+  IsBlock-inv_mix_columns,
+  IsBlock-inv_shift_rows,
+  IsBlock-inv_sub_bytes,
+  IsBlock-mix_columns,
+  IsBlock-shift_rows,
+  IsBlock-sub_bytes,
+  add_round_key-twice,
+  inv_mix_columns-mix_columns,
+  inv_shift_rows-shift_rows,
+  inv_sub_bytes-sub_bytes,
+  mix_columns-inv_mix_columns,
+  shift_rows-inv_shift_rows,
+  sub_bytes-inv_sub_bytes,
+}
 use Rattle.aes_block.proofs.KeyBytes.{AreWords-key_words}
 
 -- SubBytes and ShiftRows, and their inverses

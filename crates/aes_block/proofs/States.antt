@@ -3,7 +3,22 @@ use Rattle.std.proofs.Common.{◌≡◌, ℕ, ◌+◌, ◌*◌, ◌%◌, ◌/◌
 use Rattle.std.proofs.lemmas.List.{get_or-map, get_or_default, length-map, same_lists}
 use Rattle.std.proofs.lemmas.List.FromFn.{fill_by_all}
 use Rattle.std.proofs.lemmas.Nat.{mod_below}
-use Rattle.aes_block.specs.Aes.{add_round_key, inv_mix_columns, inv_mix_polynomial, inv_shift_rows, inv_sub_byte, inv_sub_bytes, mix_columns, mix_polynomial, shift_rows, sub_byte, sub_bytes, word, word_product, word_sum}
+use Rattle.aes_block.specs.Aes.{
+  add_round_key,
+  inv_mix_columns,
+  inv_mix_polynomial,
+  inv_shift_rows,
+  inv_sub_byte,
+  inv_sub_bytes,
+  mix_columns,
+  mix_polynomial,
+  shift_rows,
+  sub_byte,
+  sub_bytes,
+  word,
+  word_product,
+  word_sum,
+}
 use Rattle.aes_block.specs.Columns.{diagonal, state_of, word_of, words_of}
 use Rattle.aes_block.proofs.Blocks.{four_joined}
 use Rattle.aes_block.proofs.Entries.{word_of-xor, word_product-zero}

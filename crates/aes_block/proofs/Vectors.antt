@@ -4,7 +4,24 @@ use Rattle.std.specs.List.{range_with_len}
 use Rattle.aes_block.specs.Field.{times_x, partial_product, product, power}
 use Rattle.aes_block.proofs.Blocks.{AreBytes-tested}
 use Rattle.aes_block.proofs.Inversion.{decrypted-encrypted}
-use Rattle.aes_block.specs.Aes.{IsBlock, IsKey, affine, sub_byte, sub_bytes, shift_rows, mix_columns, add_round_key, changed_word, key_words, rounds, cipher, encryption, inv_affine, inv_sub_byte, decryption}
+use Rattle.aes_block.specs.Aes.{
+  IsBlock,
+  IsKey,
+  affine,
+  sub_byte,
+  sub_bytes,
+  shift_rows,
+  mix_columns,
+  add_round_key,
+  changed_word,
+  key_words,
+  rounds,
+  cipher,
+  encryption,
+  inv_affine,
+  inv_sub_byte,
+  decryption,
+}
 
 -- {57} • {83} = {c1} (4.2)
 pub product-example : product 0x57 0x83 ≡ 0xc1

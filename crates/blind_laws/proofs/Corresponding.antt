@@ -80,7 +80,8 @@ module _ (R : Pairing) (r : IsOneToOne R) (within : ArePairsWithin R) (cell : Li
   row_typed (c ∷ columns) (a ∷ row) [] m h = absurd m
   row_typed (c ∷ columns) (a ∷ row) (b ∷ other) m h = (((λ e. stays c.ty c.enc a b m.0 (h.0.0 e)), atom_typed c.ty c.enc a b m.0 h.0.1), row_typed columns row other m.1 h.1)
 
-  rows_typed : (columns : List ColumnDef) (rows others : List (List Atom)) → AllZip (RowsCorrespond R (map class_of_column columns)) rows others → All (AllZip (IsOf cell) columns) rows → All (AllZip (IsOf cell) columns) others
+  rows_typed : (columns : List ColumnDef) (rows others : List (List Atom)) → AllZip (RowsCorrespond R (map class_of_column columns)) rows others
+      → All (AllZip (IsOf cell) columns) rows → All (AllZip (IsOf cell) columns) others
   rows_typed columns [] [] m h = All-nil (AllZip (IsOf cell) columns)
   rows_typed columns [] (other ∷ others) m h = absurd m
   rows_typed columns (row ∷ rows) [] m h = absurd m
@@ -97,7 +98,8 @@ module _ (R : Pairing) (r : IsOneToOne R) (within : ArePairsWithin R) (cell : Li
   abbrev IsTyped : List Class → List ℕ → Type 0
   IsTyped cs key = All (λ place. IsNotRandomized (class_at cs place)) key
 
-  keys_apart : (cs : List Class) (keys : List (List ℕ)) (rows others : List (List Atom)) → All (IsTyped cs) keys → AllZip (RowsCorrespond R cs) rows others → All (λ key. has_twins key rows ≡ false) keys → All (λ key. has_twins key others ≡ false) keys
+  keys_apart : (cs : List Class) (keys : List (List ℕ)) (rows others : List (List Atom)) → All (IsTyped cs) keys
+      → AllZip (RowsCorrespond R cs) rows others → All (λ key. has_twins key rows ≡ false) keys → All (λ key. has_twins key others ≡ false) keys
   keys_apart cs [] rows others t m h = All-nil (λ key. has_twins key others ≡ false)
   keys_apart cs (key ∷ keys) rows others t m h =
       let one : All (IsTyped cs) (key ∷ []) = All-cons (IsTyped cs) key [] (All-head (IsTyped cs) key keys t) (All-nil (IsTyped cs)) in
@@ -105,7 +107,8 @@ module _ (R : Pairing) (r : IsOneToOne R) (within : ArePairsWithin R) (cell : Li
       All-cons (λ key. has_twins key others ≡ false) key keys (one_apart (has_twins key rows) (has_twins key others) same (All-head (λ key. has_twins key rows ≡ false) key keys h))
       (keys_apart cs keys rows others (All-tail (IsTyped cs) key keys t) m (All-tail (λ key. has_twins key rows ≡ false) key keys h))
 
-  table_shaped : (def : TableDef) (rows others : List (List Atom)) → TablesCorrespond R def rows others → All (IsTyped (map class_of_column def.columns)) def.uniques → IsTableOf cell def others → HoldsRows def rows → HoldsRows def others
+  table_shaped : (def : TableDef) (rows others : List (List Atom)) → TablesCorrespond R def rows others
+      → All (IsTyped (map class_of_column def.columns)) def.uniques → IsTableOf cell def others → HoldsRows def rows → HoldsRows def others
   table_shaped def rows others m t k h =
       let cs = map class_of_column def.columns in
       record {
@@ -118,7 +121,8 @@ module _ (R : Pairing) (r : IsOneToOne R) (within : ArePairsWithin R) (cell : Li
 
   -- ---- all tables
 
-  tables_typed : (defs : List TableDef) (contents others : List (List (List Atom))) → ContentsCorrespond R defs contents others → AllZip (IsTableOf cell) defs contents → AllZip (IsTableOf cell) defs others
+  tables_typed : (defs : List TableDef) (contents others : List (List (List Atom))) → ContentsCorrespond R defs contents others
+      → AllZip (IsTableOf cell) defs contents → AllZip (IsTableOf cell) defs others
   tables_typed [] [] [] m h = tt
   tables_typed [] [] (rows ∷ others) m h = absurd m
   tables_typed [] (rows ∷ contents) others m h = absurd m
@@ -126,7 +130,8 @@ module _ (R : Pairing) (r : IsOneToOne R) (within : ArePairsWithin R) (cell : Li
   tables_typed (def ∷ defs) (rows ∷ contents) [] m h = absurd m
   tables_typed (def ∷ defs) (rows ∷ contents) (more ∷ others) m h = (rows_typed def.columns rows more m.0 h.0, tables_typed defs contents others m.1 h.1)
 
-  tables_shaped : (defs : List TableDef) (contents others : List (List (List Atom))) → ContentsCorrespond R defs contents others → AreKeysTyped defs → AllZip (IsTableOf cell) defs others → AllZip HoldsRows defs contents → AllZip HoldsRows defs others
+  tables_shaped : (defs : List TableDef) (contents others : List (List (List Atom))) → ContentsCorrespond R defs contents others
+      → AreKeysTyped defs → AllZip (IsTableOf cell) defs others → AllZip HoldsRows defs contents → AllZip HoldsRows defs others
   tables_shaped [] [] [] m t k h = tt
   tables_shaped [] [] (rows ∷ others) m t k h = absurd m
   tables_shaped [] (rows ∷ contents) others m t k h = absurd m

@@ -16,12 +16,14 @@ use Rattle.blind_laws.specs.Laws.{AreAlike}
 use Rattle.blind_laws.specs.Renaming.{AreCells, PairsCells}
 
 module _ (R : Pairing) (r : IsOneToOne R) (within : ArePairsWithin R) (keeps : StepKeepsWorlds) where
-  one_alike : (world other : World) (e f : Execution) → IsWellTyped any_cell world → WorldsCorrespond R world other → AreExecutable world (e ∷ []) → ExecutionsCorrespond R e f → OutcomesCorrespond R (executed world e) (executed other f)
+  one_alike : (world other : World) (e f : Execution) → IsWellTyped any_cell world → WorldsCorrespond R world other
+      → AreExecutable world (e ∷ []) → ExecutionsCorrespond R e f → OutcomesCorrespond R (executed world e) (executed other f)
   one_alike world other e f typed corr h m =
       let same : executed other f ≡ step other e.bound e.encs f.params = ap (λ b. step other b f.encs f.params) m.bound ∙ ap (λ encs. step other e.bound encs f.params) m.encs in
       subst (OutcomesCorrespond R (executed world e)) (sym same) (step_alike R r within world other e.bound e.encs e.params f.params typed.keys corr m.params h.0.bound h.0.typed)
 
-  pub steps_alike : (world other : World) (es fs : List Execution) → IsWellTyped any_cell world → WorldsCorrespond R world other → AreExecutable world es → AllZip (ExecutionsCorrespond R) es fs → AreAlike R world other es fs
+  pub steps_alike : (world other : World) (es fs : List Execution) → IsWellTyped any_cell world
+      → WorldsCorrespond R world other → AreExecutable world es → AllZip (ExecutionsCorrespond R) es fs → AreAlike R world other es fs
   steps_alike world other [] [] typed corr h m = record { answers = tt; worlds = corr; typed = typed; other_typed = corresponding_typed R r within any_cell (λ bytes. refl) world other typed corr }
   steps_alike world other [] (f ∷ fs) typed corr h m = absurd m
   steps_alike world other (e ∷ es) [] typed corr h m = absurd m

@@ -24,5 +24,6 @@ StepsAlike = (related : Class → Atom → Atom → Bool) (world other : World) 
 
 -- and over every renaming
 abbrev pub RenamedStepsAlike : Type 0
-RenamedStepsAlike = (entries : List Entry) (world other : World) (es fs : List Execution) → IsRenaming entries → IsWellTyped any_cell world → WorldsCorrespond (Listing entries) world other → AreExecutable world es
+RenamedStepsAlike = (entries : List Entry) (world other : World) (es fs : List Execution) → IsRenaming entries
+    → IsWellTyped any_cell world → WorldsCorrespond (Listing entries) world other → AreExecutable world es
     → AllZip (ExecutionsCorrespond (Listing entries)) es fs → AreAlike (Listing entries) world other es fs

@@ -1,5 +1,39 @@
 -- A column key that gets other values: what stays of the keys, and what an accepted ADD VALUE or DROP VALUE says.
-use Rattle.std.proofs.Common.{◌≡◌, ◌≢◌, ◌<◌, ℕ, zero, suc, List, [], ◌∷◌, length, map, get_or, set, Bool, true, false, cond, not, ◌||◌, ◌==◌, nat_lt, Option, Some, None, IsSome, Ok, Err, refl, sym, ◌∙◌, ap, subst, arith}
+use Rattle.std.proofs.Common.{
+  ◌≡◌,
+  ◌≢◌,
+  ◌<◌,
+  ℕ,
+  zero,
+  suc,
+  List,
+  [],
+  ◌∷◌,
+  length,
+  map,
+  get_or,
+  set,
+  Bool,
+  true,
+  false,
+  cond,
+  not,
+  ◌||◌,
+  ◌==◌,
+  nat_lt,
+  Option,
+  Some,
+  None,
+  IsSome,
+  Ok,
+  Err,
+  refl,
+  sym,
+  ◌∙◌,
+  ap,
+  subst,
+  arith,
+}
 use Rattle.std.specs.List.{All, find, position, position_or_len}
 use Rattle.std.specs.Option.{is_some}
 use Rattle.std.specs.Str.{bytes_eq}

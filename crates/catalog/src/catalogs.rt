@@ -3,7 +3,37 @@
 ghost use Rattle.std.specs.Prelude.{◌≡◌, ◌≢◌, ◌≤◌, IsSome, IfOk, OnErr, OnOk};
 ghost use Rattle.std.specs.List.{list_any};
 ghost use Rattle.std.specs.Option.{option_copied, option_map};
-ghost use Rattle.catalog.specs.Catalogs.{nothing_defined, master_named, key_named, table_named, master_place, key_place, table_place, key_of, key_meta, value_told, values_told, is_under, is_table_under, is_master_used, is_key_used, is_at_last_version, is_full_of_masters, is_full_of_keys, is_full_of_tables, with_master, with_key, with_value, revalued, with_table, without_master, without_key, without_value, without_table, with_replacement};
+ghost use Rattle.catalog.specs.Catalogs.{
+  nothing_defined,
+  master_named,
+  key_named,
+  table_named,
+  master_place,
+  key_place,
+  table_place,
+  key_of,
+  key_meta,
+  value_told,
+  values_told,
+  is_under,
+  is_table_under,
+  is_master_used,
+  is_key_used,
+  is_at_last_version,
+  is_full_of_masters,
+  is_full_of_keys,
+  is_full_of_tables,
+  with_master,
+  with_key,
+  with_value,
+  revalued,
+  with_table,
+  without_master,
+  without_key,
+  without_value,
+  without_table,
+  with_replacement,
+};
 ghost use Rattle.catalog.specs.Definitions.{defined_by, effect_of, Defines, IsDefinable};
 ghost use Rattle.catalog.specs.WellFormed.{AreMastersThere, MastersDiffer};
 

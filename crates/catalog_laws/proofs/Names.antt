@@ -1,5 +1,39 @@
 -- Keys of one number have one name: one list, which only grows, has the number and the name of each key that was ever given.
-use Rattle.std.proofs.Common.{◌≡◌, ◌<◌, ℕ, zero, suc, ◌+◌, ◌-◌, List, [], ◌∷◌, ◌++◌, length, map, get_or, Contains, Option, Some, None, Bool, true, false, cond, inl, inr, refl, ap, sym, subst, ◌∙◌, arith, length-append, append-nil, append_assoc}
+use Rattle.std.proofs.Common.{
+  ◌≡◌,
+  ◌<◌,
+  ℕ,
+  zero,
+  suc,
+  ◌+◌,
+  ◌-◌,
+  List,
+  [],
+  ◌∷◌,
+  ◌++◌,
+  length,
+  map,
+  get_or,
+  Contains,
+  Option,
+  Some,
+  None,
+  Bool,
+  true,
+  false,
+  cond,
+  inl,
+  inr,
+  refl,
+  ap,
+  sym,
+  subst,
+  ◌∙◌,
+  arith,
+  length-append,
+  append-nil,
+  append_assoc,
+}
 use Rattle.std.specs.Prelude.{◌==◌, IfSome, replicate}
 use Rattle.std.specs.List.{All, find}
 use Rattle.std.proofs.lemmas.Bool.{eqb-true}

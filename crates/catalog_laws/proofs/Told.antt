@@ -88,7 +88,8 @@ module _ (given : List Label) (catalog : Catalog) (h : AreAmong given catalog) w
 
   described_known : (state : State) (declarations : List ParamDecl) (r : Result Meant SqlFault)
       → All (TellsKnown given) (described state (r >>= λ meant. Ok (description catalog declarations meant))).replies
-  described_known state declarations (Ok meant) = one_reply (Described (description catalog declarations meant)) (keys_known (map (λ (p : UsedParam). p.enc) (used_from 0 meant.bound declarations meant.encs)))
+  described_known state declarations (Ok meant) = one_reply (Described (description catalog declarations meant))
+      (keys_known (map (λ (p : UsedParam). p.enc) (used_from 0 meant.bound declarations meant.encs)))
   described_known state declarations (Err f) = refused_known f
 
 executed_known : (given : List Label) (state : State) (session : ℕ) → AreAmong given (catalog_of state session) → (r : Result (Meant × List Atom) SqlFault)

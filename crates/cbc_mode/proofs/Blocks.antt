@@ -1,6 +1,19 @@
 -- cutting lists into blocks, and the padding
 use Rattle.std.proofs.Common.{◌≡◌, ℕ, zero, suc, ◌-◌, ◌*◌, ◌/◌, ◌%◌, ◌≤◌, List, [], ◌∷◌, ◌++◌, length, take, drop, replicate, arith, ◌∙◌, sym, ap, refl, zero-mul}
-use Rattle.std.proofs.lemmas.List.{length-append, length-drop, length-replicate, length-take-le, take-append-drop, take_all, take-append-le, drop-append-le, drop-drop, take_at, drop_at, nil_from_length}
+use Rattle.std.proofs.lemmas.List.{
+  length-append,
+  length-drop,
+  length-replicate,
+  length-take-le,
+  take-append-drop,
+  take_all,
+  take-append-le,
+  drop-append-le,
+  drop-drop,
+  take_at,
+  drop_at,
+  nil_from_length,
+}
 use Rattle.std.specs.List.{concat, AllByRecursion}
 use Rattle.std.specs.Simd.{first_chunks}
 use Rattle.cbc_mode.specs.Cbc.{blocks_of, with_padding}

@@ -133,5 +133,6 @@ decrypted_cbc-IsEncryptedAgain key iv bytes plain encrypts plaintext block all e
     let back = padded-unpadded padded_bytes plain whole (omega arith) d.padding in
     record {
       encrypts = cbc-unpadded key iv bytes padded_bytes plain whole (omega arith) d.padding u.undoes;
-      are_bytes = AreBytes-from_padded plain (subst AreBytes (sym back) (AreBytes-concat (cbc_decryption key iv (blocks_of bytes)) (unchained-are_blocks key iv (blocks_of bytes) plaintext block are_blocks)));
+      are_bytes = AreBytes-from_padded plain
+          (subst AreBytes (sym back) (AreBytes-concat (cbc_decryption key iv (blocks_of bytes)) (unchained-are_blocks key iv (blocks_of bytes) plaintext block are_blocks)));
     }

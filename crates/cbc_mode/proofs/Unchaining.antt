@@ -1,5 +1,36 @@
 -- decrypting block after block
-use Rattle.std.proofs.Common.{◌≡◌, ℕ, zero, suc, ◌+◌, ◌*◌, ◌/◌, ◌%◌, ◌<◌, ◌≤◌, List, [], ◌∷◌, ◌++◌, length, get_or, map, take, drop, set, bit_xor, ◌∙◌, sym, ap, subst, refl, append_assoc, append-nil, zero-mul, arith}
+use Rattle.std.proofs.Common.{
+  ◌≡◌,
+  ℕ,
+  zero,
+  suc,
+  ◌+◌,
+  ◌*◌,
+  ◌/◌,
+  ◌%◌,
+  ◌<◌,
+  ◌≤◌,
+  List,
+  [],
+  ◌∷◌,
+  ◌++◌,
+  length,
+  get_or,
+  map,
+  take,
+  drop,
+  set,
+  bit_xor,
+  ◌∙◌,
+  sym,
+  ap,
+  subst,
+  refl,
+  append_assoc,
+  append-nil,
+  zero-mul,
+  arith,
+}
 use Rattle.std.proofs.lemmas.List.{drop-drop, drop_more, drop_all, get_or-map, take-append-drop, flat_map_more, length-map, take_all, take_more, take_more_set, length-set}
 use Rattle.std.proofs.lemmas.List.Concat.{concat_is}
 use Rattle.std.proofs.lemmas.List.Folds.{concat-append}
@@ -120,7 +151,8 @@ IsAppended-eight key iv eights i previous old now bytes last eight plain so_far 
     let one : IsAppended key previous eight last now (now ++ bytes) =
     rw (whole, ends) (record { ahead = Unchains-some key previous eight 7 now long; undone = undone }) in
     let joined : flat_map (λ (b : List (List ℕ)). b) (take (i + 1) eights) ≡ flat_map (λ (b : List (List ℕ)). b) (take i eights) ++ eight =
-    ap (flat_map blocks) (take_more eights i [] low) ∙ sym (flat_map_more blocks [] (take i eights) (get_or eights i [])) ∙ ap (λ (b : List (List ℕ)). flat_map blocks (take i eights) ++ b) (sym read) in
+    ap (flat_map blocks) (take_more eights i [] low) ∙ sym (flat_map_more blocks [] (take i eights) (get_or eights i []))
+    ∙ ap (λ (b : List (List ℕ)). flat_map blocks (take i eights) ++ b) (sym read) in
     subst (λ (bs : List (List ℕ)). IsAppended key iv bs last old (now ++ bytes)) (sym joined)
     (IsAppended-then key (flat_map (λ b. b) (take i eights)) eight iv previous last old now (now ++ bytes) so_far one)
 

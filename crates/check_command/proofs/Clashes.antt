@@ -40,12 +40,15 @@ module _ (state : State) (number : ℕ) (alone : HasNoTransaction state) where
   abbrev here : Catalog
   here = catalog_of state number
 
-  stepped_stays : (batch : Batch) → defines batch.text ≡ true → (r : Result Meant SqlFault) → understood here batch.text (declarations_of batch) ≡ r → Stays state (plain.stepped [] [] state number batch r)
+  stepped_stays : (batch : Batch) → defines batch.text ≡ true → (r : Result Meant SqlFault)
+      → understood here batch.text (declarations_of batch) ≡ r → Stays state (plain.stepped [] [] state number batch r)
   stepped_stays batch d (Ok meant) u = λ f e. done_stays state here _ (definition_done state number batch meant alone d u) f e
   stepped_stays batch d (Err g) u = λ f e. refl
 
   version_stays : (p : Pending) → defines p.batch.text ≡ true → (b : Bool)
-      → Stays state (cond b (plain.stepped [] [] state number p.batch (understood here p.batch.text (declarations_of p.batch))) (came (outcome.Refused (fault.Moved (record { seen = p.version; now = here.version }))) None state))
+      → Stays state
+      (cond b (plain.stepped [] [] state number p.batch (understood here p.batch.text (declarations_of p.batch)))
+      (came (outcome.Refused (fault.Moved (record { seen = p.version; now = here.version }))) None state))
   version_stays p d true = stepped_stays p.batch d (understood here p.batch.text (declarations_of p.batch)) refl
   version_stays p d false = λ f e. refl
 
@@ -80,7 +83,8 @@ refused_by outcome.Defined e = absurd cc
 refused_by (outcome.Described params) e = absurd cc
 refused_by (outcome.Failed f) e = absurd cc
 
-begun_fits : (state : State) (number : ℕ) (batch : Batch) (o : Option DriverFault) (f : SqlFault) → (plain.begun state number batch (described_only state number (defines batch.text)) o).comes ≡ outcome.Refused f → o ≡ None
+begun_fits : (state : State) (number : ℕ) (batch : Batch) (o : Option DriverFault) (f : SqlFault)
+    → (plain.begun state number batch (described_only state number (defines batch.text)) o).comes ≡ outcome.Refused f → o ≡ None
 begun_fits state number batch (Some g) f e = absurd cc
 begun_fits state number batch None f e = refl
 
@@ -89,12 +93,14 @@ pub clash_fits : (state : State) (number : ℕ) (batch : Batch) (comes : Outcome
 clash_fits state number batch comes e c = let r = refused_by comes c in begun_fits state number batch (why_unfit batch) r.0 (e ∙ r.1)
 
 -- and leaves the state
-pub clash_stays : (state : State) (number : ℕ) (batch : Batch) (comes : Outcome) → HasNoTransaction state → (checked state number batch).comes ≡ comes → is_clash comes ≡ true → (checked state number batch).state ≡ state
+pub clash_stays : (state : State) (number : ℕ) (batch : Batch) (comes : Outcome) → HasNoTransaction state
+    → (checked state number batch).comes ≡ comes → is_clash comes ≡ true → (checked state number batch).state ≡ state
 clash_stays state number batch comes alone e c = let r = refused_by comes c in checked_stays state number alone batch r.0 (e ∙ r.1)
 
 -- ---- without a clash there is nothing to explain
 
-named_understood : (catalog : Catalog) (batch : Batch) (r : Result Bound SqlFault) → binding_of catalog batch.text (declarations_of batch) ≡ r → understood catalog batch.text (declarations_of batch) ≡ r >>= typed
+named_understood : (catalog : Catalog) (batch : Batch) (r : Result Bound SqlFault)
+    → binding_of catalog batch.text (declarations_of batch) ≡ r → understood catalog batch.text (declarations_of batch) ≡ r >>= typed
 unfolding understood
 named_understood catalog batch r e = rw e refl
 
@@ -115,7 +121,8 @@ module _ (state : State) (number : ℕ) (batch : Batch) (other : is_clash (check
   explains_nothing (Ok b) e = shows_nothing b (named_understood catalog batch (Ok b) e) (inferred_encs b) refl
   explains_nothing (Err f) e = refl
 
-pub no_chain : (state : State) (number : ℕ) (batch : Batch) (comes : Outcome) → (checked state number batch).comes ≡ comes → is_clash comes ≡ false → Chains (why_unfit batch) (binding_of (catalog_of state number) batch.text (declarations_of batch)) []
+pub no_chain : (state : State) (number : ℕ) (batch : Batch) (comes : Outcome) → (checked state number batch).comes ≡ comes
+    → is_clash comes ≡ false → Chains (why_unfit batch) (binding_of (catalog_of state number) batch.text (declarations_of batch)) []
 no_chain state number batch comes e other = at (why_unfit batch) refl
   where
     at : (o : Option DriverFault) → why_unfit batch ≡ o → Chains o (binding_of (catalog_of state number) batch.text (declarations_of batch)) []
@@ -128,8 +135,10 @@ shared_seen state number h =
     ap (λ (o : Option Transaction). (seen_by state.shared o).world.catalog) (alone_at state number h)
 
 -- with a clash there is a chain
-pub chains_so : (state now : State) (number : ℕ) (batch : Batch) (comes : Outcome) (r : Result (List ℕ) AllocError) → HasNoTransaction state → (checked state number batch).comes ≡ comes → (checked state number batch).state ≡ now
-    → is_clash comes ≡ true → IfOk r (Explains (binding_of now.shared.world.catalog batch.text (declarations_of batch))) → IfOk r (Chains (why_unfit batch) (binding_of (catalog_of state number) batch.text (declarations_of batch)))
+pub chains_so : (state now : State) (number : ℕ) (batch : Batch) (comes : Outcome) (r : Result (List ℕ) AllocError)
+    → HasNoTransaction state → (checked state number batch).comes ≡ comes → (checked state number batch).state ≡ now
+    → is_clash comes ≡ true → IfOk r (Explains (binding_of now.shared.world.catalog batch.text (declarations_of batch)))
+    → IfOk r (Chains (why_unfit batch) (binding_of (catalog_of state number) batch.text (declarations_of batch)))
 chains_so state now number batch comes (Ok chain) alone e v c h =
     let fit = clash_fits state number batch comes e c in
     let same : state ≡ now = sym (clash_stays state number batch comes alone e c) ∙ v in

@@ -62,17 +62,20 @@ module _ (bound : BoundStatementsAre) (typings : TypingsAreOfColumns) (state : S
       let is : description (catalog_of state number) (declarations_of batch) h.0 ≡ d = cc in
       (told_among (is_used h.0.bound) 0 h.0.encs, ap (λ (x : Description). encs_of batch.params x.params) (sym is) ∙ found h.0 h.1)
 
-  described_so : (d : Description) → describe (catalog_of state number) batch.text (declarations_of batch) ≡ Ok d → (o : Option (List (Option Enc))) → encs_of batch.params d.params ≡ o → (es : List (Option Enc)) → o ≡ Some es
+  described_so : (d : Description) → describe (catalog_of state number) batch.text (declarations_of batch) ≡ Ok d
+      → (o : Option (List (Option Enc))) → encs_of batch.params d.params ≡ o → (es : List (Option Enc)) → o ≡ Some es
       → IsHeardAs state number batch (described_as batch d o)
   described_so d e (Some xs) i es s =
       let p : record { batch = batch; version = d.version; keys = d.keys; encs = xs } ≡ pending (unforced batch) d =
       ap (λ (o : Option (List (Option Enc))). let v : Pending = record { batch = batch; version = d.version; keys = d.keys; encs = unwrap_or o [] } in v) (sym i)
-      ∙ ap (λ (names : List (List ℕ)). let v : Pending = record { batch = record { text = batch.text; params = batch.params; forced = names }; version = d.version; keys = d.keys; encs = unwrap_or (encs_of batch.params d.params) [] } in v) forced in
+      ∙ ap (λ (names : List (List ℕ)). let v : Pending = record
+      { batch = record { text = batch.text; params = batch.params; forced = names }; version = d.version; keys = d.keys; encs = unwrap_or (encs_of batch.params d.params) [] } in v) forced in
       let open_none : first_open batch.forced batch.params xs ≡ None = ap (λ names. first_open names batch.params xs) forced ∙ none_open batch.params xs in
       subst (λ o. IsHeardAs state number batch (Some (readied batch d xs o))) (sym open_none) (d, e, ap session.Pending p, ap (λ (v : Pending). described_params d.keys (uses_of v)) p)
   described_so d e None i es s = absurd cc
 
-  pub hears : (r : Result Description SqlFault) → describe (catalog_of state number) batch.text (declarations_of batch) ≡ r → (x : Reply) → x ∷ [] ≡ (described state r).replies → IsHeardAs state number batch (held.described (session.Begun batch) x)
+  pub hears : (r : Result Description SqlFault) → describe (catalog_of state number) batch.text (declarations_of batch) ≡ r
+      → (x : Reply) → x ∷ [] ≡ (described state r).replies → IsHeardAs state number batch (held.described (session.Begun batch) x)
   hears (Ok d) e x h =
       let i : x ≡ reply.Described d = cc in
       let t = told_encs d e in
@@ -81,7 +84,8 @@ module _ (bound : BoundStatementsAre) (typings : TypingsAreOfColumns) (state : S
       let i : x ≡ reply.Refused f = cc in
       subst (λ y. IsHeardAs state number batch (held.described (session.Begun batch) y)) (sym i) e
 
-answers_of : (state : State) (number : ℕ) (batch : Batch) (o : Option (Turn DescribeAnswer)) (r : Result DescribeAnswer Halt) (old after : Session) → IsHeardAs state number batch o → Describes r o old after → AnswersOf state number batch r after
+answers_of : (state : State) (number : ℕ) (batch : Batch) (o : Option (Turn DescribeAnswer)) (r : Result DescribeAnswer Halt) (old after : Session)
+    → IsHeardAs state number batch o → Describes r o old after → AnswersOf state number batch r after
 answers_of state number batch (Some turn) (Ok x) old after h e =
     let i : turn ≡ record { answer = x; after = after } = cc in
     subst (λ (t : Turn DescribeAnswer). TellsAs state number batch t.answer t.after) i h
@@ -91,11 +95,13 @@ answers_of state number batch (Some turn) (Err halt.OutOfMemory) old after h e =
 answers_of state number batch (Some turn) (Err halt.EntropyFault) old after h e = absurd e
 answers_of state number batch (Some turn) (Err halt.VaultFault) old after h e = absurd e
 
-pub told_answers : BoundStatementsAre → TypingsAreOfColumns → (state : State) (number : ℕ) (batch : Batch) → HasParams batch → batch.forced ≡ [] → (s : Session) → s ≡ session.Begun batch → (x : Reply) → x ∷ [] ≡ said_of state number batch
+pub told_answers : BoundStatementsAre → TypingsAreOfColumns → (state : State) (number : ℕ) (batch : Batch)
+    → HasParams batch → batch.forced ≡ [] → (s : Session) → s ≡ session.Begun batch → (x : Reply) → x ∷ [] ≡ said_of state number batch
     → (r : Result DescribeAnswer Halt) (after : Session) → Describes r (held.described s x) s after → AnswersOf state number batch r after
 told_answers bound typings state number batch params forced s b x t r after h =
     answers_of state number batch (held.described s x) r s after
-    (subst (λ y. IsHeardAs state number batch (held.described y x)) (sym b) (hears bound typings state number batch params forced (describe (catalog_of state number) batch.text (declarations_of batch)) refl x t)) h
+    (subst (λ y. IsHeardAs state number batch (held.described y x)) (sym b)
+    (hears bound typings state number batch params forced (describe (catalog_of state number) batch.text (declarations_of batch)) refl x t)) h
 
 -- the one that there is
 pub alone_is : (replies : List Reply) (x : Reply) → 1 ≤ length replies → length replies < 2 → x ≡ slice_index_or replies 0 x → x ∷ [] ≡ replies
@@ -108,6 +114,7 @@ pub begun_same : (a b : Batch) (s : Session) → s ≡ session.Begun a → s ≡
 begun_same a b s e f = let i : session.Begun a ≡ session.Begun b = sym e ∙ f in cc
 
 -- a definition that is described is executed; what it forces is nothing to that
-pub defined_is : (state : State) (number : ℕ) (batch : Batch) (p : Pending) → why_unfit batch ≡ None → (d : Description) → describe (catalog_of state number) batch.text (declarations_of batch) ≡ Ok d → p ≡ pending (unforced batch) d
+pub defined_is : (state : State) (number : ℕ) (batch : Batch) (p : Pending) → why_unfit batch ≡ None
+    → (d : Description) → describe (catalog_of state number) batch.text (declarations_of batch) ≡ Ok d → p ≡ pending (unforced batch) d
     → defines batch.text ≡ true → checked state number batch ≡ execution_of [] [] state number p
 defined_is state number batch p fit d e i s = rw (fit, e, s, i) refl

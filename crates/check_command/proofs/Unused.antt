@@ -59,7 +59,8 @@ IsDefining (bound.Control control) = ⊥
 bound_so : (b c : Bound) → (let r : Result Bound SqlFault = Ok b in r ≡ Ok c) → IsDefining b.statement → IsDefining c.statement
 bound_so b c e h = let i : b ≡ c = cc in subst (λ (x : Bound). IsDefining x.statement) i h
 
-named_defines : (catalog : Catalog) (s : Statement) (declarations : List ParamDecl) (b : Bound) → is_written_defining s ≡ true → binding.resolution catalog s declarations ≡ Ok b → IsDefining b.statement
+named_defines : (catalog : Catalog) (s : Statement) (declarations : List ParamDecl) (b : Bound)
+    → is_written_defining s ≡ true → binding.resolution catalog s declarations ≡ Ok b → IsDefining b.statement
 named_defines catalog (tree.Definition definition) declarations b d e =
     let p = bind_ok (bind_definition catalog definition) (λ made. Ok (bound_over declarations (new_sites made) (bound.Definition made))) b e in
     bound_so _ b p.2 tt
@@ -188,9 +189,11 @@ defining_of catalog batch meant defining e =
 abbrev pub atoms_of : Batch → List Atom
 atoms_of batch = map (λ (q : Param). plain_atom q.value) batch.params
 
-pub definition_done : (state : State) (number : ℕ) (batch : Batch) (meant : Meant) → HasNoTransaction state → defines batch.text ≡ true → understood (catalog_of state number) batch.text (declarations_of batch) ≡ Ok meant
+pub definition_done : (state : State) (number : ℕ) (batch : Batch) (meant : Meant) → HasNoTransaction state
+    → defines batch.text ≡ true → understood (catalog_of state number) batch.text (declarations_of batch) ≡ Ok meant
     → IsDone state (transact state number (ask_of (execution meant.bound meant.encs (atoms_of batch))))
-definition_done state number batch meant idle defining e = transacts_so state number (execution meant.bound meant.encs (atoms_of batch)) idle (defining_of (catalog_of state number) batch meant defining e)
+definition_done state number batch meant idle defining e = transacts_so state number
+    (execution meant.bound meant.encs (atoms_of batch)) idle (defining_of (catalog_of state number) batch meant defining e)
 
 -- the reply says what it means, and the state after it is that
 pub record ExecutesAs (state : State) (number : ℕ) (p : Pending) (c : Came) : Type 0 where
@@ -314,6 +317,7 @@ one_outcome replies (outcome_of.Rotated count) b h g = absurd h
 one_outcome replies (outcome_of.Described params) b h g = absurd h
 one_outcome replies (outcome_of.Failed f) b h g = absurd h
 
-pub comes_so : (c : Came) (now : State) (replies : List Reply) (r : Result comes_to.Outcome AllocError) → AnswersAs replies c.comes → c.state ≡ now → IfOk r (AnswersAs replies) → IfOk r (ComesTo c now)
+pub comes_so : (c : Came) (now : State) (replies : List Reply) (r : Result comes_to.Outcome AllocError)
+    → AnswersAs replies c.comes → c.state ≡ now → IfOk r (AnswersAs replies) → IfOk r (ComesTo c now)
 comes_so c now replies (Ok comes) h w g = (one_outcome replies c.comes comes h g, w)
 comes_so c now replies (Err e) h w g = tt

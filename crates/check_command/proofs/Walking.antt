@@ -1,5 +1,39 @@
 -- One batch after another.
-use Rattle.std.proofs.Common.{◌≡◌, inl, inr, ℕ, suc, ◌+◌, ◌<◌, ◌≤◌, List, [], ◌∷◌, ◌++◌, length, drop, get_or, Option, Some, None, Ok, Err, Bool, true, false, ◌||◌, refl, sym, ap, ◌∙◌, subst, append_assoc, append-nil, add-one, drop-cons}
+use Rattle.std.proofs.Common.{
+  ◌≡◌,
+  inl,
+  inr,
+  ℕ,
+  suc,
+  ◌+◌,
+  ◌<◌,
+  ◌≤◌,
+  List,
+  [],
+  ◌∷◌,
+  ◌++◌,
+  length,
+  drop,
+  get_or,
+  Option,
+  Some,
+  None,
+  Ok,
+  Err,
+  Bool,
+  true,
+  false,
+  ◌||◌,
+  refl,
+  sym,
+  ap,
+  ◌∙◌,
+  subst,
+  append_assoc,
+  append-nil,
+  add-one,
+  drop-cons,
+}
 use Rattle.std.proofs.Math.ListN.{drop_of_length-le}
 use Rattle.ae_base.specs.declared.batches.Batch.{Batch}
 use Rattle.ae_edge.specs.Devices.{Adds, AddsFront, IsFront}
@@ -47,8 +81,10 @@ module _ (all left : List Step) (now : State) (refused : Bool) (old new : Option
       let w = p.state in record {
         text = text ++ p.lines;
         put = adds_then text p.lines old new after put p.put;
-        whole = λ rest h. subst (IsCheck empty_state (batches all)) (sym (append_assoc text p.lines rest)) (whole (p.lines ++ rest) (p.lines, rest, p.are, subst (λ v. IsCheck v (batches left) rest) (sym w) h, refl));
-        front = λ rest h. subst (IsCheckFront empty_state (batches all)) (sym (append_assoc text p.lines rest)) (front (p.lines ++ rest) (inr (p.lines, p.are, inr (rest, subst (λ v. IsCheckFront v (batches left) rest) (sym w) h, refl))));
+        whole = λ rest h. subst (IsCheck empty_state (batches all)) (sym (append_assoc text p.lines rest))
+            (whole (p.lines ++ rest) (p.lines, rest, p.are, subst (λ v. IsCheck v (batches left) rest) (sym w) h, refl));
+        front = λ rest h. subst (IsCheckFront empty_state (batches all)) (sym (append_assoc text p.lines rest))
+            (front (p.lines ++ rest) (inr (p.lines, p.are, inr (rest, subst (λ v. IsCheckFront v (batches left) rest) (sym w) h, refl))));
         refuses =
             refuses ∙ or-assoc refused (is_refusal (checked now number batch).comes) (has_refusal (outcomes (checked now number batch).state (batches left)))
             ∙ ap (λ c. (refused || c) || has_refusal (outcomes (checked now number batch).state (batches left))) (sym p.refuses)
@@ -56,7 +92,8 @@ module _ (all left : List Step) (now : State) (refused : Bool) (old new : Option
       }
 
 -- one step more
-pub step_more : (all left : List Step) (now next : State) (refused b : Bool) (old new after : Option (List ℕ)) (step : Step) → SoFar all (step ∷ left) now refused old new → PutsStep (Ok b) now next step new after
+pub step_more : (all left : List Step) (now next : State) (refused b : Bool) (old new after : Option (List ℕ)) (step : Step)
+    → SoFar all (step ∷ left) now refused old new → PutsStep (Ok b) now next step new after
     → SoFar all left next (refused || b) old after
 step_more all left now next refused b old new after (Turn number (Whole batch)) s p = batch_more all left now refused old new number batch b next after s.text s.put s.whole s.front s.refuses p
 step_more all left now next refused b old new after (Turn number (Half batch)) s p = batch_more all left now refused old new number batch b next after s.text s.put s.whole s.front s.refuses p
@@ -89,7 +126,8 @@ so_far_at steps i step d now refused old new lt e s = subst (λ left. SoFar step
 
 -- ---- to its end
 
-pub puts_check : (steps : List Step) (i : ℕ) (now : State) (refused : Bool) (old new : Option (List ℕ)) → length steps ≤ i → SoFar steps (drop i steps) now refused old new → PutsCheck refused steps old new
+pub puts_check : (steps : List Step) (i : ℕ) (now : State) (refused : Bool) (old new : Option (List ℕ))
+    → length steps ≤ i → SoFar steps (drop i steps) now refused old new → PutsCheck refused steps old new
 puts_check steps i now refused old new le s =
     let t : SoFar steps [] now refused old new = subst (λ left. SoFar steps left now refused old new) (drop_of_length-le steps le) s in
     ((t.text ++ [], t.whole [] refl, subst (λ xs. Adds xs old new) (sym (append-nil t.text)) t.put), t.refuses ∙ or-none refused)
@@ -111,14 +149,16 @@ part_put all left number batch now old new after text put front (inr h) =
     let f = front_put h.0 new after h.2 in
     (text ++ f.0, front f.0 (inr (h.0, h.1, inl f.1)), adds_then text f.0 old new after put f.2)
 
-pub fault_put : (all left : List Step) (now next : State) (refused : Bool) (old new after : Option (List ℕ)) (step : Step) → SoFar all (step ∷ left) now refused old new → PutsStep (Err unput.WriteFault) now next step new after → PutsCheckFront all old after
+pub fault_put : (all left : List Step) (now next : State) (refused : Bool) (old new after : Option (List ℕ)) (step : Step)
+    → SoFar all (step ∷ left) now refused old new → PutsStep (Err unput.WriteFault) now next step new after → PutsCheckFront all old after
 fault_put all left now next refused old new after (Turn number (Whole batch)) s p = part_put all left number batch now old new after s.text s.put s.front p
 fault_put all left now next refused old new after (Turn number (Half batch)) s p = part_put all left number batch now old new after s.text s.put s.front p
 fault_put all left now next refused old new after (Turn number Execute) s p = let o : Err unput.WriteFault ≡ Ok false = p.refuses in absurd cc
 fault_put all left now next refused old new after (Turn number (Rotate from to)) s p = let o : Err unput.WriteFault ≡ Ok false = p.refuses in absurd cc
 fault_put all left now next refused old new after (Trust path) s p = let o : Err unput.WriteFault ≡ Ok false = p.refuses in absurd cc
 
-pub short_put : (all left : List Step) (now next : State) (refused : Bool) (old new after : Option (List ℕ)) (step : Step) → SoFar all (step ∷ left) now refused old new → PutsStep (Err unput.OutOfMemory) now next step new after → PutsCheckFront all old after
+pub short_put : (all left : List Step) (now next : State) (refused : Bool) (old new after : Option (List ℕ)) (step : Step)
+    → SoFar all (step ∷ left) now refused old new → PutsStep (Err unput.OutOfMemory) now next step new after → PutsCheckFront all old after
 short_put all left now next refused old new after (Turn number (Whole batch)) s p = part_put all left number batch now old new after s.text s.put s.front p
 short_put all left now next refused old new after (Turn number (Half batch)) s p = part_put all left number batch now old new after s.text s.put s.front p
 short_put all left now next refused old new after (Turn number Execute) s p = let o : Err unput.OutOfMemory ≡ Ok false = p.refuses in absurd cc

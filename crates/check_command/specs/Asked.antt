@@ -67,7 +67,8 @@ pub record IsToldOf (s : Session) (replies : List Reply) : Type 0 where
 -- it is described, and its parameters are told; or the server refuses; or it may not be sent
 abbrev pub IsAsked : State → ℕ → Batch → Asked → Type 0
 IsAsked state number batch (asked.Ready p params) =
-    (why_unfit batch ≡ None) × ((d : Description) × (describe (catalog_of state number) batch.text (declarations_of batch) ≡ Ok d) × (p ≡ pending (unforced batch) d)) × (params ≡ described_params p.keys (uses_of p))
+    (why_unfit batch ≡ None) × ((d : Description) × (describe (catalog_of state number) batch.text (declarations_of batch) ≡ Ok d) × (p ≡ pending (unforced batch) d))
+    × (params ≡ described_params p.keys (uses_of p))
 IsAsked state number batch (asked.Refused f) = (why_unfit batch ≡ None) × (describe (catalog_of state number) batch.text (declarations_of batch) ≡ Err f)
 IsAsked state number batch (asked.Unfit f) = why_unfit batch ≡ Some f
 

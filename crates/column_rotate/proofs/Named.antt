@@ -1,5 +1,37 @@
 -- The parameters of a row: their names, which differ, one after another.
-use Rattle.std.proofs.Common.{◌≡◌, ℕ, suc, ◌+◌, ◌%◌, ◌^◌, ◌<◌, ◌≤◌, List, [], ◌∷◌, ◌++◌, length, map, drop, min, get_or, decimal, Bool, true, false, refl, sym, ap, ◌∙◌, append_assoc, append-nil, length-drop, drop-cons, add-one, arith}
+use Rattle.std.proofs.Common.{
+  ◌≡◌,
+  ℕ,
+  suc,
+  ◌+◌,
+  ◌%◌,
+  ◌^◌,
+  ◌<◌,
+  ◌≤◌,
+  List,
+  [],
+  ◌∷◌,
+  ◌++◌,
+  length,
+  map,
+  drop,
+  min,
+  get_or,
+  decimal,
+  Bool,
+  true,
+  false,
+  refl,
+  sym,
+  ap,
+  ◌∙◌,
+  append_assoc,
+  append-nil,
+  length-drop,
+  drop-cons,
+  add-one,
+  arith,
+}
 use Rattle.std.specs.Prelude.{IsTrue}
 use Rattle.std.specs.List.{list_all, list_any}
 use Rattle.std.specs.Str.{bytes_eq, chars}
@@ -79,7 +111,8 @@ names_few n (c ∷ cs) (v ∷ vs) = let r = names_few (n + 1) cs vs in omega (ar
 next_at : {A : Type 0} (xs : List A) (i : ℕ) (x : A) → i < length xs → x ≡ get_or xs i x → drop i xs ≡ x ∷ drop (i + 1) xs
 next_at xs i x l e = let d = drop-cons xs i x l in rw add-one (d ∙ ap (λ y. y ∷ drop (suc i) xs) (sym e))
 
-pub listed_more : (cs : List SentColumn) (vs : List Value) (i : ℕ) (c : SentColumn) (v : Value) (all acc new : List Param) (p : Param) → i < length cs → i < length vs → c ≡ get_or cs i c → v ≡ get_or vs i v
+pub listed_more : (cs : List SentColumn) (vs : List Value) (i : ℕ) (c : SentColumn) (v : Value) (all acc new : List Param) (p : Param)
+    → i < length cs → i < length vs → c ≡ get_or cs i c → v ≡ get_or vs i v
     → all ≡ acc ++ params_from (i + 1) (drop i cs) (drop i vs) → p ≡ record { declaration = record { name = param_name (i + 1); ty = c.ty }; value = v } → new ≡ acc ++ p ∷ []
     → all ≡ new ++ params_from ((i + 1) + 1) (drop (i + 1) cs) (drop (i + 1) vs)
 listed_more cs vs i c v all acc new p l m q r h e f =

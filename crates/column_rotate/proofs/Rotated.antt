@@ -26,8 +26,10 @@ module _ (trusted : List (List ℕ)) (number : ℕ) (old new : List ℕ) (k : En
   comparing_next news empty olds rows after = by (not (are_alike olds news)) (not empty)
     where
       by : (a b : Bool)
-          → (if a then rolling_back trusted number old new k (OfDriver (NotAlike new)) after else if b then rolling_back trusted number old new k (OfDriver (NotEmpty new)) after else putting_each trusted number old new k (columns_in olds) (length rows) rows after)
-          ≡ moved trusted number old new k (if a then back (OfDriver (NotAlike new)) else if b then back (OfDriver (NotEmpty new)) else putting old new (columns_in olds) (length rows) rows) (heard trusted number old new k) after
+          → (if a then rolling_back trusted number old new k (OfDriver (NotAlike new)) after else if b then
+          rolling_back trusted number old new k (OfDriver (NotEmpty new)) after else putting_each trusted number old new k (columns_in olds) (length rows) rows after)
+          ≡ moved trusted number old new k
+          (if a then back (OfDriver (NotAlike new)) else if b then back (OfDriver (NotEmpty new)) else putting old new (columns_in olds) (length rows) rows) (heard trusted number old new k) after
       by true b = refl
       by false true = refl
       by false false = putting_next (columns_in olds) (length rows) rows after

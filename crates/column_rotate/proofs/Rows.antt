@@ -28,7 +28,8 @@ pub row_put : (table : List ℕ) (columns : List SentColumn) (left : List (List 
 row_put table columns [] row e = absurd cc
 row_put table columns (r ∷ rows) row e = let s : r ≡ row = cc in ap (λ x. Some (puts table columns x)) (sym s)
 
-pub puts_last : (old new : List ℕ) (columns : List SentColumn) (all : ℕ) (left : List (List Value)) → first_put new columns left ≡ None → putting old new columns all left ≡ Sends (replaces old new) (Replace all)
+pub puts_last : (old new : List ℕ) (columns : List SentColumn) (all : ℕ) (left : List (List Value))
+    → first_put new columns left ≡ None → putting old new columns all left ≡ Sends (replaces old new) (Replace all)
 puts_last old new columns all [] e = refl
 puts_last old new columns all (row ∷ rows) e = absurd cc
 

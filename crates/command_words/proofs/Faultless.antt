@@ -1,5 +1,35 @@
 -- Words in which `clap` finds no fault are words that it takes.
-use Rattle.std.proofs.Common.{◌≡◌, ◌+◌, ◌&&◌, ◌||◌, ◌==◌, ℕ, Bool, true, false, not, zero, suc, refl, arith, List, [], ◌∷◌, length, drop, min, Option, Some, None, is_some, if◌then◌else◌, codes, find, nat_lt, nat_le}
+use Rattle.std.proofs.Common.{
+  ◌≡◌,
+  ◌+◌,
+  ◌&&◌,
+  ◌||◌,
+  ◌==◌,
+  ℕ,
+  Bool,
+  true,
+  false,
+  not,
+  zero,
+  suc,
+  refl,
+  arith,
+  List,
+  [],
+  ◌∷◌,
+  length,
+  drop,
+  min,
+  Option,
+  Some,
+  None,
+  is_some,
+  if◌then◌else◌,
+  codes,
+  find,
+  nat_lt,
+  nat_le,
+}
 use Rattle.std.specs.Prelude.{encode_utf8, slice_get}
 use Rattle.std.specs.List.{list_all, list_any}
 use Rattle.std.specs.Option.{option_map_or}
@@ -9,12 +39,96 @@ use Rattle.clap.specs.Facts.{explicit_source, parser_of_value, unwrap_or_range}
 use Rattle.clap.specs.Lexer.{long_of, short_of}
 use Rattle.clap.specs.Matches.{count_text}
 use Rattle.clap.specs.ValueTests.{accepts}
-use Rattle.clap.specs.Walk.{Held, Names, Row, Rule, Step, Text, Waiting, Walk, action_of, answers_to, arg_by_id, arg_by_index, arg_by_long, arg_by_short, attached_value, count_of, finished, has_row, is_pending, most_values, nothing_held, reacted, settled, subcommand_met, takes_several, takes_values, value, values_or_missing, walk, walk_from, walked, word_met}
+use Rattle.clap.specs.Walk.{
+  Held,
+  Names,
+  Row,
+  Rule,
+  Step,
+  Text,
+  Waiting,
+  Walk,
+  action_of,
+  answers_to,
+  arg_by_id,
+  arg_by_index,
+  arg_by_long,
+  arg_by_short,
+  attached_value,
+  count_of,
+  finished,
+  has_row,
+  is_pending,
+  most_values,
+  nothing_held,
+  reacted,
+  settled,
+  subcommand_met,
+  takes_several,
+  takes_values,
+  value,
+  values_or_missing,
+  walk,
+  walk_from,
+  walked,
+  word_met,
+}
 use Rattle.clap.specs.Walk as walking
 use Rattle.clap.specs.Simple.{App, Shape, argument_words, built, entered, is_simple, label_of, names_of}
-use Rattle.clap.specs.Takes.{action_passes, built_takes, bundle_step_passes, count_passes, default_passes, entered_passes, flag_word_passes, flags_pass, is_given, is_valid, level_passes, long_passes, option_passes, other_passes, positional_passes, react_passes, set_passes, settle_passes, short_passes, step_passes, takes, turn_passes, use_passes, walk_passes, word_passes}
+use Rattle.clap.specs.Takes.{
+  action_passes,
+  built_takes,
+  bundle_step_passes,
+  count_passes,
+  default_passes,
+  entered_passes,
+  flag_word_passes,
+  flags_pass,
+  is_given,
+  is_valid,
+  level_passes,
+  long_passes,
+  option_passes,
+  other_passes,
+  positional_passes,
+  react_passes,
+  set_passes,
+  settle_passes,
+  short_passes,
+  step_passes,
+  takes,
+  turn_passes,
+  use_passes,
+  walk_passes,
+  word_passes,
+}
 use Rattle.clap.specs.Kinds.{Kinds, or_else, range_kinds, value_kinds, values_kinds}
-use Rattle.clap.specs.Faults.{action_fault, built_fault, bundle_step_fault, check_fault, count_fault, entered_fault, fault_of, flag_word_fault, flags_fault, has_free_rules, level_fault, long_fault, option_fault, other_fault, positional_fault, react_fault, set_fault, settle_fault, short_fault, step_fault, turn_fault, use_fault, walk_fault, word_fault}
+use Rattle.clap.specs.Faults.{
+  action_fault,
+  built_fault,
+  bundle_step_fault,
+  check_fault,
+  count_fault,
+  entered_fault,
+  fault_of,
+  flag_word_fault,
+  flags_fault,
+  has_free_rules,
+  level_fault,
+  long_fault,
+  option_fault,
+  other_fault,
+  positional_fault,
+  react_fault,
+  set_fault,
+  settle_fault,
+  short_fault,
+  step_fault,
+  turn_fault,
+  use_fault,
+  walk_fault,
+  word_fault,
+}
 use Rattle.clap.specs.declared.builder.action.ArgAction.{ArgAction}
 use Rattle.clap.specs.declared.builder.action.ArgAction.TheVariants as action
 use Rattle.clap.specs.declared.builder.value_parser.ValueParser.{ValueParser}
@@ -163,7 +277,8 @@ module _ (c : List Rule) (again : Bool) where
   positional_by true h e = refl
   positional_by false h e = settle_ok h e
 
-  at_position : (o : Option Rule) (h : Held) (k : ErrorKind) (ks : Kinds) → option_map_or (λ a. positional_fault c again a h) o (k ∷ ks) ≡ [] → option_map_or (λ a. positional_passes c again a h) o false ≡ true
+  at_position : (o : Option Rule) (h : Held) (k : ErrorKind) (ks : Kinds) → option_map_or (λ a. positional_fault c again a h) o (k ∷ ks) ≡ []
+      → option_map_or (λ a. positional_passes c again a h) o false ≡ true
   at_position None h k ks e = cc
   at_position (Some a) h k ks e = positional_by (is_pending a h.pending && takes_several a) h e
 
@@ -261,7 +376,8 @@ valid_ok s rows has free e =
     let a = first_check s.arg_required_else_help (list_any (λ r. explicit_source r.source) rows) has _ _ e in
     let b = second_check s.subcommand_required has _ _ a.1 in
     let c = third_check (s.subcommand_negates_reqs && has) (list_any (λ a. a.required && not (is_given a.id rows)) s.rules) _ _ (all_there rows s.rules) b.1 in
-    both (not s.arg_required_else_help || (has || list_any (λ r. explicit_source r.source) rows)) _ a.0 (both (not s.subcommand_required || has) _ b.0 (both (list_all (λ a. a.is_free) s.rules) _ free c))
+    both (not s.arg_required_else_help || (has || list_any (λ r. explicit_source r.source) rows)) _ a.0
+    (both (not s.subcommand_required || has) _ b.0 (both (list_all (λ a. a.is_free) s.rules) _ free c))
 
 -- ---- a level, and the whole
 
@@ -269,7 +385,8 @@ valid_ok s rows has free e =
 abbrev pub is_set : Shape → Bool
 is_set s = list_all default_passes s.rules && has_free_rules s
 
-level_ok : (s : Shape) (names : Names) (h : Held) (words : List Text) (has : Bool) (below : Kinds) → is_set s ≡ true → level_fault s names h words has below ≡ [] → (level_passes s names h words has ≡ true) × (below ≡ [])
+level_ok : (s : Shape) (names : Names) (h : Held) (words : List Text) (has : Bool) (below : Kinds) → is_set s ≡ true
+    → level_fault s names h words has below ≡ [] → (level_passes s names h words has ≡ true) × (below ≡ [])
 level_ok s names h words has below set e =
     let end = (walk s.rules names h words).held in
     let q = none (walk_fault s names (walk_from h) words) _ e in

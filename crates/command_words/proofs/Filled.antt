@@ -1,5 +1,35 @@
 -- Where a simple command takes the words, each of its matches has a value.
-use Rattle.std.proofs.Common.{◌≡◌, ◌++◌, ◌&&◌, ◌||◌, ℕ, Bool, true, false, not, zero, suc, refl, arith, fold, List, [], ◌∷◌, length, drop, Option, Some, None, is_some, if◌then◌else◌, find, nat_lt, nat_le, option_and_then, option_map}
+use Rattle.std.proofs.Common.{
+  ◌≡◌,
+  ◌++◌,
+  ◌&&◌,
+  ◌||◌,
+  ℕ,
+  Bool,
+  true,
+  false,
+  not,
+  zero,
+  suc,
+  refl,
+  arith,
+  fold,
+  List,
+  [],
+  ◌∷◌,
+  length,
+  drop,
+  Option,
+  Some,
+  None,
+  is_some,
+  if◌then◌else◌,
+  find,
+  nat_lt,
+  nat_le,
+  option_and_then,
+  option_map,
+}
 use Rattle.std.specs.Prelude.{encode_utf8, slice_get}
 use Rattle.std.specs.List.{list_all}
 use Rattle.std.specs.Option.{option_map_or}
@@ -8,10 +38,90 @@ use Rattle.std.proofs.lemmas.Bool.Decides.{nat_tests}
 use Rattle.clap.specs.Facts.{explicit_source, unwrap_or_range}
 use Rattle.clap.specs.Lexer.{long_of, short_of}
 use Rattle.clap.specs.Values.{is_request}
-use Rattle.clap.specs.Walk.{Held, Names, Outcome, Row, Rule, Step, Text, Waiting, Walk, action_of, after_flag, after_step, arg_by_id, arg_by_index, arg_by_long, arg_by_short, at_row, attached_value, bundle, bundle_met, bundle_step, default_rows, done, finished, first_of, flag_met, has_row, long_met, long_or_other, more_values, nothing_held, one_of, option_met, option_word, plain, plain_word, reacted, reading_by, row_text, settled, settled_rows, short_met, short_or_plain, subcommand_met, subcommand_or_other, takes_values, to_positional, trailing, used, used_as, used_by_id, values_or_missing, walk, walk_from, walked, walked_from, with_default, with_values, without, word_met}
+use Rattle.clap.specs.Walk.{
+  Held,
+  Names,
+  Outcome,
+  Row,
+  Rule,
+  Step,
+  Text,
+  Waiting,
+  Walk,
+  action_of,
+  after_flag,
+  after_step,
+  arg_by_id,
+  arg_by_index,
+  arg_by_long,
+  arg_by_short,
+  at_row,
+  attached_value,
+  bundle,
+  bundle_met,
+  bundle_step,
+  default_rows,
+  done,
+  finished,
+  first_of,
+  flag_met,
+  has_row,
+  long_met,
+  long_or_other,
+  more_values,
+  nothing_held,
+  one_of,
+  option_met,
+  option_word,
+  plain,
+  plain_word,
+  reacted,
+  reading_by,
+  row_text,
+  settled,
+  settled_rows,
+  short_met,
+  short_or_plain,
+  subcommand_met,
+  subcommand_or_other,
+  takes_values,
+  to_positional,
+  trailing,
+  used,
+  used_as,
+  used_by_id,
+  values_or_missing,
+  walk,
+  walk_from,
+  walked,
+  walked_from,
+  with_default,
+  with_values,
+  without,
+  word_met,
+}
 use Rattle.clap.specs.Walk as walking
 use Rattle.clap.specs.Simple.{Shape}
-use Rattle.clap.specs.Takes.{bundle_passes, bundle_step_passes, flag_word_passes, flags_pass, is_given, level_passes, long_passes, option_passes, other_passes, positional_passes, react_passes, settle_passes, short_passes, step_passes, turn_passes, use_passes, walk_passes, word_passes}
+use Rattle.clap.specs.Takes.{
+  bundle_passes,
+  bundle_step_passes,
+  flag_word_passes,
+  flags_pass,
+  is_given,
+  level_passes,
+  long_passes,
+  option_passes,
+  other_passes,
+  positional_passes,
+  react_passes,
+  settle_passes,
+  short_passes,
+  step_passes,
+  turn_passes,
+  use_passes,
+  walk_passes,
+  word_passes,
+}
 use Rattle.clap.specs.declared.builder.action.ArgAction.{ArgAction}
 use Rattle.clap.specs.declared.builder.action.ArgAction.TheVariants as action
 use Rattle.clap.specs.declared.builder.value_parser.Reading.{Reading}
@@ -59,7 +169,8 @@ with_values-filled id how s vs rows e f = at_row-filled id (more_values s vs) _ 
 
 -- ---- one use of an argument
 
-used_as-filled : (x : ArgAction) (id : Text) (how : Reading) (vs : List Text) (rows : List Row) → (is_request x || has_first vs) ≡ true → are_filled rows ≡ true → are_filled (used_as x id how vs rows) ≡ true
+used_as-filled : (x : ArgAction) (id : Text) (how : Reading) (vs : List Text) (rows : List Row)
+    → (is_request x || has_first vs) ≡ true → are_filled rows ≡ true → are_filled (used_as x id how vs rows) ≡ true
 used_as-filled action.Set id how vs rows e f = with_values-filled id how CommandLine vs (without id rows) e (without-filled id rows f)
 used_as-filled action.SetTrue id how vs rows e f = with_values-filled id how CommandLine vs (without id rows) e (without-filled id rows f)
 used_as-filled action.SetFalse id how vs rows e f = with_values-filled id how CommandLine vs (without id rows) e (without-filled id rows f)
@@ -96,7 +207,8 @@ module _ (c : List Rule) (again : Bool) (give : list_all gives_value c ≡ true)
   by_id_filled None vs rows g u f = f
   by_id_filled (Some a) vs rows g u f = use_filled a vs rows g u f
 
-  pending_filled : (p : Option (Text × List Text)) (rows : List Row) → option_map_or (λ p. option_map_or (λ a. use_passes again a p.1 rows) (arg_by_id c p.0) true) p true ≡ true → are_filled rows ≡ true
+  pending_filled : (p : Option (Text × List Text)) (rows : List Row)
+      → option_map_or (λ p. option_map_or (λ a. use_passes again a p.1 rows) (arg_by_id c p.0) true) p true ≡ true → are_filled rows ≡ true
       → are_filled (settled_rows c p rows) ≡ true
   pending_filled None rows u f = f
   pending_filled (Some p) rows u f = by_id_filled (arg_by_id c p.0) p.1 rows (found_good gives_value (λ a. bytes_eq a.id p.0) c give) u f
@@ -113,25 +225,29 @@ module _ (c : List Rule) (again : Bool) (give : list_all gives_value c ≡ true)
   option_filled a (Some v) h g u f = react_filled a (v ∷ []) h g u f
   option_filled a None h g u f = settle_filled h u f
 
-  long_by : (b : Bool) (a : Rule) (v : Option Text) (h : Held) → gives_value a ≡ true → (if b then option_passes c again a v h else (not (is_some v) && react_passes c again a [] h)) ≡ true → are_filled h.rows ≡ true
+  long_by : (b : Bool) (a : Rule) (v : Option Text) (h : Held) → gives_value a ≡ true
+      → (if b then option_passes c again a v h else (not (is_some v) && react_passes c again a [] h)) ≡ true → are_filled h.rows ≡ true
       → are_filled (if b then option_met c a v h else flag_met c a v h).0.rows ≡ true
   long_by true a v h g u f = option_filled a v h g u f
   long_by false a (Some v) h g u f = cc
   long_by false a None h g u f = react_filled a [] h g u f
 
-  long_filled : (o : Option Rule) (v : Option Text) (h : Held) → option_map_or gives_value o true ≡ true → long_passes c again o v h ≡ true → are_filled h.rows ≡ true → are_filled (long_met c o v h).0.rows ≡ true
+  long_filled : (o : Option Rule) (v : Option Text) (h : Held) → option_map_or gives_value o true ≡ true
+      → long_passes c again o v h ≡ true → are_filled h.rows ≡ true → are_filled (long_met c o v h).0.rows ≡ true
   long_filled None v h g u f = f
   long_filled (Some a) v h g u f = long_by (takes_values a) a v h g u f
 
   module _ (next : Held → Held × Outcome) (passes : Held → Bool) (so : (h : Held) → passes h ≡ true → are_filled h.rows ≡ true → are_filled (next h).0.rows ≡ true) where
-    short_by : (b : Bool) (a : Rule) (rest : Text) (h : Held) → gives_value a ≡ true → (if b then option_passes c again a (attached_value rest) h else (react_passes c again a [] h && passes (reacted c a [] h))) ≡ true
+    short_by : (b : Bool) (a : Rule) (rest : Text) (h : Held) → gives_value a ≡ true
+        → (if b then option_passes c again a (attached_value rest) h else (react_passes c again a [] h && passes (reacted c a [] h))) ≡ true
         → are_filled h.rows ≡ true → are_filled (if b then option_met c a (attached_value rest) h else next (reacted c a [] h)).0.rows ≡ true
     short_by true a rest h g u f = option_filled a (attached_value rest) h g u f
     short_by false a rest h g u f =
         let q = apart (react_passes c again a [] h) _ u in
         so (reacted c a [] h) q.1 (react_filled a [] h g q.0 f)
 
-    short_filled : (o : Option Rule) (rest : Text) (h : Held) → option_map_or gives_value o true ≡ true → short_passes c again o rest h passes ≡ true → are_filled h.rows ≡ true → are_filled (short_met c o rest h next).0.rows ≡ true
+    short_filled : (o : Option Rule) (rest : Text) (h : Held) → option_map_or gives_value o true ≡ true
+        → short_passes c again o rest h passes ≡ true → are_filled h.rows ≡ true → are_filled (short_met c o rest h next).0.rows ≡ true
     short_filled None rest h g u f = f
     short_filled (Some a) rest h g u f = short_by (takes_values a) a rest h g u f
 
@@ -145,7 +261,8 @@ module _ (c : List Rule) (again : Bool) (give : list_all gives_value c ≡ true)
         short_filled (next rest 0 done) (passes rest 0) (so rest 0 done) (arg_by_short c x) rest h (found_good gives_value _ c give) u f
     bundle_step_filled (Some x) flags (suc skip) so_far h u f = so _ skip so_far h u f
 
-  bundle_filled : (k : ℕ) (flags : Text) (skip : ℕ) (so_far : Outcome) (h : Held) → flags_pass c again k flags skip h ≡ true → are_filled h.rows ≡ true → are_filled (bundle_met c k flags skip so_far h).0.rows ≡ true
+  bundle_filled : (k : ℕ) (flags : Text) (skip : ℕ) (so_far : Outcome) (h : Held) → flags_pass c again k flags skip h ≡ true
+      → are_filled h.rows ≡ true → are_filled (bundle_met c k flags skip so_far h).0.rows ≡ true
   unfolding flags_pass bundle_met
   bundle_filled zero flags skip so_far h u f = f
   bundle_filled (suc k) flags skip so_far h u f = bundle_step_filled (bundle_met c k) (flags_pass c again k) (bundle_filled k) (slice_get (chars flags) 0) flags skip so_far h u f
@@ -211,7 +328,9 @@ module _ (s : Shape) (names : Names) (give : list_all gives_value s.rules ≡ tr
   step_filled w word h (walking.subcommand name) u f = f
 
   turn_filled : (stop : Option (Text × List Text)) (w : Walk) (word : Text)
-      → (is_some stop || (word_passes s names w.is_trailing w.waiting word w.held && step_passes s w.position (word_met s.rules names w.is_trailing w.waiting w.position word w.held).0 (word_met s.rules names w.is_trailing w.waiting w.position word w.held).1)) ≡ true
+      → (is_some stop ||
+      (word_passes s names w.is_trailing w.waiting word w.held && step_passes s w.position
+      (word_met s.rules names w.is_trailing w.waiting w.position word w.held).0 (word_met s.rules names w.is_trailing w.waiting w.position word w.held).1)) ≡ true
       → are_filled w.held.rows ≡ true → are_filled (walked_from s.rules names stop w word).held.rows ≡ true
   turn_filled (Some p) w word u f = f
   turn_filled None w word u f =

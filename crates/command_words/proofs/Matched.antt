@@ -84,7 +84,8 @@ module _ (a : App) (bytes : List Text) (words : List (List ℕ)) (same : a ≡ p
       (subst (λ (x : List Text). ReadsBy (takes program x) (option_and_then named (subcommand_of program x)) r) spelled
       (subst (λ (x : App). ReadsBy (takes x bytes) (option_and_then named (subcommand_of x bytes)) r) same w))
 
-  pub taken : (m : ArgMatches) (r : Result Command (Refusal (List ℕ))) → HasMatchesOf a bytes m → (is_simple_and_free a ≡ true → fault_of a bytes ≡ []) → Is (option_and_then named (subcommand_rows_of m)) r → Reads words r
+  pub taken : (m : ArgMatches) (r : Result Command (Refusal (List ℕ))) → HasMatchesOf a bytes m
+      → (is_simple_and_free a ≡ true → fault_of a bytes ≡ []) → Is (option_and_then named (subcommand_rows_of m)) r → Reads words r
   taken m r has none found =
       let simple : is_simple a ≡ true = ap is_simple same ∙ is_simple_program in
       reads_by r (by_command (takes a bytes) (option_and_then named (subcommand_of a bytes)) r (takes_program a bytes same none)

@@ -1,5 +1,32 @@
 -- Words that `clap` takes are one of the commands.
-use Rattle.std.proofs.Common.{◌≡◌, ◌∙◌, ◌&&◌, ◌||◌, ℕ, Bool, true, false, not, refl, sym, ap, subst, fold, List, [], ◌∷◌, Option, Some, None, is_some, if◌then◌else◌, codes, find, option_and_then, option_map}
+use Rattle.std.proofs.Common.{
+  ◌≡◌,
+  ◌∙◌,
+  ◌&&◌,
+  ◌||◌,
+  ℕ,
+  Bool,
+  true,
+  false,
+  not,
+  refl,
+  sym,
+  ap,
+  subst,
+  fold,
+  List,
+  [],
+  ◌∷◌,
+  Option,
+  Some,
+  None,
+  is_some,
+  if◌then◌else◌,
+  codes,
+  find,
+  option_and_then,
+  option_map,
+}
 use Rattle.std.specs.Prelude.{IfSome, encode_utf8_all, map}
 use Rattle.std.specs.List.{list_all, list_any}
 use Rattle.std.specs.Option.{option_map_or}
@@ -7,7 +34,40 @@ use Rattle.std.specs.Str.{bytes_eq}
 use Rattle.std.proofs.lemmas.Slice.Eq.{bytes_eq-Decides}
 use Rattle.clap.specs.Facts.{explicit_source}
 use Rattle.clap.specs.Lexer.{long_of, short_of}
-use Rattle.clap.specs.Walk.{Held, Names, Outcome, Row, Rule, Step, Text, Waiting, Walk, after_flag, after_step, answers_to, arg_by_index, arg_by_long, bundle, finished, first_of, long_met, long_or_other, nothing_held, one_of, plain_word, rows_after, short_or_plain, subcommand_met, subcommand_or_other, to_positional, walk, walk_from, walked, walked_from, word_met}
+use Rattle.clap.specs.Walk.{
+  Held,
+  Names,
+  Outcome,
+  Row,
+  Rule,
+  Step,
+  Text,
+  Waiting,
+  Walk,
+  after_flag,
+  after_step,
+  answers_to,
+  arg_by_index,
+  arg_by_long,
+  bundle,
+  finished,
+  first_of,
+  long_met,
+  long_or_other,
+  nothing_held,
+  one_of,
+  plain_word,
+  rows_after,
+  short_or_plain,
+  subcommand_met,
+  subcommand_or_other,
+  to_positional,
+  walk,
+  walk_from,
+  walked,
+  walked_from,
+  word_met,
+}
 use Rattle.clap.specs.Walk as walking
 use Rattle.clap.specs.Simple.{App, Shape, argument_words, built, built_leaf, entered, inherited, is_simple, label_of, marked_built, names_of, on_top, rows_at, subcommand_of, with_leaf_noted}
 use Rattle.clap.specs.Takes.{built_takes, default_passes, entered_passes, is_given, is_valid, level_passes, other_passes, settle_passes, step_passes, takes, turn_passes, walk_passes, word_passes}
@@ -50,7 +110,8 @@ module _ (help : Text) (c : List Rule) where
   other_enters (Some p) waiting word h = after_enters waiting word (long_met c (arg_by_long c p.0) p.1 h).0 (long_met c (arg_by_long c p.0) p.1 h).1
   other_enters None waiting word h = short_enters (short_of word) waiting word h
 
-  dashes_enters : (b : Bool) (position : ℕ) (waiting : Waiting) (word : Text) (h : Held) → EntersOther help (if b then (h, walking.trailing position) else long_or_other c waiting word (long_of word) h).1
+  dashes_enters : (b : Bool) (position : ℕ) (waiting : Waiting) (word : Text) (h : Held)
+      → EntersOther help (if b then (h, walking.trailing position) else long_or_other c waiting word (long_of word) h).1
   dashes_enters true position waiting word h = tt
   dashes_enters false position waiting word h = other_enters (long_of word) waiting word h
 
@@ -59,7 +120,8 @@ no_help true off e u = cc
 no_help false off e u = refl
 
 module _ (s : Shape) (names : Names) (on : s.disable_help_subcommand ≡ false) where
-  met_enters : (o : Option Text) (waiting : Waiting) (position : ℕ) (word : Text) (h : Held) → other_passes s o word h ≡ true → EntersOther (codes "help") (subcommand_or_other s.rules o waiting position word h).1
+  met_enters : (o : Option Text) (waiting : Waiting) (position : ℕ) (word : Text) (h : Held) → other_passes s o word h ≡ true
+      → EntersOther (codes "help") (subcommand_or_other s.rules o waiting position word h).1
   met_enters (Some name) waiting position word h u = no_help (bytes_eq name (codes "help")) s.disable_help_subcommand on u
   met_enters None waiting position word h u = dashes_enters (codes "help") s.rules (bytes_eq word (45 ∷ 45 ∷ [])) position waiting word h
 
@@ -79,7 +141,9 @@ module _ (s : Shape) (names : Names) (on : s.disable_help_subcommand ≡ false) 
   step_stopped w word h (walking.subcommand name) e n = n
 
   turn_stopped : (stop : Option (Text × List Text)) (w : Walk) (word : Text) → w.stopped ≡ stop
-      → (is_some stop || (word_passes s names w.is_trailing w.waiting word w.held && step_passes s w.position (word_met s.rules names w.is_trailing w.waiting w.position word w.held).0 (word_met s.rules names w.is_trailing w.waiting w.position word w.held).1)) ≡ true
+      → (is_some stop ||
+      (word_passes s names w.is_trailing w.waiting word w.held && step_passes s w.position
+      (word_met s.rules names w.is_trailing w.waiting w.position word w.held).0 (word_met s.rules names w.is_trailing w.waiting w.position word w.held).1)) ≡ true
       → StoppedOther (codes "help") stop → StoppedOther (codes "help") (walked_from s.rules names stop w word).stopped
   turn_stopped (Some p) w word e u n = n
   turn_stopped None w word e u n =

@@ -1,5 +1,29 @@
 -- The words of the command line: what `clap` is told of them, and which command it then finds in them.
-use Rattle.std.specs.Prelude.{◌≡◌, ◌++◌, ◌∷◌, [], ℕ, List, map, encode_utf8_all, Bool, true, false, pos, codes, Option, Some, None, Result, Ok, Err, option_and_then, option_map, if◌then◌else◌, is_some}
+use Rattle.std.specs.Prelude.{
+  ◌≡◌,
+  ◌++◌,
+  ◌∷◌,
+  [],
+  ℕ,
+  List,
+  map,
+  encode_utf8_all,
+  Bool,
+  true,
+  false,
+  pos,
+  codes,
+  Option,
+  Some,
+  None,
+  Result,
+  Ok,
+  Err,
+  option_and_then,
+  option_map,
+  if◌then◌else◌,
+  is_some,
+}
 use Rattle.std.specs.Option.{option_map_or}
 use Rattle.std.specs.Str.{bytes_eq, chars}
 use Rattle.std.specs.Str.Parse.{digits_value, without_leading_plus}

@@ -74,9 +74,11 @@ image_asked stand (Length len) image is = record {
 }
 
 -- one call more
-pub moments_more : (moments : Moments) (calls : List MadeCall) (made : MadeCall) → moments_after moments (calls ++ made ∷ []) ≡ then_stands (moments_after moments calls) (stand_after made (moments_after moments calls).now)
+pub moments_more : (moments : Moments) (calls : List MadeCall) (made : MadeCall)
+    → moments_after moments (calls ++ made ∷ []) ≡ then_stands (moments_after moments calls) (stand_after made (moments_after moments calls).now)
 moments_more moments [] made = refl
 moments_more moments (call ∷ calls) made = moments_more (then_stands moments (stand_after call moments.now)) calls made
 
-pub passes : (P : Stand → Stand → Type 0) (moments : Moments) (next : Stand) → P moments.now next → IsImage moments.now moments.now.seen → IsImage next next.seen → Passes P moments (then_stands moments next)
+pub passes : (P : Stand → Stand → Type 0) (moments : Moments) (next : Stand) → P moments.now next
+    → IsImage moments.now moments.now.seen → IsImage next next.seen → Passes P moments (then_stands moments next)
 passes P moments next here was is = record { past = refl; here = here; was_image = was; is_image = is }

@@ -105,7 +105,8 @@ module _ (first : List ℕ) (log later : LogState) (call : DiskCall) (bytes : Li
   order_noted noted.OutOfMemory n inside same = order_unnoted n
 
 -- what a read hands out
-pub part_is : (file part : List ℕ) (at max start count : ℕ) → 1 ≤ max → start ≡ min at (length file) → count ≡ min max (length file - start) → part ≡ take ((start + count) - start) (drop start file) → IsPart at part file
+pub part_is : (file part : List ℕ) (at max start count : ℕ) → 1 ≤ max → start ≡ min at (length file)
+    → count ≡ min max (length file - start) → part ≡ take ((start + count) - start) (drop start file) → IsPart at part file
 part_is file part at max start count some s n e =
     let behind : drop start file ≡ drop at file = ap (λ k. drop k file) s ∙ drop_min at file in
     let counted : (start + count) - start ≡ count = omega arith in

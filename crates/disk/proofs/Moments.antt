@@ -18,7 +18,8 @@ pub leaves_then : (P : List ℕ → Type 0) (a b c : Moments) → Leaves P a b �
 leaves_then P a b c p q = record {
   since = p.since ++ q.since;
   grew = q.grew ∙ ap (λ (w : List Stand). w ++ q.since) p.grew ∙ append_assoc a.past p.since q.since;
-  each = subst (All (LeavesNow P)) (sym (append_assoc p.since q.since (c.now ∷ []))) (All-append (LeavesNow P) p.since (q.since ++ c.now ∷ []) (before (LeavesNow P) p.since (b.now ∷ []) p.each) q.each);
+  each = subst (All (LeavesNow P)) (sym (append_assoc p.since q.since (c.now ∷ [])))
+      (All-append (LeavesNow P) p.since (q.since ++ c.now ∷ []) (before (LeavesNow P) p.since (b.now ∷ []) p.each) q.each);
 }
   where
     before : (Q : Stand → Type 0) (xs ys : List Stand) → All Q (xs ++ ys) → All Q xs

@@ -76,7 +76,8 @@ write_moments : (result : Stored) (at : ℕ) (bytes : List ℕ) (a b c : Moments
 write_moments result at bytes a b c k w y =
     let asked = Range at (length bytes) in
     let first = asked_once a.now.seen asked a b (λ before after. after ≡ with_bytes at bytes before) k w (ap (λ (s : Stand). s.synced) w.here) (ap (λ (s : Stand). s.asked) w.here) in
-    sync_after a.now.seen asked result a b c k first (ap (λ (s : Stand). s.synced) w.here ∙ ap (λ (s : Stand). s.synced) k) (ap (λ (s : Stand). s.asked) w.here ∙ ap (λ (s : Stand). asked ∷ s.asked) k) y
+    sync_after a.now.seen asked result a b c k first (ap (λ (s : Stand). s.synced) w.here ∙ ap (λ (s : Stand). s.synced) k)
+    (ap (λ (s : Stand). s.asked) w.here ∙ ap (λ (s : Stand). asked ∷ s.asked) k) y
 
 write_synced : (result : Stored) (at : ℕ) (bytes : List ℕ) (a b c : Moments) → IsKept a → Writes stored.Done at bytes a b → Syncs result b c → WritesThrough result at bytes a c
 write_synced stored.Done at bytes a b c k w y = record { moments = write_moments stored.Done at bytes a b c k w y; now = y.here ∙ ap (λ (s : Stand). kept s.seen) w.here }
@@ -86,7 +87,8 @@ write_synced stored.OutOfMemory at bytes a b c k w y = write_moments stored.OutO
 pub write_failed_told : (at : ℕ) (bytes : List ℕ) (a b : Option Moments) → IfSome a IsKept → WhereTold (Writes stored.Failed at bytes) a b → WhereTold (WritesThrough stored.Failed at bytes) a b
 write_failed_told at bytes = told_from IsKept (Writes stored.Failed at bytes) (WritesThrough stored.Failed at bytes) (write_failed at bytes)
 
-pub write_unasked_told : (at : ℕ) (bytes : List ℕ) (a b : Option Moments) → IfSome a IsKept → WhereTold (Writes stored.OutOfMemory at bytes) a b → WhereTold (WritesThrough stored.OutOfMemory at bytes) a b
+pub write_unasked_told : (at : ℕ) (bytes : List ℕ) (a b : Option Moments) → IfSome a IsKept
+    → WhereTold (Writes stored.OutOfMemory at bytes) a b → WhereTold (WritesThrough stored.OutOfMemory at bytes) a b
 write_unasked_told at bytes = told_from IsKept (Writes stored.OutOfMemory at bytes) (WritesThrough stored.OutOfMemory at bytes) (write_unasked at bytes)
 
 pub write_synced_told : (result : Stored) (at : ℕ) (bytes : List ℕ) (a b c : Option Moments) → IfSome a IsKept
@@ -105,7 +107,8 @@ cut_moments : (result : Stored) (len : ℕ) (a b c : Moments) → IsKept a → C
 cut_moments result len a b c k w y =
     let asked = Length len in
     let first = asked_once a.now.seen asked a b (λ before after. after ≡ with_length len before) k w (ap (λ (s : Stand). s.synced) w.here) (ap (λ (s : Stand). s.asked) w.here) in
-    sync_after a.now.seen asked result a b c k first (ap (λ (s : Stand). s.synced) w.here ∙ ap (λ (s : Stand). s.synced) k) (ap (λ (s : Stand). s.asked) w.here ∙ ap (λ (s : Stand). asked ∷ s.asked) k) y
+    sync_after a.now.seen asked result a b c k first (ap (λ (s : Stand). s.synced) w.here ∙ ap (λ (s : Stand). s.synced) k)
+    (ap (λ (s : Stand). s.asked) w.here ∙ ap (λ (s : Stand). asked ∷ s.asked) k) y
 
 cut_synced : (result : Stored) (len : ℕ) (a b c : Moments) → IsKept a → Cuts stored.Done len a b → Syncs result b c → CutsThrough result len a c
 cut_synced stored.Done len a b c k w y = record { moments = cut_moments stored.Done len a b c k w y; now = y.here ∙ ap (λ (s : Stand). kept s.seen) w.here }
@@ -177,14 +180,17 @@ read_none_told None k = tt
 pub read_on_told : (part bytes : List ℕ) (a b c : Option Moments) → WhereTold (HasRead bytes) a b → WhereTold (Gives (length bytes) (given.Bytes part)) b c → WhereTold (HasRead (bytes ++ part)) a c
 read_on_told part bytes = told_then (HasRead bytes) (Gives (length bytes) (given.Bytes part)) (HasRead (bytes ++ part)) (λ a b c h r. read_on part bytes a b c h r)
 
-pub read_end_told : (part bytes : List ℕ) (a b c : Option Moments) → WhereTold (HasRead bytes) a b → WhereTold (Gives (length bytes) (given.Bytes part)) b c → part ≡ [] → WhereTold (ReadsWhole (given.Bytes bytes)) a c
-read_end_told part bytes a b c h r none = told_then (HasRead bytes) (Gives (length bytes) (given.Bytes part)) (ReadsWhole (given.Bytes bytes)) (λ x y z p q. read_end part bytes x y z p q none) a b c h r
+pub read_end_told : (part bytes : List ℕ) (a b c : Option Moments) → WhereTold (HasRead bytes) a b
+    → WhereTold (Gives (length bytes) (given.Bytes part)) b c → part ≡ [] → WhereTold (ReadsWhole (given.Bytes bytes)) a c
+read_end_told part bytes a b c h r none = told_then (HasRead bytes) (Gives (length bytes) (given.Bytes part))
+    (ReadsWhole (given.Bytes bytes)) (λ x y z p q. read_end part bytes x y z p q none) a b c h r
 
 pub read_failed_told : (bytes : List ℕ) (a b c : Option Moments) → WhereTold (HasRead bytes) a b → WhereTold (Gives (length bytes) given.Failed) b c → WhereTold (ReadsWhole given.Failed) a c
 read_failed_told bytes = told_then (HasRead bytes) (Gives (length bytes) given.Failed) (ReadsWhole given.Failed) (read_failed bytes)
 
 -- without memory for what came
-pub read_stopped_told : (part bytes : List ℕ) (a b c : Option Moments) → WhereTold (HasRead bytes) a b → WhereTold (Gives (length bytes) (given.Bytes part)) b c → WhereTold (ReadsWhole given.OutOfMemory) a c
+pub read_stopped_told : (part bytes : List ℕ) (a b c : Option Moments) → WhereTold (HasRead bytes) a b
+    → WhereTold (Gives (length bytes) (given.Bytes part)) b c → WhereTold (ReadsWhole given.OutOfMemory) a c
 read_stopped_told part bytes =
     told_then (HasRead bytes) (Gives (length bytes) (given.Bytes part)) (ReadsWhole given.OutOfMemory) (λ a b c h r. (read_on part bytes a b c h r).stays)
 

@@ -11,7 +11,8 @@ told_from K P Q f (Some x) None k p = absurd p
 told_from K P Q f None (Some y) k p = absurd p
 
 -- two calls in a row, of a content of which K holds
-pub told_from_then : {T : Type 0} (K : T → Type 0) (P Q R : T → T → Type 0) → ((x y z : T) → K x → P x y → Q y z → R x z) → (a b c : Option T) → IfSome a K → WhereTold P a b → WhereTold Q b c → WhereTold R a c
+pub told_from_then : {T : Type 0} (K : T → Type 0) (P Q R : T → T → Type 0) → ((x y z : T) → K x → P x y → Q y z → R x z)
+    → (a b c : Option T) → IfSome a K → WhereTold P a b → WhereTold Q b c → WhereTold R a c
 told_from_then K P Q R f (Some x) (Some y) (Some z) k p q = f x y z k p q
 told_from_then K P Q R f None None None k p q = tt
 told_from_then K P Q R f (Some x) None c k p q = absurd p

@@ -22,7 +22,8 @@ uses_listed params used encs keys e h =
     let u = are_uses params used encs e in
     keys_listed (encs_in (uses_in params encs)) keys (subst (λ es. AreTheKeysOf es keys) (sym u.sorts) h)
 
-pub found_as : (batch : Batch) (version : ℕ) (keys : List KeyMeta) (used : List UsedParam) (encs : List (Option Enc)) → why_unfit batch ≡ None → encs_of batch.params used ≡ Some encs → AreTheKeysOf (map (λ u. u.enc) used) keys
+pub found_as : (batch : Batch) (version : ℕ) (keys : List KeyMeta) (used : List UsedParam) (encs : List (Option Enc))
+    → why_unfit batch ≡ None → encs_of batch.params used ≡ Some encs → AreTheKeysOf (map (λ u. u.enc) used) keys
     → length used ≤ 128 → IsTrue (all_differ (map (λ u. u.name) used))
     → IsPending (record { batch = batch; version = version; keys = keys; encs = encs })
 found_as batch version keys used encs fit e h few differ =
@@ -35,5 +36,6 @@ found_as batch version keys used encs fit e h few differ =
       differ = subst (λ names. IsTrue (all_differ names)) (sym u.names) differ;
     }
 
-pub found_encs : (params ps : List Param) (used us : List UsedParam) (x : Option (List (Option Enc))) (encs : List (Option Enc)) → ps ≡ params → us ≡ used → x ≡ encs_of ps us → x ≡ Some encs → encs_of params used ≡ Some encs
+pub found_encs : (params ps : List Param) (used us : List UsedParam) (x : Option (List (Option Enc))) (encs : List (Option Enc))
+    → ps ≡ params → us ≡ used → x ≡ encs_of ps us → x ≡ Some encs → encs_of params used ≡ Some encs
 found_encs params ps used us x encs p u e is = ap (λ zs. encs_of zs used) (sym p) ∙ ap (encs_of ps) (sym u) ∙ sym e ∙ is

@@ -34,7 +34,8 @@ module _ (params : List Ty) (columns : List ColumnSite) where
   pub untyped : (xs : List Rule) → typed xs ≡ false → ¬ (HasTyping params columns xs)
   untyped xs e h = let f : false ≡ true = sym e ∙ (has_typing-Decides params columns xs).1 h in absurd cc
 
-  pub step_typed : (before : List Rule) (rule : Rule) (rules : List Rule) → typed (before ++ rule ∷ []) ≡ true → clash_behind params columns before (rule ∷ rules) ≡ clash_behind params columns (before ++ rule ∷ []) rules
+  pub step_typed : (before : List Rule) (rule : Rule) (rules : List Rule) → typed (before ++ rule ∷ []) ≡ true
+      → clash_behind params columns before (rule ∷ rules) ≡ clash_behind params columns (before ++ rule ∷ []) rules
   unfolding clash_behind
   step_typed before rule rules e = ap (λ b. cond b (clash_behind params columns (before ++ rule ∷ []) rules) (Some (at_of rule))) e
 

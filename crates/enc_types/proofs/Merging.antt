@@ -188,7 +188,9 @@ module _ (params : List Ty) (columns : List ColumnSite) where
   least_is_least rules other h x n =
       go (known other (classes_from (λ s. s) rules) x h.agrees (stand columns params other rules h.holding (λ s. s) (λ s. refl) x))
     where
-      go : (unwrap_or (fixed columns (classes_from (λ s. s) rules x)) Plain ≡ other x) ⊎ ((unwrap_or (fixed columns (classes_from (λ s. s) rules x)) Plain ≡ Plain) × (is_open (classes_from (λ s. s) rules x) ≡ true)) → other x ≡ unwrap_or (fixed columns (classes_from (λ s. s) rules x)) Plain
+      go : (unwrap_or (fixed columns (classes_from (λ s. s) rules x)) Plain ≡ other x) ⊎
+          ((unwrap_or (fixed columns (classes_from (λ s. s) rules x)) Plain ≡ Plain) × (is_open (classes_from (λ s. s) rules x) ≡ true))
+          → other x ≡ unwrap_or (fixed columns (classes_from (λ s. s) rules x)) Plain
       go (inl e) = sym e
       go (inr (e, o)) = absurd (n e)
 

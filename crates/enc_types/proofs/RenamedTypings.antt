@@ -80,8 +80,10 @@ module _ (f g : ℕ → ℕ) (params others : List Ty) (columns : List ColumnSit
 
   joined_renamed : (a b s : Site) → KnownSite K a → KnownSite K b → KnownSite K s → joined (renamed_site f a) (renamed_site f b) (renamed_site f s) ≡ renamed_site f (joined a b s)
   joined_renamed a b s k l m =
-      ap (λ z. cond z (moved (renamed_site f a) (renamed_site f b) (renamed_site f s)) (cond (is_open (renamed_site f b)) (moved (renamed_site f b) (renamed_site f a) (renamed_site f s)) (renamed_site f s))) (open_renamed a)
-      ∙ ap (λ z. cond (is_open a) (moved (renamed_site f a) (renamed_site f b) (renamed_site f s)) (cond z (moved (renamed_site f b) (renamed_site f a) (renamed_site f s)) (renamed_site f s))) (open_renamed b)
+      ap (λ z. cond z (moved (renamed_site f a) (renamed_site f b) (renamed_site f s))
+      (cond (is_open (renamed_site f b)) (moved (renamed_site f b) (renamed_site f a) (renamed_site f s)) (renamed_site f s))) (open_renamed a)
+      ∙ ap (λ z. cond (is_open a) (moved (renamed_site f a) (renamed_site f b) (renamed_site f s))
+      (cond z (moved (renamed_site f b) (renamed_site f a) (renamed_site f s)) (renamed_site f s))) (open_renamed b)
       ∙ go (is_open a) (is_open b)
     where
       go : (p q : Bool) → cond p (moved (renamed_site f a) (renamed_site f b) (renamed_site f s)) (cond q (moved (renamed_site f b) (renamed_site f a) (renamed_site f s)) (renamed_site f s))
@@ -152,6 +154,7 @@ module _ (f g : ℕ → ℕ) (params others : List Ty) (columns : List ColumnSit
       let e : map (renamed_rule f) (before ++ rule ∷ []) ≡ map (renamed_rule f) before ++ renamed_rule f rule ∷ [] = map-append (renamed_rule f) before (rule ∷ []) in
       let more = known_both K before (rule ∷ []) k (l.0, tt) in
       ap (λ z. cond (has_typing others columns z) (clash_behind others columns z (map (renamed_rule f) rules)) (Some (at_of (renamed_rule f rule)))) (sym e)
-      ∙ ap (λ z. cond z (clash_behind others columns (map (renamed_rule f) (before ++ rule ∷ [])) (map (renamed_rule f) rules)) (Some (at_of (renamed_rule f rule)))) (typed_renamed (before ++ rule ∷ []) more)
+      ∙ ap (λ z. cond z (clash_behind others columns (map (renamed_rule f) (before ++ rule ∷ [])) (map (renamed_rule f) rules)) (Some (at_of (renamed_rule f rule))))
+      (typed_renamed (before ++ rule ∷ []) more)
       ∙ ap (λ z. cond (has_typing params columns (before ++ rule ∷ [])) z (Some (at_of (renamed_rule f rule)))) (clash_renamed (before ++ rule ∷ []) rules more l.1)
       ∙ ap (λ z. cond (has_typing params columns (before ++ rule ∷ [])) (clash_behind params columns (before ++ rule ∷ []) rules) (Some z)) (at_renamed f rule)

@@ -16,9 +16,49 @@ use Rattle.sql_tree.specs.Conditions as conditions
 use Rattle.sql_tree.specs.Bound.{BoundRow, BoundAssignment, BoundJoin, BoundItem, BoundItemValue, BoundQuery, BoundStatement, Bound}
 use Rattle.sql_tree.specs.Bound as bound
 use Rattle.sql_tree.specs.Definitions.{keyed_in}
-use Rattle.sql_tree.specs.Uses.{renamed_operand, renamed_terms, renamed_condition, renamed_conditions, renamed_filter, renamed_row, renamed_assignment, renamed_value, renamed_item, renamed_join, renamed_query, renamed_statement, renamed}
+use Rattle.sql_tree.specs.Uses.{
+  renamed_operand,
+  renamed_terms,
+  renamed_condition,
+  renamed_conditions,
+  renamed_filter,
+  renamed_row,
+  renamed_assignment,
+  renamed_value,
+  renamed_item,
+  renamed_join,
+  renamed_query,
+  renamed_statement,
+  renamed,
+}
 use Rattle.enc_types.specs.Sites.{site_of_literal, site_of}
-use Rattle.enc_types.specs.Rules.{at_of, first_operator, first_rules, operand_rules, terms_rules, comparison_rules, in_rules, condition_rules, conditions_rules, filter_rules, key_rule, value_rule, value_rules, row_rules, assignment_rules, site_of_item, distinct_rules, item_rules, order_rule, rows_rules, query_rules, statement_rules, placed, in_order, rules}
+use Rattle.enc_types.specs.Rules.{
+  at_of,
+  first_operator,
+  first_rules,
+  operand_rules,
+  terms_rules,
+  comparison_rules,
+  in_rules,
+  condition_rules,
+  conditions_rules,
+  filter_rules,
+  key_rule,
+  value_rule,
+  value_rules,
+  row_rules,
+  assignment_rules,
+  site_of_item,
+  distinct_rules,
+  item_rules,
+  order_rule,
+  rows_rules,
+  query_rules,
+  statement_rules,
+  placed,
+  in_order,
+  rules,
+}
 use Rattle.enc_types.specs.Renamed.{renamed_site, renamed_rule}
 use Rattle.enc_types.specs.declared.sites.Site.{Site}
 use Rattle.enc_types.specs.declared.sites.Site.TheVariants.{Column}
@@ -99,7 +139,8 @@ module _ (f : ℕ → ℕ) where
   same_rules : (at : ℕ) (x : Site) (list : List (Operand ℕ ℕ)) → map (λ y. Same (renamed_site f x) (site_of y) at) (map (renamed_operand f) list) ≡ R (map (λ y. Same x (site_of y) at) list)
   same_rules at x [] = refl
   same_rules at x (y ∷ list) =
-      ap (λ z. Same (renamed_site f x) z at ∷ map (λ y. Same (renamed_site f x) (site_of y) at) (map (renamed_operand f) list)) (site y) ∙ ap (λ z. Same (renamed_site f x) (renamed_site f (site_of y)) at ∷ z) (same_rules at x list)
+      ap (λ z. Same (renamed_site f x) z at ∷ map (λ y. Same (renamed_site f x) (site_of y) at) (map (renamed_operand f) list))
+      (site y) ∙ ap (λ z. Same (renamed_site f x) (renamed_site f (site_of y)) at ∷ z) (same_rules at x list)
 
   in_list : (at : ℕ) (o : Operand ℕ ℕ) (list : List (Operand ℕ ℕ)) → in_rules at (site_of (renamed_operand f o)) (map (renamed_operand f) list) ≡ R (in_rules at (site_of o) list)
   in_list at o list =
@@ -179,7 +220,8 @@ module _ (f : ℕ → ℕ) where
   statement : (s : BoundStatement) → statement_rules (renamed_statement f s) ≡ R (statement_rules s)
   statement (bound.Definition d) = keys (keyed_in d)
   statement (bound.Insert insert) = each (renamed_row f) (row_rules insert.named) (row_rules insert.named) (λ row. values insert.named row.values) insert.rows
-  statement (bound.Update update) = joined (flat_map assignment_rules update.assignments) (filter_rules update.filter) _ _ (each (renamed_assignment f) assignment_rules assignment_rules assignment update.assignments) (filter update.filter)
+  statement (bound.Update update) = joined (flat_map assignment_rules update.assignments) (filter_rules update.filter)
+      _ _ (each (renamed_assignment f) assignment_rules assignment_rules assignment update.assignments) (filter update.filter)
   statement (bound.Delete delete) = filter delete.filter
   statement (bound.Select q) = query q
   statement (bound.Control control) = refl

@@ -68,7 +68,8 @@ placed_keeps z r (x ∷ xs) = go (nat_le (at_of r) (at_of x)) refl (placed_keeps
     go : (b : Bool) → nat_le (at_of r) (at_of x) ≡ b → filter (tied z) (placed r xs) ≡ filter (tied z) (r ∷ xs) → filter (tied z) (cond b (r ∷ x ∷ xs) (x ∷ placed r xs)) ≡ filter (tied z) (r ∷ x ∷ xs)
     go true e more = refl
     go false e more =
-        let apart : (tied z r ≡ true) × (tied z x ≡ true) → ⊥ = λ h. (let f : at_of z ≡ at_of r = tied_at z r h.0 in let g : at_of z ≡ at_of x = tied_at z x h.1 in let lt : at_of x < at_of r = grind (arith, nat_tests) in omega arith) in
+        let apart : (tied z r ≡ true) × (tied z x ≡ true)
+        → ⊥ = λ h. (let f : at_of z ≡ at_of r = tied_at z r h.0 in let g : at_of z ≡ at_of x = tied_at z x h.1 in let lt : at_of x < at_of r = grind (arith, nat_tests) in omega arith) in
         ap (λ w. cond (tied z x) (x ∷ w) w) more ∙ swap_kept (tied z r) (tied z x) r x (filter (tied z) xs) apart
 
 in_order_keeps : (z : Rule) (xs : List Rule) → filter (tied z) (in_order xs) ≡ filter (tied z) xs

@@ -18,7 +18,8 @@ module _ (params : List Ty) (columns : List ColumnSite) where
   typed_to_end before (rule ∷ rules) h e = go (has_typing params columns (before ++ rule ∷ [])) refl (typed_to_end (before ++ rule ∷ []) rules)
     where
       go : (b : Bool) → has_typing params columns (before ++ rule ∷ []) ≡ b
-          → (has_typing params columns (before ++ rule ∷ []) ≡ true → clash_behind params columns (before ++ rule ∷ []) rules ≡ None → has_typing params columns ((before ++ rule ∷ []) ++ rules) ≡ true)
+          → (has_typing params columns (before ++ rule ∷ []) ≡ true → clash_behind params columns (before ++ rule ∷ []) rules ≡ None
+          → has_typing params columns ((before ++ rule ∷ []) ++ rules) ≡ true)
           → has_typing params columns (before ++ rule ∷ rules) ≡ true
       go true t more = ap (has_typing params columns) (sym (push_append params columns before rule rules)) ∙ more t (sym (step_typed params columns before rule rules t) ∙ e)
       go false t more = let k : Some (at_of rule) ≡ None = sym (step_untyped params columns before rule rules t) ∙ e in absurd cc

@@ -17,9 +17,47 @@ use Rattle.sql_tree.specs.Conditions as conditions
 use Rattle.sql_tree.specs.Bound.{BoundRow, BoundAssignment, BoundJoin, BoundItem, BoundItemValue, BoundQuery, BoundStatement, Bound}
 use Rattle.sql_tree.specs.Bound as bound
 use Rattle.sql_tree.specs.Definitions.{keyed_in}
-use Rattle.sql_tree.specs.Uses.{uses_in, uses_in_terms, uses_in_condition, uses_in_conditions, uses_in_filter, uses_in_row, uses_in_assignment, uses_in_value, uses_in_item, uses_in_join, uses_in_statement, uses}
+use Rattle.sql_tree.specs.Uses.{
+  uses_in,
+  uses_in_terms,
+  uses_in_condition,
+  uses_in_conditions,
+  uses_in_filter,
+  uses_in_row,
+  uses_in_assignment,
+  uses_in_value,
+  uses_in_item,
+  uses_in_join,
+  uses_in_statement,
+  uses,
+}
 use Rattle.enc_types.specs.Sites.{site_of_literal, site_of}
-use Rattle.enc_types.specs.Rules.{at_of, first_rules, operand_rules, terms_rules, comparison_rules, in_rules, condition_rules, conditions_rules, filter_rules, key_rule, value_rule, value_rules, row_rules, assignment_rules, site_of_item, distinct_rules, item_rules, order_rule, rows_rules, query_rules, statement_rules, placed, in_order, rules}
+use Rattle.enc_types.specs.Rules.{
+  at_of,
+  first_rules,
+  operand_rules,
+  terms_rules,
+  comparison_rules,
+  in_rules,
+  condition_rules,
+  conditions_rules,
+  filter_rules,
+  key_rule,
+  value_rule,
+  value_rules,
+  row_rules,
+  assignment_rules,
+  site_of_item,
+  distinct_rules,
+  item_rules,
+  order_rule,
+  rows_rules,
+  query_rules,
+  statement_rules,
+  placed,
+  in_order,
+  rules,
+}
 use Rattle.enc_types.specs.Renamed.{KeepsUsed, IsInferredAlike}
 use Rattle.enc_types.specs.Least.{least, clash}
 use Rattle.enc_types.specs.declared.sites.Site.{Site}
@@ -40,7 +78,8 @@ module _ (K : ℕ → Type 0) where
   right : (a b : ℕ → Bool) → Given (λ p. a p || b p) → Given b
   right a b h p e = h p (or_right (a p) (b p) e)
 
-  each : {A : Type 0} (used : ℕ → A → Bool) (asked : A → List Rule) → ((x : A) → Given (λ p. used p x) → AllKnown K (asked x)) → (xs : List A) → Given (λ p. list_any (used p) xs) → AllKnown K (flat_map asked xs)
+  each : {A : Type 0} (used : ℕ → A → Bool) (asked : A → List Rule) → ((x : A) → Given (λ p. used p x) → AllKnown K (asked x))
+      → (xs : List A) → Given (λ p. list_any (used p) xs) → AllKnown K (flat_map asked xs)
   each used asked one [] h = tt
   each used asked one (x ∷ xs) h =
       known_both K (asked x) (flat_map asked xs) (one x (left (λ p. used p x) (λ p. list_any (used p) xs) h)) (each used asked one xs (right (λ p. used p x) (λ p. list_any (used p) xs) h))
@@ -64,15 +103,22 @@ module _ (K : ℕ → Type 0) where
     operand (operands.Minus at o) h = (site o h, operand o h)
     operand (operands.Sum o terms) h =
         known_both K (operand_rules o ++ first_rules o terms) (terms_rules terms)
-        (known_both K (operand_rules o) (first_rules o terms) (operand o (left (λ p. uses_in p o) (λ p. uses_in_terms p terms) h)) (site o (left (λ p. uses_in p o) (λ p. uses_in_terms p terms) h), tt))
+        (known_both K (operand_rules o) (first_rules o terms) (operand o (left (λ p. uses_in p o) (λ p. uses_in_terms p terms) h))
+        (site o (left (λ p. uses_in p o) (λ p. uses_in_terms p terms) h), tt))
         (all_terms terms (right (λ p. uses_in p o) (λ p. uses_in_terms p terms) h))
 
     all_terms : (ts : Terms ℕ ℕ) → Given (λ p. uses_in_terms p ts) → AllKnown K (terms_rules ts)
     all_terms operands.NoMore h = tt
-    all_terms (operands.PlusThen at o more) h =
-        (site o (left (λ p. uses_in p o) (λ p. uses_in_terms p more) h), known_both K (operand_rules o) (terms_rules more) (operand o (left (λ p. uses_in p o) (λ p. uses_in_terms p more) h)) (all_terms more (right (λ p. uses_in p o) (λ p. uses_in_terms p more) h)))
-    all_terms (operands.MinusThen at o more) h =
-        (site o (left (λ p. uses_in p o) (λ p. uses_in_terms p more) h), known_both K (operand_rules o) (terms_rules more) (operand o (left (λ p. uses_in p o) (λ p. uses_in_terms p more) h)) (all_terms more (right (λ p. uses_in p o) (λ p. uses_in_terms p more) h)))
+    all_terms (operands.PlusThen at o more) h = (
+      site o (left (λ p. uses_in p o) (λ p. uses_in_terms p more) h),
+      known_both K (operand_rules o)
+          (terms_rules more) (operand o (left (λ p. uses_in p o) (λ p. uses_in_terms p more) h)) (all_terms more (right (λ p. uses_in p o) (λ p. uses_in_terms p more) h)),
+    )
+    all_terms (operands.MinusThen at o more) h = (
+      site o (left (λ p. uses_in p o) (λ p. uses_in_terms p more) h),
+      known_both K (operand_rules o)
+          (terms_rules more) (operand o (left (λ p. uses_in p o) (λ p. uses_in_terms p more) h)) (all_terms more (right (λ p. uses_in p o) (λ p. uses_in_terms p more) h)),
+    )
 
   compared : (at : ℕ) (c : Comparison) (x y : Site) → KnownSite K x → KnownSite K y → AllKnown K (comparison_rules at c x y)
   compared at comparison.Equal x y k l = ((k, l), (k, tt))
@@ -109,7 +155,8 @@ module _ (K : ℕ → Type 0) where
     all_conditions : (cs : Conditions ℕ ℕ) → Given (λ p. uses_in_conditions p cs) → AllKnown K (conditions_rules cs)
     all_conditions conditions.NoMore h = tt
     all_conditions (conditions.Then c cs) h =
-        known_both K (condition_rules c) (conditions_rules cs) (condition c (left (λ p. uses_in_condition p c) (λ p. uses_in_conditions p cs) h)) (all_conditions cs (right (λ p. uses_in_condition p c) (λ p. uses_in_conditions p cs) h))
+        known_both K (condition_rules c) (conditions_rules cs) (condition c (left (λ p. uses_in_condition p c) (λ p. uses_in_conditions p cs) h))
+        (all_conditions cs (right (λ p. uses_in_condition p c) (λ p. uses_in_conditions p cs) h))
 
   filter : (o : Option (Condition ℕ ℕ)) → Given (λ p. uses_in_filter p o) → AllKnown K (filter_rules o)
   filter None h = tt

@@ -11,7 +11,20 @@ use Rattle.sql_tree.specs.Bound.{BoundRow, BoundAssignment, BoundJoin, BoundItem
 use Rattle.sql_tree.specs.Bound as bound
 use Rattle.sql_tree.specs.declared.bound.ColumnSite.{ColumnSite}
 use Rattle.sql_tree.specs.Placed.{IsPlaced, ArePlaced, IsPlacedCondition, ArePlacedConditions, IsPlacedFilter, ArePlacedJoins, IsPlacedValue, IsPlacedStatement, IsWellPlaced}
-use Rattle.sql_tree.specs.Uses.{uses_in, uses_in_terms, uses_in_condition, uses_in_conditions, uses_in_filter, uses_in_row, uses_in_assignment, uses_in_value, uses_in_item, uses_in_join, uses_in_statement, uses}
+use Rattle.sql_tree.specs.Uses.{
+  uses_in,
+  uses_in_terms,
+  uses_in_condition,
+  uses_in_conditions,
+  uses_in_filter,
+  uses_in_row,
+  uses_in_assignment,
+  uses_in_value,
+  uses_in_item,
+  uses_in_join,
+  uses_in_statement,
+  uses,
+}
 
 either : (a b : Bool) (Q : Type 0) → a || b ≡ true → (a ≡ true → Q) → (b ≡ true → Q) → Q
 either true b Q h left right = left refl
@@ -68,7 +81,8 @@ module _ (p n : ℕ) where
       (λ row g u. one_of (IsPlaced 0 n) (uses_in p) (p < n) (operand 0) row.values g.1 u) insert.rows k.rows h
   statement columns (bound.Update update) k h =
       either (list_any (uses_in_assignment p) update.assignments) (uses_in_filter p update.filter) (p < n) h
-      (one_of (λ (a : BoundAssignment). (a.place < length columns) × IsPlaced (length columns) n a.value) (uses_in_assignment p) (p < n) (λ a g u. operand (length columns) a.value g.1 u) update.assignments k.0)
+      (one_of (λ (a : BoundAssignment). (a.place < length columns) × IsPlaced (length columns) n a.value)
+      (uses_in_assignment p) (p < n) (λ a g u. operand (length columns) a.value g.1 u) update.assignments k.0)
       (filter (length columns) update.filter k.1)
   statement columns (bound.Delete delete) k h = filter (length columns) delete.filter k h
   statement columns (bound.Select q) k h =

@@ -55,7 +55,8 @@ contents_followed tables table (Removes place) = held.contents_remove tables pla
 
 -- ---- tables under other names
 
-zip_renamed : {B : Type 0} (R : TableDef → B → Type 0) (from to : List ℕ) (xs : List TableDef) (ys : List B) → ((t : TableDef) (y : B) → R t y → R (record t { name = to }) y) → AllZip R xs ys → AllZip R (renamed_tables from to xs) ys
+zip_renamed : {B : Type 0} (R : TableDef → B → Type 0) (from to : List ℕ) (xs : List TableDef) (ys : List B)
+    → ((t : TableDef) (y : B) → R t y → R (record t { name = to }) y) → AllZip R xs ys → AllZip R (renamed_tables from to xs) ys
 zip_renamed R from to [] [] f h = tt
 zip_renamed R from to [] (y ∷ ys) f h = absurd h
 zip_renamed R from to (x ∷ xs) [] f h = absurd h
@@ -65,7 +66,8 @@ zip_renamed R from to (x ∷ xs) (y ∷ ys) f h = by (bytes_eq x.name from) (zip
     by true rest = (f x y h.0, h.1)
     by false rest = (h.0, rest)
 
-zip_named : {B : Type 0} (R : TableDef → B → Type 0) (d : BoundDefinition) (xs : List TableDef) (ys : List B) → ((t : TableDef) (name : List ℕ) (y : B) → R t y → R (record t { name = name }) y) → AllZip R xs ys → AllZip R (renamed_by d xs) ys
+zip_named : {B : Type 0} (R : TableDef → B → Type 0) (d : BoundDefinition) (xs : List TableDef) (ys : List B)
+    → ((t : TableDef) (name : List ℕ) (y : B) → R t y → R (record t { name = name }) y) → AllZip R xs ys → AllZip R (renamed_by d xs) ys
 zip_named R (definition.ReplaceTable old new) xs ys f h = zip_renamed R new old xs ys (λ t y r. f t old y r) h
 zip_named R other xs ys f h = h
 
@@ -73,7 +75,8 @@ all_named : (P : TableDef → Type 0) (d : BoundDefinition) (xs : List TableDef)
 all_named P (definition.ReplaceTable old new) xs f h = all_renamed P new old xs (λ t p. f t old p) h
 all_named P other xs f h = h
 
-alike_renamed : (R : Pairing) (from to : List ℕ) (defs : List TableDef) (contents others : List (List (List Atom))) → ContentsCorrespond R defs contents others → ContentsCorrespond R (renamed_tables from to defs) contents others
+alike_renamed : (R : Pairing) (from to : List ℕ) (defs : List TableDef) (contents others : List (List (List Atom)))
+    → ContentsCorrespond R defs contents others → ContentsCorrespond R (renamed_tables from to defs) contents others
 alike_renamed R from to [] [] [] h = tt
 alike_renamed R from to [] [] (o ∷ others) h = absurd h
 alike_renamed R from to [] (c ∷ contents) others h = absurd h
@@ -81,11 +84,13 @@ alike_renamed R from to (d ∷ defs) [] others h = absurd h
 alike_renamed R from to (d ∷ defs) (c ∷ contents) [] h = absurd h
 alike_renamed R from to (d ∷ defs) (c ∷ contents) (o ∷ others) h = by (bytes_eq d.name from) (alike_renamed R from to defs contents others h.1)
   where
-    by : (b : Bool) → ContentsCorrespond R (renamed_tables from to defs) contents others → ContentsCorrespond R (if b then record d { name = to } ∷ defs else d ∷ renamed_tables from to defs) (c ∷ contents) (o ∷ others)
+    by : (b : Bool) → ContentsCorrespond R (renamed_tables from to defs) contents others
+        → ContentsCorrespond R (if b then record d { name = to } ∷ defs else d ∷ renamed_tables from to defs) (c ∷ contents) (o ∷ others)
     by true rest = h
     by false rest = (h.0, rest)
 
-alike_named : (R : Pairing) (d : BoundDefinition) (defs : List TableDef) (contents others : List (List (List Atom))) → ContentsCorrespond R defs contents others → ContentsCorrespond R (renamed_by d defs) contents others
+alike_named : (R : Pairing) (d : BoundDefinition) (defs : List TableDef) (contents others : List (List (List Atom)))
+    → ContentsCorrespond R defs contents others → ContentsCorrespond R (renamed_by d defs) contents others
 alike_named R (definition.ReplaceTable old new) defs contents others h = alike_renamed R new old defs contents others h
 alike_named R other defs contents others h = h
 
@@ -93,7 +98,8 @@ alike_named R other defs contents others h = h
 
 module _ (catalog new : Catalog) (d : BoundDefinition) (accepted : defined_by catalog d ≡ Ok new) where
   -- what doesn't depend on a table's name
-  pub zip_defined : {B : Type 0} (R : TableDef → B → Type 0) (ys : List B) (y : B) → ((t : TableDef) (name : List ℕ) (y : B) → R t y → R (record t { name = name }) y) → AllZip R catalog.tables ys → ((table : BoundTable) → d ≡ definition.CreateTable table → R table.def y)
+  pub zip_defined : {B : Type 0} (R : TableDef → B → Type 0) (ys : List B) (y : B)
+      → ((t : TableDef) (name : List ℕ) (y : B) → R t y → R (record t { name = name }) y) → AllZip R catalog.tables ys → ((table : BoundTable) → d ≡ definition.CreateTable table → R table.def y)
       → AllZip R new.tables (followed y (effect_of catalog d) ys)
   zip_defined R ys y unnamed h made =
       let t = tables_follow catalog new d accepted in
@@ -101,10 +107,13 @@ module _ (catalog new : Catalog) (d : BoundDefinition) (accepted : defined_by ca
       (zip_named R d (followed t.def (effect_of catalog d) catalog.tables) (followed y (effect_of catalog d) ys) unnamed
       (zip_followed R catalog.tables ys t.def y (effect_of catalog d) h (λ adds. let m = t.made adds in subst (λ def. R def y) m.2 (made m.0 m.1))))
 
-  pub all_defined : (P : TableDef → Type 0) → ((t : TableDef) (name : List ℕ) → P t → P (record t { name = name })) → All P catalog.tables → ((table : BoundTable) → d ≡ definition.CreateTable table → P table.def) → All P new.tables
+  pub all_defined : (P : TableDef → Type 0) → ((t : TableDef) (name : List ℕ) → P t → P (record t { name = name }))
+      → All P catalog.tables → ((table : BoundTable) → d ≡ definition.CreateTable table → P table.def) → All P new.tables
   all_defined P unnamed h made =
       let t = tables_follow catalog new d accepted in
-      subst (All P) (sym t.tables) (all_named P d (followed t.def (effect_of catalog d) catalog.tables) unnamed (all_followed P catalog.tables t.def (effect_of catalog d) h (λ adds. let m = t.made adds in subst P m.2 (made m.0 m.1))))
+      subst (All P) (sym t.tables)
+      (all_named P d (followed t.def (effect_of catalog d) catalog.tables) unnamed
+      (all_followed P catalog.tables t.def (effect_of catalog d) h (λ adds. let m = t.made adds in subst P m.2 (made m.0 m.1))))
 
   pub alike_defined : (R : Pairing) (contents others : List (List (List Atom))) → ContentsCorrespond R catalog.tables contents others
       → ContentsCorrespond R new.tables (followed [] (effect_of catalog d) contents) (followed [] (effect_of catalog d) others)

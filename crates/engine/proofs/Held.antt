@@ -37,7 +37,8 @@ contents_long [] = refl
 contents_long (t ∷ tables) = ap suc (contents_long tables)
 
 -- a table with the same keys in the place of another
-pub keyed_set : (defs : List TableDef) (tables : List Held) (place : ℕ) (table new : Held) → AllZip IsKeyed defs tables → place < length tables → table ≡ get_or tables place table → new.keys ≡ table.keys → AllZip IsKeyed defs (slice_set tables place new)
+pub keyed_set : (defs : List TableDef) (tables : List Held) (place : ℕ) (table new : Held) → AllZip IsKeyed defs tables
+    → place < length tables → table ≡ get_or tables place table → new.keys ≡ table.keys → AllZip IsKeyed defs (slice_set tables place new)
 keyed_set [] [] place table new h lt e k = tt
 keyed_set [] (t ∷ tables) place table new h lt e k = absurd h
 keyed_set (d ∷ defs) [] place table new h lt e k = absurd h
@@ -45,7 +46,8 @@ keyed_set (d ∷ defs) (t ∷ tables) zero table new h lt e k = (k ∙ ap (λ (x
 keyed_set (d ∷ defs) (t ∷ tables) (suc place) table new h lt e k = (h.0, keyed_set defs tables place table new h.1 (omega (arith, lt)) e k)
 
 -- its keys are those of the definition in its place
-pub keyed_there : (defs : List TableDef) (tables : List Held) (place : ℕ) (table : Held) (def : TableDef) → AllZip IsKeyed defs tables → table ≡ get_or tables place table → slice_get defs place ≡ Some def → place < length tables → table.keys ≡ def.uniques
+pub keyed_there : (defs : List TableDef) (tables : List Held) (place : ℕ) (table : Held) (def : TableDef)
+    → AllZip IsKeyed defs tables → table ≡ get_or tables place table → slice_get defs place ≡ Some def → place < length tables → table.keys ≡ def.uniques
 keyed_there [] tables place table def h e s lt = absurd cc
 keyed_there (d ∷ defs) [] place table def h e s lt = absurd h
 keyed_there (d ∷ defs) (t ∷ tables) zero table def h e s lt =

@@ -84,7 +84,8 @@ param_blames : (declarations : List ParamDecl) (name : List ℕ) → Blames (par
 param_blames declarations name = looked_up (fault.NoParam name) _ (no_param name)
 
 new_blames : (columns : List ColumnDef) (name : List ℕ) (given : Bool) → Blames (new_place columns name given)
-new_blames columns name given = both (or_fault (fault.NoColumn name) _) _ (looked_up (fault.NoColumn name) _ (no_column name)) (λ place. unless given (Ok place) (fault.Ambiguous name) (ambiguous name) tt)
+new_blames columns name given = both (or_fault (fault.NoColumn name) _) _ (looked_up (fault.NoColumn name) _ (no_column name))
+    (λ place. unless given (Ok place) (fault.Ambiguous name) (ambiguous name) tt)
 
 pub named_blames : (columns : List ColumnDef) (before : List (List ℕ)) (name : List ℕ) → Blames (named_place columns before name)
 named_blames columns before name = new_blames columns name _

@@ -47,13 +47,16 @@ mutual
 
   terms_kept : (s : Scope) (ds es : List ParamDecl) (f : ℕ → ℕ) (o : Terms ColumnRef (List ℕ)) (b : Terms ℕ ℕ) → bind_terms s ds o ≡ Ok b → Keeps ds es f (λ p. uses_in_terms p b)
       → bind_terms s es o ≡ Ok (renamed_terms f b)
-  terms_kept s ds es f operands.NoMore b e = let i : operands.NoMore ≡ b = cc in subst (λ z. Keeps ds es f (λ p. uses_in_terms p z) → bind_terms s es operands.NoMore ≡ Ok (renamed_terms f z)) i (λ k. refl)
+  terms_kept s ds es f operands.NoMore b e = let i : operands.NoMore ≡ b = cc in subst
+      (λ z. Keeps ds es f (λ p. uses_in_terms p z) → bind_terms s es operands.NoMore ≡ Ok (renamed_terms f z)) i (λ k. refl)
   terms_kept s ds es f (operands.PlusThen at x terms) b e =
-      two_parts (bind_operand s ds x) (bind_terms s ds terms) (operands.PlusThen at) b (λ z. Keeps ds es f (λ p. uses_in_terms p z) → bind_terms s es (operands.PlusThen at x terms) ≡ Ok (renamed_terms f z)) e
+      two_parts (bind_operand s ds x) (bind_terms s ds terms) (operands.PlusThen at) b
+      (λ z. Keeps ds es f (λ p. uses_in_terms p z) → bind_terms s es (operands.PlusThen at x terms) ≡ Ok (renamed_terms f z)) e
       (λ a m ea em k. two_ok (bind_operand s es x) (bind_terms s es terms) (operands.PlusThen at) (renamed_operand f a) (renamed_terms f m)
       (operand_kept s ds es f x a ea (left (λ p. uses_in p a) (λ p. uses_in_terms p m) k)) (terms_kept s ds es f terms m em (right (λ p. uses_in p a) (λ p. uses_in_terms p m) k)))
   terms_kept s ds es f (operands.MinusThen at x terms) b e =
-      two_parts (bind_operand s ds x) (bind_terms s ds terms) (operands.MinusThen at) b (λ z. Keeps ds es f (λ p. uses_in_terms p z) → bind_terms s es (operands.MinusThen at x terms) ≡ Ok (renamed_terms f z)) e
+      two_parts (bind_operand s ds x) (bind_terms s ds terms) (operands.MinusThen at) b
+      (λ z. Keeps ds es f (λ p. uses_in_terms p z) → bind_terms s es (operands.MinusThen at x terms) ≡ Ok (renamed_terms f z)) e
       (λ a m ea em k. two_ok (bind_operand s es x) (bind_terms s es terms) (operands.MinusThen at) (renamed_operand f a) (renamed_terms f m)
       (operand_kept s ds es f x a ea (left (λ p. uses_in p a) (λ p. uses_in_terms p m) k)) (terms_kept s ds es f terms m em (right (λ p. uses_in p a) (λ p. uses_in_terms p m) k)))
 
@@ -69,7 +72,8 @@ each_kept ds es f g h us r one (x ∷ xs) ys e =
     (one x y ey (left (λ p. us p y) (λ p. list_any (us p) zs) k)) (each_kept ds es f g h us r one xs zs ez (right (λ p. us p y) (λ p. list_any (us p) zs) k)))
 
 pub each_from_kept : {A B : Type 0} (ds es : List ParamDecl) (f : ℕ → ℕ) (g h : ℕ → A → Result B SqlFault) (us : ℕ → B → Bool) (r : B → B)
-    → ((i : ℕ) (x : A) (y : B) → g i x ≡ Ok y → Keeps ds es f (λ p. us p y) → h i x ≡ Ok (r y)) → (xs : List A) (i : ℕ) (ys : List B) → each_from g i xs ≡ Ok ys → Keeps ds es f (λ p. list_any (us p) ys)
+    → ((i : ℕ) (x : A) (y : B) → g i x ≡ Ok y → Keeps ds es f (λ p. us p y) → h i x ≡ Ok (r y))
+    → (xs : List A) (i : ℕ) (ys : List B) → each_from g i xs ≡ Ok ys → Keeps ds es f (λ p. list_any (us p) ys)
     → each_from h i xs ≡ Ok (map r ys)
 each_from_kept ds es f g h us r one [] i ys e = let j : [] ≡ ys = cc in subst (λ z. Keeps ds es f (λ p. list_any (us p) z) → each_from h i [] ≡ Ok (map r z)) j (λ k. refl)
 each_from_kept ds es f g h us r one (x ∷ xs) i ys e =
@@ -84,17 +88,20 @@ operands_kept s ds es f xs ys e k = each_kept ds es f (bind_operand s ds) (bind_
 -- ---- conditions
 
 mutual
-  pub condition_kept : (s : Scope) (ds es : List ParamDecl) (f : ℕ → ℕ) (o : Condition ColumnRef (List ℕ)) (b : Condition ℕ ℕ) → bind_condition s ds o ≡ Ok b → Keeps ds es f (λ p. uses_in_condition p b)
+  pub condition_kept : (s : Scope) (ds es : List ParamDecl) (f : ℕ → ℕ) (o : Condition ColumnRef (List ℕ)) (b : Condition ℕ ℕ)
+      → bind_condition s ds o ≡ Ok b → Keeps ds es f (λ p. uses_in_condition p b)
       → bind_condition s es o ≡ Ok (renamed_condition f b)
   condition_kept s ds es f (conditions.Compare at c x y) b e =
-      two_parts (bind_operand s ds x) (bind_operand s ds y) (conditions.Compare at c) b (λ z. Keeps ds es f (λ p. uses_in_condition p z) → bind_condition s es (conditions.Compare at c x y) ≡ Ok (renamed_condition f z)) e
+      two_parts (bind_operand s ds x) (bind_operand s ds y) (conditions.Compare at c) b
+      (λ z. Keeps ds es f (λ p. uses_in_condition p z) → bind_condition s es (conditions.Compare at c x y) ≡ Ok (renamed_condition f z)) e
       (λ l r el er k. two_ok (bind_operand s es x) (bind_operand s es y) (conditions.Compare at c) (renamed_operand f l) (renamed_operand f r)
       (operand_kept s ds es f x l el (left (λ p. uses_in p l) (λ p. uses_in p r) k)) (operand_kept s ds es f y r er (right (λ p. uses_in p l) (λ p. uses_in p r) k)))
   condition_kept s ds es f (conditions.IsNull negated x) b e =
       one_part (bind_operand s ds x) (conditions.IsNull negated) b (λ z. Keeps ds es f (λ p. uses_in_condition p z) → bind_condition s es (conditions.IsNull negated x) ≡ Ok (renamed_condition f z)) e
       (λ a ea k. one_ok (bind_operand s es x) (renamed_operand f a) (λ y. Ok (conditions.IsNull negated y)) _ (operand_kept s ds es f x a ea k) refl)
   condition_kept s ds es f (conditions.In at negated x list) b e =
-      two_parts (bind_operand s ds x) (bind_operands s ds list) (conditions.In at negated) b (λ z. Keeps ds es f (λ p. uses_in_condition p z) → bind_condition s es (conditions.In at negated x list) ≡ Ok (renamed_condition f z)) e
+      two_parts (bind_operand s ds x) (bind_operands s ds list) (conditions.In at negated) b
+      (λ z. Keeps ds es f (λ p. uses_in_condition p z) → bind_condition s es (conditions.In at negated x list) ≡ Ok (renamed_condition f z)) e
       (λ a m ea em k. two_ok (bind_operand s es x) (bind_operands s es list) (conditions.In at negated) (renamed_operand f a) (map (renamed_operand f) m)
       (operand_kept s ds es f x a ea (left (λ p. uses_in p a) (λ p. list_any (uses_in p) m) k)) (operands_kept s ds es f list m em (right (λ p. uses_in p a) (λ p. list_any (uses_in p) m) k)))
   condition_kept s ds es f (conditions.Not c) b e =
@@ -107,16 +114,20 @@ mutual
       one_part (bind_conditions s ds any) conditions.AnyOf b (λ z. Keeps ds es f (λ p. uses_in_condition p z) → bind_condition s es (conditions.AnyOf any) ≡ Ok (renamed_condition f z)) e
       (λ a ea k. one_ok (bind_conditions s es any) (renamed_conditions f a) (λ y. Ok (conditions.AnyOf y)) _ (conditions_kept s ds es f any a ea k) refl)
 
-  conditions_kept : (s : Scope) (ds es : List ParamDecl) (f : ℕ → ℕ) (o : Conditions ColumnRef (List ℕ)) (b : Conditions ℕ ℕ) → bind_conditions s ds o ≡ Ok b → Keeps ds es f (λ p. uses_in_conditions p b)
+  conditions_kept : (s : Scope) (ds es : List ParamDecl) (f : ℕ → ℕ) (o : Conditions ColumnRef (List ℕ)) (b : Conditions ℕ ℕ)
+      → bind_conditions s ds o ≡ Ok b → Keeps ds es f (λ p. uses_in_conditions p b)
       → bind_conditions s es o ≡ Ok (renamed_conditions f b)
   conditions_kept s ds es f conditions.NoMore b e =
       let i : conditions.NoMore ≡ b = cc in subst (λ z. Keeps ds es f (λ p. uses_in_conditions p z) → bind_conditions s es conditions.NoMore ≡ Ok (renamed_conditions f z)) i (λ k. refl)
   conditions_kept s ds es f (conditions.Then c all) b e =
-      two_parts (bind_condition s ds c) (bind_conditions s ds all) conditions.Then b (λ z. Keeps ds es f (λ p. uses_in_conditions p z) → bind_conditions s es (conditions.Then c all) ≡ Ok (renamed_conditions f z)) e
+      two_parts (bind_condition s ds c) (bind_conditions s ds all) conditions.Then b
+      (λ z. Keeps ds es f (λ p. uses_in_conditions p z) → bind_conditions s es (conditions.Then c all) ≡ Ok (renamed_conditions f z)) e
       (λ a m ea em k. two_ok (bind_condition s es c) (bind_conditions s es all) conditions.Then (renamed_condition f a) (renamed_conditions f m)
-      (condition_kept s ds es f c a ea (left (λ p. uses_in_condition p a) (λ p. uses_in_conditions p m) k)) (conditions_kept s ds es f all m em (right (λ p. uses_in_condition p a) (λ p. uses_in_conditions p m) k)))
+      (condition_kept s ds es f c a ea (left (λ p. uses_in_condition p a) (λ p. uses_in_conditions p m) k))
+      (conditions_kept s ds es f all m em (right (λ p. uses_in_condition p a) (λ p. uses_in_conditions p m) k)))
 
-pub filter_kept : (s : Scope) (ds es : List ParamDecl) (f : ℕ → ℕ) (o : Option (Condition ColumnRef (List ℕ))) (b : Option (Condition ℕ ℕ)) → bind_filter s ds o ≡ Ok b → Keeps ds es f (λ p. uses_in_filter p b)
+pub filter_kept : (s : Scope) (ds es : List ParamDecl) (f : ℕ → ℕ) (o : Option (Condition ColumnRef (List ℕ))) (b : Option (Condition ℕ ℕ))
+    → bind_filter s ds o ≡ Ok b → Keeps ds es f (λ p. uses_in_filter p b)
     → bind_filter s es o ≡ Ok (renamed_filter f b)
 filter_kept s ds es f None b e = let i : None ≡ b = cc in subst (λ z. Keeps ds es f (λ p. uses_in_filter p z) → bind_filter s es None ≡ Ok (renamed_filter f z)) i (λ k. refl)
 filter_kept s ds es f (Some c) b e =

@@ -1,5 +1,34 @@
 -- What is bound lies within its columns and parameters.
-use Rattle.std.proofs.Common.{◌≡◌, ℕ, ◌+◌, ◌<◌, ◌≤◌, List, [], ◌∷◌, length, length-append, map, refl, ap, subst, ◌∙◌, arith, Bool, true, false, cond, nat_lt, nat_le, Option, Some, None, Result, Ok, Err}
+use Rattle.std.proofs.Common.{
+  ◌≡◌,
+  ℕ,
+  ◌+◌,
+  ◌<◌,
+  ◌≤◌,
+  List,
+  [],
+  ◌∷◌,
+  length,
+  length-append,
+  map,
+  refl,
+  ap,
+  subst,
+  ◌∙◌,
+  arith,
+  Bool,
+  true,
+  false,
+  cond,
+  nat_lt,
+  nat_le,
+  Option,
+  Some,
+  None,
+  Result,
+  Ok,
+  Err,
+}
 use Rattle.std.specs.List.{All, position, position_or_len}
 use Rattle.std.specs.Str.{bytes_eq}
 use Rattle.std.proofs.lemmas.Bool.{ltb-true, leb-true}
@@ -21,7 +50,23 @@ use Rattle.sql_tree.specs.Conditions.{Condition, Conditions}
 use Rattle.sql_tree.specs.Conditions as conditions
 use Rattle.sql_tree.specs.Placed.{site_of, IsShort, IsPlaced, ArePlaced, IsPlacedCondition, ArePlacedConditions, IsPlacedFilter}
 use Rattle.expression_binding.specs.Walks.{each_from}
-use Rattle.expression_binding.specs.Scopes.{Source, Scope, ScopeColumn, nothing_in_scope, with_source, with_sources, scope_of, sites_of, is_meant, places_from, one_place, known_source, param_place, column_place, new_place}
+use Rattle.expression_binding.specs.Scopes.{
+  Source,
+  Scope,
+  ScopeColumn,
+  nothing_in_scope,
+  with_source,
+  with_sources,
+  scope_of,
+  sites_of,
+  is_meant,
+  places_from,
+  one_place,
+  known_source,
+  param_place,
+  column_place,
+  new_place,
+}
 use Rattle.expression_binding.specs.Names.{short, bind_operand, bind_terms, bind_operands, bind_condition, bind_conditions, bind_filter}
 use Rattle.expression_binding.proofs.Parts.{one_part, two_parts, first_part}
 
@@ -96,40 +141,51 @@ mutual
   terms_placed : (s : Scope) (ds : List ParamDecl) (o : Terms ColumnRef (List ℕ)) (b : Terms ℕ ℕ) → bind_terms s ds o ≡ Ok b → ArePlaced (length s.columns) (length ds) b
   terms_placed s ds operands.NoMore b e = let i : operands.NoMore ≡ b = cc in subst (ArePlaced (length s.columns) (length ds)) i tt
   terms_placed s ds (operands.PlusThen at x terms) b e =
-      two_parts (bind_operand s ds x) (bind_terms s ds terms) (operands.PlusThen at) b (ArePlaced (length s.columns) (length ds)) e (λ a m ea em. (operand_placed s ds x a ea, terms_placed s ds terms m em))
+      two_parts (bind_operand s ds x) (bind_terms s ds terms) (operands.PlusThen at) b (ArePlaced (length s.columns) (length ds))
+      e (λ a m ea em. (operand_placed s ds x a ea, terms_placed s ds terms m em))
   terms_placed s ds (operands.MinusThen at x terms) b e =
-      two_parts (bind_operand s ds x) (bind_terms s ds terms) (operands.MinusThen at) b (ArePlaced (length s.columns) (length ds)) e (λ a m ea em. (operand_placed s ds x a ea, terms_placed s ds terms m em))
+      two_parts (bind_operand s ds x) (bind_terms s ds terms) (operands.MinusThen at) b (ArePlaced (length s.columns) (length ds))
+      e (λ a m ea em. (operand_placed s ds x a ea, terms_placed s ds terms m em))
 
 pub each_placed : {A B : Type 0} (P : B → Type 0) (g : A → Result B SqlFault) → ((x : A) (y : B) → g x ≡ Ok y → P y) → (xs : List A) (ys : List B) → each g xs ≡ Ok ys → All P ys
 each_placed P g one [] ys e = let i : [] ≡ ys = cc in subst (All P) i (λ k d lt. absurd (omega (arith, lt)))
 each_placed P g one (x ∷ xs) ys e = two_parts (g x) (each g xs) ◌∷◌ ys (All P) e (λ y zs ey ez. All-cons P y zs (one x y ey) (each_placed P g one xs zs ez))
 
-pub operands_placed : (s : Scope) (ds : List ParamDecl) (xs : List (Operand ColumnRef (List ℕ))) (ys : List (Operand ℕ ℕ)) → bind_operands s ds xs ≡ Ok ys → All (IsPlaced (length s.columns) (length ds)) ys
+pub operands_placed : (s : Scope) (ds : List ParamDecl) (xs : List (Operand ColumnRef (List ℕ))) (ys : List (Operand ℕ ℕ))
+    → bind_operands s ds xs ≡ Ok ys → All (IsPlaced (length s.columns) (length ds)) ys
 operands_placed s ds xs ys e = each_placed (IsPlaced (length s.columns) (length ds)) (bind_operand s ds) (λ x y. operand_placed s ds x y) xs ys e
 
 mutual
   pub condition_placed : (s : Scope) (ds : List ParamDecl) (o : Condition ColumnRef (List ℕ)) (b : Condition ℕ ℕ) → bind_condition s ds o ≡ Ok b → IsPlacedCondition (length s.columns) (length ds) b
   condition_placed s ds (conditions.Compare at c x y) b e =
-      two_parts (bind_operand s ds x) (bind_operand s ds y) (conditions.Compare at c) b (IsPlacedCondition (length s.columns) (length ds)) e (λ l r el er. (operand_placed s ds x l el, operand_placed s ds y r er))
-  condition_placed s ds (conditions.IsNull negated x) b e = one_part (bind_operand s ds x) (conditions.IsNull negated) b (IsPlacedCondition (length s.columns) (length ds)) e (λ a ea. operand_placed s ds x a ea)
+      two_parts (bind_operand s ds x) (bind_operand s ds y) (conditions.Compare at c) b
+      (IsPlacedCondition (length s.columns) (length ds)) e (λ l r el er. (operand_placed s ds x l el, operand_placed s ds y r er))
+  condition_placed s ds (conditions.IsNull negated x) b e = one_part (bind_operand s ds x) (conditions.IsNull negated)
+      b (IsPlacedCondition (length s.columns) (length ds)) e (λ a ea. operand_placed s ds x a ea)
   condition_placed s ds (conditions.In at negated x list) b e =
-      two_parts (bind_operand s ds x) (bind_operands s ds list) (conditions.In at negated) b (IsPlacedCondition (length s.columns) (length ds)) e (λ a m ea em. (operand_placed s ds x a ea, operands_placed s ds list m em))
+      two_parts (bind_operand s ds x) (bind_operands s ds list) (conditions.In at negated) b
+      (IsPlacedCondition (length s.columns) (length ds)) e (λ a m ea em. (operand_placed s ds x a ea, operands_placed s ds list m em))
   condition_placed s ds (conditions.Not c) b e = one_part (bind_condition s ds c) conditions.Not b (IsPlacedCondition (length s.columns) (length ds)) e (λ a ea. condition_placed s ds c a ea)
-  condition_placed s ds (conditions.AllOf all) b e = one_part (bind_conditions s ds all) conditions.AllOf b (IsPlacedCondition (length s.columns) (length ds)) e (λ a ea. conditions_placed s ds all a ea)
-  condition_placed s ds (conditions.AnyOf any) b e = one_part (bind_conditions s ds any) conditions.AnyOf b (IsPlacedCondition (length s.columns) (length ds)) e (λ a ea. conditions_placed s ds any a ea)
+  condition_placed s ds (conditions.AllOf all) b e = one_part (bind_conditions s ds all) conditions.AllOf b
+      (IsPlacedCondition (length s.columns) (length ds)) e (λ a ea. conditions_placed s ds all a ea)
+  condition_placed s ds (conditions.AnyOf any) b e = one_part (bind_conditions s ds any) conditions.AnyOf b
+      (IsPlacedCondition (length s.columns) (length ds)) e (λ a ea. conditions_placed s ds any a ea)
 
   conditions_placed : (s : Scope) (ds : List ParamDecl) (o : Conditions ColumnRef (List ℕ)) (b : Conditions ℕ ℕ) → bind_conditions s ds o ≡ Ok b → ArePlacedConditions (length s.columns) (length ds) b
   conditions_placed s ds conditions.NoMore b e = let i : conditions.NoMore ≡ b = cc in subst (ArePlacedConditions (length s.columns) (length ds)) i tt
   conditions_placed s ds (conditions.Then c all) b e =
-      two_parts (bind_condition s ds c) (bind_conditions s ds all) conditions.Then b (ArePlacedConditions (length s.columns) (length ds)) e (λ a m ea em. (condition_placed s ds c a ea, conditions_placed s ds all m em))
+      two_parts (bind_condition s ds c) (bind_conditions s ds all) conditions.Then b
+      (ArePlacedConditions (length s.columns) (length ds)) e (λ a m ea em. (condition_placed s ds c a ea, conditions_placed s ds all m em))
 
-pub filter_placed : (s : Scope) (ds : List ParamDecl) (o : Option (Condition ColumnRef (List ℕ))) (b : Option (Condition ℕ ℕ)) → bind_filter s ds o ≡ Ok b → IsPlacedFilter (length s.columns) (length ds) b
+pub filter_placed : (s : Scope) (ds : List ParamDecl) (o : Option (Condition ColumnRef (List ℕ))) (b : Option (Condition ℕ ℕ))
+    → bind_filter s ds o ≡ Ok b → IsPlacedFilter (length s.columns) (length ds) b
 filter_placed s ds None b e = let i : None ≡ b = cc in subst (IsPlacedFilter (length s.columns) (length ds)) i tt
 filter_placed s ds (Some c) b e = one_part (bind_condition s ds c) Some b (IsPlacedFilter (length s.columns) (length ds)) e (λ a ea. condition_placed s ds c a ea)
 
 -- ---- lists with their numbers
 
-pub each_from_placed : {A B : Type 0} (P : B → Type 0) (g : ℕ → A → Result B SqlFault) → ((i : ℕ) (x : A) (y : B) → g i x ≡ Ok y → P y) → (xs : List A) (i : ℕ) (ys : List B) → each_from g i xs ≡ Ok ys → All P ys
+pub each_from_placed : {A B : Type 0} (P : B → Type 0) (g : ℕ → A → Result B SqlFault)
+    → ((i : ℕ) (x : A) (y : B) → g i x ≡ Ok y → P y) → (xs : List A) (i : ℕ) (ys : List B) → each_from g i xs ≡ Ok ys → All P ys
 each_from_placed P g one [] i ys e = let j : [] ≡ ys = cc in subst (All P) j (All-nil P)
 each_from_placed P g one (x ∷ xs) i ys e = two_parts (g i x) (each_from g (i + 1) xs) ◌∷◌ ys (All P) e (λ y zs ey ez. All-cons P y zs (one i x y ey) (each_from_placed P g one xs (i + 1) zs ez))
 

@@ -58,7 +58,8 @@ one_operand A (Ok o) (Err e) h = refl
 one_operand A (Ok o) (Ok m) h = ap Ok (h o m)
 
 term_first : (scope : Scope) (declarations : List ParamDecl) (term : code_term.Term ColumnRef (List ℕ)) (rest : Terms ColumnRef (List ℕ))
-    → bind_terms scope declarations (term_before term rest) ≡ (bind_terms scope declarations (terms_listed (term ∷ [])) >>= λ front. bind_terms scope declarations rest >>= λ more. Ok (then_terms front more))
+    → bind_terms scope declarations (term_before term rest) ≡
+    (bind_terms scope declarations (terms_listed (term ∷ [])) >>= λ front. bind_terms scope declarations rest >>= λ more. Ok (then_terms front more))
 term_first scope declarations (code_term.Plus at operand) rest =
     one_operand (operands.PlusThen at) (bind_operand scope declarations (operand_of operand)) (bind_terms scope declarations rest) (λ o m. refl)
 term_first scope declarations (code_term.Minus at operand) rest =
@@ -69,16 +70,19 @@ onto_terms_push : (bound : List (code_term.Term ℕ ℕ)) (term : code_term.Term
 onto_terms_push bound term (Err e) = refl
 onto_terms_push bound term (Ok more) = ap Ok (sym (terms_push bound term more))
 
-terms_next : (scope : Scope) (declarations : List ParamDecl) (whole : Result (Terms ℕ ℕ) SqlFault) (bound : List (code_term.Term ℕ ℕ)) (terms : List (code_term.Term ColumnRef (List ℕ))) (i : ℕ) (term : code_term.Term ColumnRef (List ℕ))
+terms_next : (scope : Scope) (declarations : List ParamDecl) (whole : Result (Terms ℕ ℕ) SqlFault)
+    (bound : List (code_term.Term ℕ ℕ)) (terms : List (code_term.Term ColumnRef (List ℕ))) (i : ℕ) (term : code_term.Term ColumnRef (List ℕ))
     → i < length terms → term ≡ get_or terms i term → whole ≡ onto_terms (terms_listed bound) (bind_terms scope declarations (terms_listed (drop i terms)))
-    → whole ≡ onto_terms (terms_listed bound) (bind_terms scope declarations (terms_listed (term ∷ [])) >>= λ front. bind_terms scope declarations (terms_listed (drop (i + 1) terms)) >>= λ more. Ok (then_terms front more))
+    → whole ≡ onto_terms (terms_listed bound)
+    (bind_terms scope declarations (terms_listed (term ∷ [])) >>= λ front. bind_terms scope declarations (terms_listed (drop (i + 1) terms)) >>= λ more. Ok (then_terms front more))
 terms_next scope declarations whole bound terms i term lt e w =
     w ∙ at_drop_more (λ left. onto_terms (terms_listed bound) (bind_terms scope declarations (terms_listed left))) terms i term lt
     ∙ ap (λ z. onto_terms (terms_listed bound) (bind_terms scope declarations (terms_listed (z ∷ drop (i + 1) terms)))) (sym e)
     ∙ ap (onto_terms (terms_listed bound)) (term_first scope declarations term (terms_listed (drop (i + 1) terms)))
 
 -- a term that is bound stands behind those before it
-pub terms_more : (scope : Scope) (declarations : List ParamDecl) (whole : Result (Terms ℕ ℕ) SqlFault) (bound : List (code_term.Term ℕ ℕ)) (one : code_term.Term ℕ ℕ) (terms : List (code_term.Term ColumnRef (List ℕ))) (i : ℕ) (term : code_term.Term ColumnRef (List ℕ))
+pub terms_more : (scope : Scope) (declarations : List ParamDecl) (whole : Result (Terms ℕ ℕ) SqlFault)
+    (bound : List (code_term.Term ℕ ℕ)) (one : code_term.Term ℕ ℕ) (terms : List (code_term.Term ColumnRef (List ℕ))) (i : ℕ) (term : code_term.Term ColumnRef (List ℕ))
     → i < length terms → term ≡ get_or terms i term → whole ≡ onto_terms (terms_listed bound) (bind_terms scope declarations (terms_listed (drop i terms)))
     → bind_terms scope declarations (terms_listed (term ∷ [])) ≡ Ok (terms_listed (one ∷ []))
     → whole ≡ onto_terms (terms_listed (bound ++ one ∷ [])) (bind_terms scope declarations (terms_listed (drop (i + 1) terms)))
@@ -88,7 +92,8 @@ terms_more scope declarations whole bound one terms i term lt e w h =
     ∙ onto_terms_push bound one (bind_terms scope declarations (terms_listed (drop (i + 1) terms)))
 
 -- one that isn't is the fault of the whole
-pub terms_fault : (scope : Scope) (declarations : List ParamDecl) (whole : Result (Terms ℕ ℕ) SqlFault) (bound : List (code_term.Term ℕ ℕ)) (fault : SqlFault) (terms : List (code_term.Term ColumnRef (List ℕ))) (i : ℕ) (term : code_term.Term ColumnRef (List ℕ))
+pub terms_fault : (scope : Scope) (declarations : List ParamDecl) (whole : Result (Terms ℕ ℕ) SqlFault)
+    (bound : List (code_term.Term ℕ ℕ)) (fault : SqlFault) (terms : List (code_term.Term ColumnRef (List ℕ))) (i : ℕ) (term : code_term.Term ColumnRef (List ℕ))
     → i < length terms → term ≡ get_or terms i term → whole ≡ onto_terms (terms_listed bound) (bind_terms scope declarations (terms_listed (drop i terms)))
     → bind_terms scope declarations (terms_listed (term ∷ [])) ≡ Err fault → whole ≡ Err fault
 terms_fault scope declarations whole bound fault terms i term lt e w h =
@@ -120,15 +125,18 @@ then_no_conditions (conditions.Then condition all) = ap (conditions.Then conditi
 
 -- ---- a sum, part by part
 
-sum_parts : (scope : Scope) (declarations : List ParamDecl) (operand one : code.Operand ColumnRef (List ℕ)) (first : Box (code.Operand ColumnRef (List ℕ)) Global) (terms : Vec (code_term.Term ColumnRef (List ℕ)) Global) (items : List (code_term.Term ColumnRef (List ℕ)))
+sum_parts : (scope : Scope) (declarations : List ParamDecl) (operand one : code.Operand ColumnRef (List ℕ))
+    (first : Box (code.Operand ColumnRef (List ℕ)) Global) (terms : Vec (code_term.Term ColumnRef (List ℕ)) Global) (items : List (code_term.Term ColumnRef (List ℕ)))
     → operand ≡ code.Sum first terms → one ≡ first.value → items ≡ terms.items
     → bind_operand scope declarations (operand_of operand)
     ≡ (bind_operand scope declarations (operand_of one) >>= λ o. bind_terms scope declarations (terms_listed items) >>= λ more. Ok (operands.Sum o more))
 sum_parts scope declarations operand one first terms items e f g =
     ap (λ o. bind_operand scope declarations (operand_of o)) e
-    ∙ ap (bind_operand scope declarations) (operand_of-Sum first terms ∙ ap (λ x. operands.Sum (operand_of x) (terms_listed terms.items)) (sym f) ∙ ap (λ x. operands.Sum (operand_of one) (terms_listed x)) (sym g))
+    ∙ ap (bind_operand scope declarations)
+    (operand_of-Sum first terms ∙ ap (λ x. operands.Sum (operand_of x) (terms_listed terms.items)) (sym f) ∙ ap (λ x. operands.Sum (operand_of one) (terms_listed x)) (sym g))
 
-pub sum_fault : (scope : Scope) (declarations : List ParamDecl) (operand one : code.Operand ColumnRef (List ℕ)) (first : Box (code.Operand ColumnRef (List ℕ)) Global) (terms : Vec (code_term.Term ColumnRef (List ℕ)) Global) (items : List (code_term.Term ColumnRef (List ℕ)))
+pub sum_fault : (scope : Scope) (declarations : List ParamDecl) (operand one : code.Operand ColumnRef (List ℕ))
+    (first : Box (code.Operand ColumnRef (List ℕ)) Global) (terms : Vec (code_term.Term ColumnRef (List ℕ)) Global) (items : List (code_term.Term ColumnRef (List ℕ)))
     → operand ≡ code.Sum first terms → one ≡ first.value → items ≡ terms.items → (bound : Operand ℕ ℕ) (fault : SqlFault)
     → bind_operand scope declarations (operand_of one) ≡ Ok bound → bind_terms scope declarations (terms_listed items) ≡ Err fault
     → bind_operand scope declarations (operand_of operand) ≡ Err fault
@@ -137,7 +145,8 @@ sum_fault scope declarations operand one first terms items e f g bound fault h k
     ∙ ap (λ r. r >>= λ o. bind_terms scope declarations (terms_listed items) >>= λ more. Ok (operands.Sum o more)) h
     ∙ ap (λ r. r >>= λ more. Ok (operands.Sum bound more)) k
 
-pub sum_bound : (scope : Scope) (declarations : List ParamDecl) (operand one : code.Operand ColumnRef (List ℕ)) (first : Box (code.Operand ColumnRef (List ℕ)) Global) (terms : Vec (code_term.Term ColumnRef (List ℕ)) Global) (items : List (code_term.Term ColumnRef (List ℕ)))
+pub sum_bound : (scope : Scope) (declarations : List ParamDecl) (operand one : code.Operand ColumnRef (List ℕ))
+    (first : Box (code.Operand ColumnRef (List ℕ)) Global) (terms : Vec (code_term.Term ColumnRef (List ℕ)) Global) (items : List (code_term.Term ColumnRef (List ℕ)))
     → operand ≡ code.Sum first terms → one ≡ first.value → items ≡ terms.items → (bound : Operand ℕ ℕ) (more : Terms ℕ ℕ)
     → bind_operand scope declarations (operand_of one) ≡ Ok bound → bind_terms scope declarations (terms_listed items) ≡ Ok more
     → bind_operand scope declarations (operand_of operand) ≡ Ok (operands.Sum bound more)
@@ -151,7 +160,9 @@ pub terms_done : (scope : Scope) (declarations : List ParamDecl) (whole : Result
 terms_done scope declarations whole front terms i le w =
     w ∙ at_drop_all (λ left. onto_terms front (bind_terms scope declarations (terms_listed left))) terms i le ∙ ap Ok (then_no_terms front)
 
-pub conditions_more : (scope : Scope) (declarations : List ParamDecl) (whole : Result (Conditions ℕ ℕ) SqlFault) (bound : List (code_condition.Condition ℕ ℕ)) (one : code_condition.Condition ℕ ℕ) (all : List (code_condition.Condition ColumnRef (List ℕ))) (i : ℕ) (condition : code_condition.Condition ColumnRef (List ℕ))
+pub conditions_more : (scope : Scope) (declarations : List ParamDecl) (whole : Result (Conditions ℕ ℕ) SqlFault)
+    (bound : List (code_condition.Condition ℕ ℕ)) (one : code_condition.Condition ℕ ℕ)
+    (all : List (code_condition.Condition ColumnRef (List ℕ))) (i : ℕ) (condition : code_condition.Condition ColumnRef (List ℕ))
     → i < length all → condition ≡ get_or all i condition → whole ≡ onto_conditions (conditions_listed bound) (bind_conditions scope declarations (conditions_listed (drop i all)))
     → bind_condition scope declarations (condition_of condition) ≡ Ok (condition_of one)
     → whole ≡ onto_conditions (conditions_listed (bound ++ one ∷ [])) (bind_conditions scope declarations (conditions_listed (drop (i + 1) all)))
@@ -161,7 +172,8 @@ conditions_more scope declarations whole bound one all i condition lt e w h =
     ∙ ap (λ r. onto_conditions (conditions_listed bound) (r >>= λ o. bind_conditions scope declarations (conditions_listed (drop (i + 1) all)) >>= λ more. Ok (conditions.Then o more))) h
     ∙ onto_conditions_push bound one (bind_conditions scope declarations (conditions_listed (drop (i + 1) all)))
 
-pub conditions_done : (scope : Scope) (declarations : List ParamDecl) (whole : Result (Conditions ℕ ℕ) SqlFault) (front : Conditions ℕ ℕ) (all : List (code_condition.Condition ColumnRef (List ℕ))) (i : ℕ)
+pub conditions_done : (scope : Scope) (declarations : List ParamDecl) (whole : Result (Conditions ℕ ℕ) SqlFault)
+    (front : Conditions ℕ ℕ) (all : List (code_condition.Condition ColumnRef (List ℕ))) (i : ℕ)
     → length all ≤ i → whole ≡ onto_conditions front (bind_conditions scope declarations (conditions_listed (drop i all))) → whole ≡ Ok front
 conditions_done scope declarations whole front all i le w =
     w ∙ at_drop_all (λ left. onto_conditions front (bind_conditions scope declarations (conditions_listed left))) all i le ∙ ap Ok (then_no_conditions front)

@@ -69,7 +69,8 @@ module _ {C : Type 0} (k : Classing C) (tells : TellsApart k) where
 
   pub own_by : (seen : List (Spot C)) (c : C) (x : List ℕ) → cells_of k (noted k seen c x) c ≡ (if list_any (bytes_eq x) (cells_of k seen c) then cells_of k seen c else (cells_of k seen c ++ x ∷ []))
   own_by seen c x =
-      own_either (is_seen k seen c x) (list_any (bytes_eq x) (cells_of k seen c)) seen (seen ++ record { class = c; cell = x } ∷ []) c (cells_of k seen c) (cells_of k seen c ++ x ∷ []) (there_by seen c x) refl (push_by seen c x)
+      own_either (is_seen k seen c x) (list_any (bytes_eq x) (cells_of k seen c)) seen (seen ++ record { class = c; cell = x } ∷ [])
+      c (cells_of k seen c) (cells_of k seen c ++ x ∷ []) (there_by seen c x) refl (push_by seen c x)
 
   pub others_by : (seen : List (Spot C)) (c d : C) (x : List ℕ) → k.same c d ≡ false → cells_of k (noted k seen c x) d ≡ cells_of k seen d
   others_by seen c d x e = both_same (is_seen k seen c x) seen (seen ++ record { class = c; cell = x } ∷ []) d (cells_of k seen d) refl (push_other seen c d x e)

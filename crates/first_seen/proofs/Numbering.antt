@@ -6,7 +6,28 @@ use Rattle.std.specs.List.{AllZip, Contains}
 use Rattle.std.specs.Str.{bytes_eq}
 use Rattle.std.proofs.lemmas.Slice.Eq.{bytes_eq-Decides}
 use Rattle.std.proofs.lemmas.List.Elements.{Contains-append_left, Contains-append_right, Contains-append_cases, Contains-push, Contains-push_cases}
-use Rattle.first_seen.specs.Parts.{Spot, Classing, counted, number_in, is_seen, noted, Label, label_of, seen_with, labels, seen_past, Part, Listed, entry_of, listing_from, listing, Renames, IsCellRenaming, SpotsPaired, AreRenamed}
+use Rattle.first_seen.specs.Parts.{
+  Spot,
+  Classing,
+  counted,
+  number_in,
+  is_seen,
+  noted,
+  Label,
+  label_of,
+  seen_with,
+  labels,
+  seen_past,
+  Part,
+  Listed,
+  entry_of,
+  listing_from,
+  listing,
+  Renames,
+  IsCellRenaming,
+  SpotsPaired,
+  AreRenamed,
+}
 use Rattle.first_seen.specs.Laws.{Pair, Pairs, pairs_of, pairs_in, TellsApart, seen_after}
 
 -- ---- single steps, by cases
@@ -207,7 +228,8 @@ module _ {C : Type 0} (k : Classing C) (tells : TellsApart k) where
   keeps_with : (seen : List (Spot C)) (s : Spot C) → Keeps seen (seen_with k seen s)
   keeps_with seen s =
       keeps_either (k.is_numbered s.class) seen (noted k seen s.class s.cell) seen
-      (keeps_either (is_seen k seen s.class s.cell) seen seen (seen ++ record { class = s.class; cell = s.cell } ∷ []) (keeps_itself seen) (keeps_more seen (record { class = s.class; cell = s.cell } ∷ [])))
+      (keeps_either (is_seen k seen s.class s.cell) seen seen (seen ++ record { class = s.class; cell = s.cell } ∷ [])
+      (keeps_itself seen) (keeps_more seen (record { class = s.class; cell = s.cell } ∷ [])))
       (keeps_itself seen)
 
   keeps_past : (seen : List (Spot C)) (ss : List (Spot C)) → Keeps seen (seen_past k seen ss)
@@ -270,7 +292,8 @@ module _ {C : Type 0} (k : Classing C) (tells : TellsApart k) where
           size = ap (λ (l : Label C). l.size) e;
           lead = ap (λ (l : Label C). l.lead) e;
           numbers = λ num.
-              let same = same_number (k.is_numbered s.class) (k.is_numbered t.class) (number_in k seen s.class s.cell) (number_in k others t.class t.cell) (ap k.is_numbered class) num (ap (λ (l : Label C). l.number) e) in
+              let same = same_number (k.is_numbered s.class) (k.is_numbered t.class) (number_in k seen s.class s.cell)
+              (number_in k others t.class t.cell) (ap k.is_numbered class) num (ap (λ (l : Label C). l.number) e) in
               let right_has = has_still (seen_with k others t) right t.class t.cell (number_in k others t.class t.cell) g (with_has others t (ap k.is_numbered class ∙ num)) in (
                 number_in k seen s.class s.cell,
                 has_still (seen_with k seen s) left s.class s.cell (number_in k seen s.class s.cell) f (with_has seen s num),

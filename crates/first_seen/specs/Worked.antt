@@ -22,5 +22,6 @@ entry shown labels = record { shown = shown; labels = labels }
 
 -- one cell in three classes, another one, and the first again in a later part; a cell of no bytes
 abbrev pub IsWorked : Type 0
-IsWorked = listing few_classes (part (5 ∷ []) (spot 1 (7 ∷ 7 ∷ []) ∷ spot 2 (7 ∷ 7 ∷ []) ∷ spot 3 (7 ∷ 7 ∷ []) ∷ spot 1 (8 ∷ []) ∷ []) ∷ part [] (spot 1 (7 ∷ 7 ∷ []) ∷ spot 3 [] ∷ spot 2 (7 ∷ 7 ∷ []) ∷ []) ∷ [])
+IsWorked = listing few_classes
+    (part (5 ∷ []) (spot 1 (7 ∷ 7 ∷ []) ∷ spot 2 (7 ∷ 7 ∷ []) ∷ spot 3 (7 ∷ 7 ∷ []) ∷ spot 1 (8 ∷ []) ∷ []) ∷ part [] (spot 1 (7 ∷ 7 ∷ []) ∷ spot 3 [] ∷ spot 2 (7 ∷ 7 ∷ []) ∷ []) ∷ [])
     ≡ (entry (5 ∷ []) (numbered 1 0 2 7 ∷ free 2 2 7 ∷ numbered 3 0 2 7 ∷ numbered 1 1 1 8 ∷ []) ∷ entry [] (numbered 1 0 2 7 ∷ numbered 3 1 0 0 ∷ free 2 2 7 ∷ []) ∷ [])

@@ -68,7 +68,8 @@ bad_fed_at place way at held true piece b = record { there = b.there; bad = b.ba
 bad_fed_at place way at held false piece b = record { there = b.there; bad = refused_more (has_head way) (SpellsMessage way) held piece b.bad }
 
 module _ (once : (way : Way) → IsReadOnce (has_head way) (SpellsMessage way)) where
-  never_one : (f : Feeding) (used : ℕ) (message : Message) → IsRefused (has_head f.way) (SpellsMessage f.way) f.held → 6 ≤ used → used ≤ length f.held → SpellsMessage f.way message (take used f.held) → ⊥
+  never_one : (f : Feeding) (used : ℕ) (message : Message) → IsRefused (has_head f.way) (SpellsMessage f.way) f.held
+      → 6 ≤ used → used ≤ length f.held → SpellsMessage f.way message (take used f.held) → ⊥
   never_one f used message bad six fits s =
       never_first (has_head f.way) (SpellsMessage f.way) (once f.way) (take used f.held) (drop used f.held) message (omega (arith, six, length-take-le used f.held fits))
       (subst (λ (l : List ℕ). IsRefused (has_head f.way) (SpellsMessage f.way) l) (sym (take-append-drop used f.held)) bad) s

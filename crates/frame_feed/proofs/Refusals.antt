@@ -25,7 +25,8 @@ no_tells version bytes none (Tells payload) s = none payload s
 pub refused_asks : (bytes : List ℕ) → IsRefused is_request_head SpellsRequest bytes → IsRefused is_request_head (SpellsMessage ToServer) bytes
 refused_asks bytes h = (h.0, elim h.1 [ inl header ↦ inl header | inr frame ↦ inr (frame.0, no_asks _ frame.1) ])
 
-pub refused_tells : (version : FrameVersion) (bytes : List ℕ) → IsRefused (is_reply_head version) (SpellsPayload version) bytes → IsRefused (is_reply_head version) (SpellsMessage (ToDriver version)) bytes
+pub refused_tells : (version : FrameVersion) (bytes : List ℕ) → IsRefused (is_reply_head version) (SpellsPayload version) bytes
+    → IsRefused (is_reply_head version) (SpellsMessage (ToDriver version)) bytes
 refused_tells version bytes h = (h.0, elim h.1 [ inl header ↦ inl header | inr frame ↦ inr (frame.0, no_tells version _ frame.1) ])
 
 has_header : (way : Way) (message : Message) (frame : List ℕ) → SpellsMessage way message frame → 6 ≤ length frame

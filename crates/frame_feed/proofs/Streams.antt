@@ -1,5 +1,32 @@
 -- A stream that is read as far as it has come.
-use Rattle.std.proofs.Common.{◌≡◌, ◌+◌, ◌∙◌, ℕ, List, [], ◌∷◌, ◌++◌, length, take, Bool, true, false, eqb, Some, None, if◌then◌else◌, refl, sym, ap, subst, append_assoc, length-append, arith, inl, inr}
+use Rattle.std.proofs.Common.{
+  ◌≡◌,
+  ◌+◌,
+  ◌∙◌,
+  ℕ,
+  List,
+  [],
+  ◌∷◌,
+  ◌++◌,
+  length,
+  take,
+  Bool,
+  true,
+  false,
+  eqb,
+  Some,
+  None,
+  if◌then◌else◌,
+  refl,
+  sym,
+  ap,
+  subst,
+  append_assoc,
+  length-append,
+  arith,
+  inl,
+  inr,
+}
 use Rattle.std.proofs.lemmas.Bool.{eqb-true, eqb-false}
 use Rattle.std.proofs.lemmas.List.{take-append-le, nil_from_length}
 use Rattle.wire_frames.specs.Frames.{Placed, End, EndsSo, ReadsAs, IsNotYet, IsRefused, stated}

@@ -59,12 +59,14 @@ from_requests at bytes (r ∷ rs) end h = (h.0, h.1, h.2, h.3, h.4, from_request
 
 -- ---- messages as payloads of a version
 
-one_payload : (version : FrameVersion) (message : Message) (frame : List ℕ) → SpellsMessage (ToDriver version) message frame → (payload : Payload) × (message ≡ Tells payload) × SpellsPayload version payload frame
+one_payload : (version : FrameVersion) (message : Message) (frame : List ℕ) → SpellsMessage (ToDriver version) message frame
+    → (payload : Payload) × (message ≡ Tells payload) × SpellsPayload version payload frame
 one_payload version (Asks request) frame s = absurd s
 one_payload version (Tells payload) frame s = (payload, refl, s)
 
 module _ (version : FrameVersion) where
-  end_of_replies : (at : ℕ) (bytes : List ℕ) (end : End) → EndsSo (is_reply_head version) (SpellsMessage (ToDriver version)) at bytes end → EndsSo (is_reply_head version) (SpellsPayload version) at bytes end
+  end_of_replies : (at : ℕ) (bytes : List ℕ) (end : End) → EndsSo (is_reply_head version) (SpellsMessage (ToDriver version)) at bytes end
+      → EndsSo (is_reply_head version) (SpellsPayload version) at bytes end
   end_of_replies at bytes Whole h = h
   end_of_replies at bytes (Refused place) h =
       (h.0, (h.1.0, elim h.1.1 [ inl header ↦ inl header | inr frame ↦ inr (frame.0, λ payload s. frame.1 (Tells payload) s) ]))
@@ -82,7 +84,8 @@ module _ (version : FrameVersion) where
         (h.0, h.1, h.2, h.3, one.2, more.2),
       )
 
-  end_from_replies : (at : ℕ) (bytes : List ℕ) (end : End) → EndsSo (is_reply_head version) (SpellsPayload version) at bytes end → EndsSo (is_reply_head version) (SpellsMessage (ToDriver version)) at bytes end
+  end_from_replies : (at : ℕ) (bytes : List ℕ) (end : End) → EndsSo (is_reply_head version) (SpellsPayload version) at bytes end
+      → EndsSo (is_reply_head version) (SpellsMessage (ToDriver version)) at bytes end
   end_from_replies at bytes Whole h = h
   end_from_replies at bytes (Refused place) h = (h.0, refused_tells version bytes h.1)
   end_from_replies at bytes (Rest place) h = h

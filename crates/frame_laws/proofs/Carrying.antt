@@ -108,12 +108,14 @@ module _ (R : Pairing) (cells : PairsCells R) where
       ∙ ap (λ k. length (u16 (length rows)) + (length (u16 (width rows)) + k)) n.1
       ∙ sym (numbered (length rows) (width rows) bytes)
 
-  same_takes : (classes : List Class) (rows others : List Atoms) (row other : Atoms) → AllZip (RowsCorrespond R classes) rows others → RowsCorrespond R classes row other → takes others other ≡ takes rows row
+  same_takes : (classes : List Class) (rows others : List Atoms) (row other : Atoms) → AllZip (RowsCorrespond R classes) rows others
+      → RowsCorrespond R classes row other → takes others other ≡ takes rows row
   same_takes classes [] [] row other h k = refl
   same_takes classes [] (start ∷ others) row other h k = absurd h
   same_takes classes (first ∷ rows) [] row other h k = absurd h
   same_takes classes (first ∷ rows) (start ∷ others) row other h k =
-      same_room (length (start ∷ others)) (length other) (length start) (length (rows_body (start ∷ others ++ other ∷ []))) (length (first ∷ rows)) (length row) (length first) (length (rows_body (first ∷ rows ++ row ∷ [])))
+      same_room (length (start ∷ others)) (length other) (length start) (length (rows_body (start ∷ others ++ other ∷ [])))
+      (length (first ∷ rows)) (length row) (length first) (length (rows_body (first ∷ rows ++ row ∷ [])))
       (rows_length classes (first ∷ rows) (start ∷ others) h).0
       (row_length classes row other k).0
       (row_length classes first start h.0).0
@@ -147,7 +149,8 @@ module _ (R : Pairing) (cells : PairsCells R) where
   gathered_alike classes rows others [] (y ∷ ys) h k = absurd k
   gathered_alike classes rows others (x ∷ xs) [] h k = absurd k
   gathered_alike classes rows others (Row row ∷ xs) (Row other ∷ ys) h k =
-      either_way classes (gathered (rows ++ row ∷ []) xs) (closed rows ++ gathered (row ∷ []) xs) (gathered (others ++ other ∷ []) ys) (closed others ++ gathered (other ∷ []) ys) (takes rows row) (takes others other)
+      either_way classes (gathered (rows ++ row ∷ []) xs) (closed rows ++ gathered (row ∷ []) xs)
+      (gathered (others ++ other ∷ []) ys) (closed others ++ gathered (other ∷ []) ys) (takes rows row) (takes others other)
       (same_takes classes rows others row other h k.0)
       (gathered_alike classes (rows ++ row ∷ []) (others ++ other ∷ []) xs ys (zip_push (RowsCorrespond R classes) rows others row other h k.0) k.1)
       (closed_then classes rows others (gathered (row ∷ []) xs) (gathered (other ∷ []) ys) h (gathered_alike classes (row ∷ []) (other ∷ []) xs ys (k.0, tt) k.1))

@@ -9,7 +9,8 @@ use Rattle.operators.proofs.Interface.{drop_there}
 use Rattle.unique_keys.specs.Indexes.{Indexed, keys_of}
 
 -- it is not this one's, so one behind it has it
-pub among_rest : (indexes : List Indexed) (i : ℕ) (index : Indexed) (places : List ℕ) → i < length indexes → index ≡ get_or indexes i index → Contains (keys_of (drop i indexes)) places → (index.places ≡ places → ⊥)
+pub among_rest : (indexes : List Indexed) (i : ℕ) (index : Indexed) (places : List ℕ) → i < length indexes
+    → index ≡ get_or indexes i index → Contains (keys_of (drop i indexes)) places → (index.places ≡ places → ⊥)
     → Contains (keys_of (drop (i + 1) indexes)) places
 among_rest indexes i index places lt is h differ =
     Contains-tail index.places (keys_of (drop (i + 1) indexes)) places differ (subst (λ xs. Contains (keys_of xs) places) (drop_there indexes i index lt is) h)

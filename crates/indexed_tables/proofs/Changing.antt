@@ -32,7 +32,8 @@ unhit_set (r ∷ rows) (false ∷ hits) zero row e = absurd cc
 unhit_set (r ∷ rows) (true ∷ hits) (suc p) row e = unhit_set rows hits p row e
 unhit_set (r ∷ rows) (false ∷ hits) (suc p) row e = ap (λ l. r ∷ l) (unhit_set rows hits p row e)
 
-unhit_written : {T : Type 0} (rows : List T) (changes : List (Change T)) (hits : List Bool) → All (λ p. get_or hits p false ≡ true) (places_of changes) → unhit (written rows changes) hits ≡ unhit rows hits
+unhit_written : {T : Type 0} (rows : List T) (changes : List (Change T)) (hits : List Bool)
+    → All (λ p. get_or hits p false ≡ true) (places_of changes) → unhit (written rows changes) hits ≡ unhit rows hits
 unhit_written rows [] hits h = refl
 unhit_written rows (c ∷ changes) hits h =
     unhit_written (slice_set rows c.place c.row) changes hits (All-tail (λ p. get_or hits p false ≡ true) c.place (places_of changes) h)
@@ -42,7 +43,8 @@ all_read : (P : ℕ → Type 0) (ps : List ℕ) → ((j : ℕ) → j < length ps
 all_read P [] f = All-nil P
 all_read P (p ∷ ps) f = All-cons P p ps (f 0 (omega arith)) (all_read P ps (λ j lt. f (suc j) (omega (arith, lt))))
 
-pub stays_written : {T : Type 0} (rows : List T) (changes : List (Change T)) → AreRising 0 (length rows) (places_of changes) → unhit (written rows changes) (marked 0 (length rows) (places_of changes)) ≡ unhit rows (marked 0 (length rows) (places_of changes))
+pub stays_written : {T : Type 0} (rows : List T) (changes : List (Change T)) → AreRising 0 (length rows) (places_of changes)
+    → unhit (written rows changes) (marked 0 (length rows) (places_of changes)) ≡ unhit rows (marked 0 (length rows) (places_of changes))
 stays_written rows changes h =
     let hits = marked 0 (length rows) (places_of changes) in
     unhit_written rows changes hits (all_read (λ p. get_or hits p false ≡ true) (places_of changes) (λ j lt. marked_read (length rows) (places_of changes) j h lt))
@@ -60,13 +62,15 @@ set_same [] p row d lt = absurd (omega (arith, lt))
 set_same (r ∷ rows) zero row d lt = refl
 set_same (r ∷ rows) (suc p) row d lt = set_same rows p row d (omega (arith, lt))
 
-written_other : {T : Type 0} (rows : List T) (changes : List (Change T)) (from to q : ℕ) (d : T) → q < from → AreRising from to (places_of changes) → get_or (written rows changes) q d ≡ get_or rows q d
+written_other : {T : Type 0} (rows : List T) (changes : List (Change T)) (from to q : ℕ) (d : T) → q < from
+    → AreRising from to (places_of changes) → get_or (written rows changes) q d ≡ get_or rows q d
 written_other rows [] from to q d lt h = refl
 written_other rows (c ∷ changes) from to q d lt h =
     let less : q < c.place = omega (arith, lt, h.0) in
     written_other (slice_set rows c.place c.row) changes (c.place + 1) to q d (omega (arith, less)) h.2 ∙ set_other rows c.place q c.row d less
 
-written_read : {T : Type 0} (rows : List T) (changes : List (Change T)) (from : ℕ) (d : T) → AreRising from (length rows) (places_of changes) → map (λ p. get_or (written rows changes) p d) (places_of changes) ≡ rows_of changes
+written_read : {T : Type 0} (rows : List T) (changes : List (Change T)) (from : ℕ) (d : T)
+    → AreRising from (length rows) (places_of changes) → map (λ p. get_or (written rows changes) p d) (places_of changes) ≡ rows_of changes
 written_read rows [] from d h = refl
 written_read rows (c ∷ changes) from d h =
     let now = slice_set rows c.place c.row in
@@ -74,7 +78,8 @@ written_read rows (c ∷ changes) from d h =
     let rest = written_read now changes (c.place + 1) d (subst (λ n. AreRising (c.place + 1) n (places_of changes)) (sym (length-set rows c.place c.row)) h.2) in
     ap (λ r. r ∷ map (λ p. get_or (written now changes) p d) (places_of changes)) first ∙ ap (λ l. c.row ∷ l) rest
 
-pub comes_written : (rows : List (List Atom)) (changes : List (Change (List Atom))) → AreRising 0 (length rows) (places_of changes) → hit (written rows changes) (marked 0 (length rows) (places_of changes)) ≡ rows_of changes
+pub comes_written : (rows : List (List Atom)) (changes : List (Change (List Atom))) → AreRising 0 (length rows) (places_of changes)
+    → hit (written rows changes) (marked 0 (length rows) (places_of changes)) ≡ rows_of changes
 comes_written rows changes h =
     let same = written_long rows changes in
     ap (λ n. hit (written rows changes) (marked 0 n (places_of changes))) (sym same)
@@ -103,14 +108,18 @@ any_parts test (row ∷ rows) (false ∷ hits) = ap (λ b. test row || b) (any_p
     turn false b c = refl
 
 -- one row before a list, or in its middle
-twins_middle : (key : List ℕ) (front back : List (List Atom)) (row : List Atom) → has_twins key (front ++ row ∷ back) ≡ ((list_any (alike_on key row) front || list_any (alike_on key row) back) || has_twins key (front ++ back))
+twins_middle : (key : List ℕ) (front back : List (List Atom)) (row : List Atom)
+    → has_twins key (front ++ row ∷ back) ≡ ((list_any (alike_on key row) front || list_any (alike_on key row) back) || has_twins key (front ++ back))
 twins_middle key [] back row = refl
 twins_middle key (f ∷ front) back row =
     ap (λ b. b || has_twins key (front ++ row ∷ back)) (list_any-append (alike_on key f) front (row ∷ back))
     ∙ ap (λ b. (list_any (alike_on key f) front || (alike_on key f row || list_any (alike_on key f) back)) || b) (twins_middle key front back row)
-    ∙ ap (λ b. (list_any (alike_on key f) front || (b || list_any (alike_on key f) back)) || ((list_any (alike_on key row) front || list_any (alike_on key row) back) || has_twins key (front ++ back))) (key_turned key f row)
-    ∙ shuffle (list_any (alike_on key f) front) (alike_on key row f) (list_any (alike_on key f) back) (list_any (alike_on key row) front) (list_any (alike_on key row) back) (has_twins key (front ++ back))
-    ∙ ap (λ b. ((alike_on key row f || list_any (alike_on key row) front) || list_any (alike_on key row) back) || (b || has_twins key (front ++ back))) (sym (list_any-append (alike_on key f) front back))
+    ∙ ap (λ b. (list_any (alike_on key f) front || (b || list_any (alike_on key f) back)) ||
+    ((list_any (alike_on key row) front || list_any (alike_on key row) back) || has_twins key (front ++ back))) (key_turned key f row)
+    ∙ shuffle (list_any (alike_on key f) front) (alike_on key row f) (list_any (alike_on key f) back)
+    (list_any (alike_on key row) front) (list_any (alike_on key row) back) (has_twins key (front ++ back))
+    ∙ ap (λ b. ((alike_on key row f || list_any (alike_on key row) front) || list_any (alike_on key row) back) || (b || has_twins key (front ++ back)))
+    (sym (list_any-append (alike_on key f) front back))
   where
     shuffle : (a b c d e g : Bool) → ((a || (b || c)) || ((d || e) || g)) ≡ (((b || d) || e) || ((a || c) || g))
     shuffle true true c d e g = refl
@@ -182,9 +191,11 @@ first_written keys rows changes h =
     ∙ ap (λ l. first_twins 1 keys (unhit rows hits ++ l)) (comes_written rows changes h)
 
 -- the numbers of the changed rows are theirs still
-pub where_written : (test : List Atom → Bool) (ns : List ℕ) (rows : List (List Atom)) (changes : List (Change (List Atom))) → length ns ≡ length rows → AreRising 0 (length rows) (places_of changes) → IsOfOne test (written rows changes)
+pub where_written : (test : List Atom → Bool) (ns : List ℕ) (rows : List (List Atom)) (changes : List (Change (List Atom)))
+    → length ns ≡ length rows → AreRising 0 (length rows) (places_of changes) → IsOfOne test (written rows changes)
     → number_where test ns (written rows changes)
-    ≡ number_where test (unhit ns (marked 0 (length rows) (places_of changes)) ++ hit ns (marked 0 (length rows) (places_of changes))) (unhit rows (marked 0 (length rows) (places_of changes)) ++ rows_of changes)
+    ≡ number_where test (unhit ns (marked 0 (length rows) (places_of changes)) ++ hit ns (marked 0 (length rows) (places_of changes)))
+    (unhit rows (marked 0 (length rows) (places_of changes)) ++ rows_of changes)
 where_written test ns rows changes e h one =
     let hits = marked 0 (length rows) (places_of changes) in
     where_parts test ns (written rows changes) hits (e ∙ sym (written_long rows changes)) one

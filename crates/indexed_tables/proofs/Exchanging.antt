@@ -48,7 +48,8 @@ module _ {A : Type 0} (rest more : List A) (row : A) (is : rest ≡ row ∷ more
   pub rows_more : (rows new whole : List A) → new ≡ rows ++ row ∷ [] → rows ++ rest ≡ whole → new ++ more ≡ whole
   rows_more rows new whole n w = ap (λ l. l ++ more) n ∙ append_assoc rows (row ∷ []) more ∙ ap (λ l. rows ++ l) (sym is) ∙ w
 
-  pub numbers_more : (numbers new whole : List ℕ) (next later : ℕ) → new ≡ numbers ++ next ∷ [] → later ≡ next + 1 → numbers ++ counted next (length rest) ≡ whole → new ++ counted later (length more) ≡ whole
+  pub numbers_more : (numbers new whole : List ℕ) (next later : ℕ) → new ≡ numbers ++ next ∷ [] → later ≡ next + 1
+      → numbers ++ counted next (length rest) ≡ whole → new ++ counted later (length more) ≡ whole
   numbers_more numbers new whole next later n l w =
       ap (λ ns. ns ++ counted later (length more)) n ∙ append_assoc numbers (next ∷ []) (counted later (length more))
       ∙ ap (λ k. numbers ++ next ∷ counted k (length more)) l ∙ ap (λ rows. numbers ++ counted next (length rows)) (sym is) ∙ w
@@ -59,7 +60,8 @@ pub record ArePutIn (numbers : List ℕ) (old : List (List Atom)) (their : List 
   pub answer : Answers result (said (first_twins 1 (keys_of before) (old ++ new)))
   pub indexed : All (IndexesRows (standing_rows result numbers their) (standing_rows result old new)) after
 
-pub put_in : (numbers : List ℕ) (old : List (List Atom)) (their : List ℕ) (new : List (List Atom)) (result : Result (Unit {0}) (Refusal SqlFault)) (before after : List Indexed) → AreExchanged numbers old [] their new result before after
+pub put_in : (numbers : List ℕ) (old : List (List Atom)) (their : List ℕ) (new : List (List Atom))
+    (result : Result (Unit {0}) (Refusal SqlFault)) (before after : List Indexed) → AreExchanged numbers old [] their new result before after
     → ArePutIn numbers old their new result before after
 put_in numbers old their new result before after e = record {
   keys = e.keys;
@@ -70,7 +72,8 @@ put_in numbers old their new result before after e = record {
 }
 
 -- the rows that then stand are distinct
-pub distinct_standing : (result : Result (Unit {0}) (Refusal SqlFault)) (keys : List (List ℕ)) (old new : List (List Atom)) → AreDistinct keys old → Answers result (said (first_twins 1 keys (old ++ new))) → AreDistinct keys (standing_rows result old new)
+pub distinct_standing : (result : Result (Unit {0}) (Refusal SqlFault)) (keys : List (List ℕ)) (old new : List (List Atom))
+    → AreDistinct keys old → Answers result (said (first_twins 1 keys (old ++ new))) → AreDistinct keys (standing_rows result old new)
 distinct_standing (Ok x) keys old new d a = distinct_said keys (old ++ new) a
 distinct_standing (Err refusal) keys old new d a = d
 
@@ -116,7 +119,8 @@ module _ (numbers : List ℕ) (rows : List (List Atom)) (changes : List (Change 
     pub ok : OnOk result (All Stands after)
     pub err : OnErr result (All (IndexesRows numbers rows) after)
 
-  pub replaced : (result : Result (Unit {0}) (Refusal SqlFault)) (before after : List Indexed) → AreExchanged numbers rows hits (hit numbers hits) (rows_of changes) result before after → AreReplaced result before after
+  pub replaced : (result : Result (Unit {0}) (Refusal SqlFault)) (before after : List Indexed)
+      → AreExchanged numbers rows hits (hit numbers hits) (rows_of changes) result before after → AreReplaced result before after
   replaced (Ok x) before after e =
       let answer : said (first_twins 1 (keys_of before) (written rows changes)) ≡ Ok tt = ap said (first_written (keys_of before) rows changes placed) ∙ e.answer in
       let d = subst (λ keys. AreDistinct keys (written rows changes)) (sym e.keys) (distinct_said (keys_of before) (written rows changes) answer) in

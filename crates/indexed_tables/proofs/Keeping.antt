@@ -42,7 +42,8 @@ pub distinct_done : (keys : List (List ℕ)) (rows : List (List Atom)) → AreDi
 distinct_done keys rows d = ap said (no_twins 1 keys rows d)
 
 module _ (sets : List BoundAssignment) where
-  key_kept : (key : List ℕ) (row other : List Atom) → list_any (is_set sets) key ≡ false → ((place : ℕ) → is_set sets place ≡ false → atom_at other place ≡ atom_at row place) → key_of key other ≡ key_of key row
+  key_kept : (key : List ℕ) (row other : List Atom) → list_any (is_set sets) key ≡ false
+      → ((place : ℕ) → is_set sets place ≡ false → atom_at other place ≡ atom_at row place) → key_of key other ≡ key_of key row
   key_kept [] row other e h = refl
   key_kept (place ∷ key) row other e h =
       ap (λ a. a ∷ key_of key other) (h place (or_left (is_set sets place) (list_any (is_set sets) key) e))
@@ -54,11 +55,13 @@ module _ (sets : List BoundAssignment) where
   keys_kept key (o ∷ old) [] e h = absurd h
   keys_kept key (o ∷ old) (n ∷ new) e h = ap (λ k. k ∷ map (key_of key) new) (key_kept key o n e h.0) ∙ ap (λ ks. key_of key o ∷ ks) (keys_kept key old new e h.1)
 
-  index_kept : (index : Indexed) (numbers : List ℕ) (old new : List (List Atom)) → list_any (is_set sets) index.places ≡ false → AreKept sets old new → IndexesRows numbers old index → IndexesRows numbers new index
+  index_kept : (index : Indexed) (numbers : List ℕ) (old new : List (List Atom)) → list_any (is_set sets) index.places ≡ false
+      → AreKept sets old new → IndexesRows numbers old index → IndexesRows numbers new index
   index_kept index numbers old new e h i = λ key.
       i key ∙ sym (where_keys key index.places numbers old) ∙ ap (number_where (are_alike key) numbers) (sym (keys_kept index.places old new e h)) ∙ where_keys key index.places numbers new
 
-  pub indexes_kept : (indexes : List Indexed) (numbers : List ℕ) (old new : List (List Atom)) → sets_a_key sets (keys_of indexes) ≡ false → AreKept sets old new → All (IndexesRows numbers old) indexes → All (IndexesRows numbers new) indexes
+  pub indexes_kept : (indexes : List Indexed) (numbers : List ℕ) (old new : List (List Atom))
+      → sets_a_key sets (keys_of indexes) ≡ false → AreKept sets old new → All (IndexesRows numbers old) indexes → All (IndexesRows numbers new) indexes
   indexes_kept [] numbers old new e h i = All-nil (IndexesRows numbers new)
   indexes_kept (x ∷ indexes) numbers old new e h i =
       let one = or_left (list_any (is_set sets) x.places) (sets_a_key sets (keys_of indexes)) e in

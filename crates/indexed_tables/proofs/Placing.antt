@@ -52,7 +52,8 @@ places_none places key k (row ∷ rows) e =
     ap (λ b. cond b (k ∷ places_from (k + 1) key (map (key_of places) rows)) (places_from (k + 1) key (map (key_of places) rows))) both.0 ∙ places_none places key (k + 1) rows both.1
 
 -- and its place is the one that has the key
-pub places_one : (places : List ℕ) (key : List Atom) (from to k n p : ℕ) (ns : List ℕ) (rows : List (List Atom)) → length ns ≡ length rows → AreRising from to ns → IsOfOne (has_key places key) rows → number_where (has_key places key) ns rows ≡ Some n → p < length rows → get_or ns p 0 ≡ n
+pub places_one : (places : List ℕ) (key : List Atom) (from to k n p : ℕ) (ns : List ℕ) (rows : List (List Atom))
+    → length ns ≡ length rows → AreRising from to ns → IsOfOne (has_key places key) rows → number_where (has_key places key) ns rows ≡ Some n → p < length rows → get_or ns p 0 ≡ n
     → places_from k key (map (key_of places) rows) ≡ (k + p) ∷ []
 places_one places key from to k n p ns [] l h one e lt is = absurd (omega (arith, lt))
 places_one places key from to k n p [] (row ∷ rows) l h one e lt is = absurd (omega (arith, l))
@@ -72,7 +73,8 @@ places_one places key from to k n (suc p) (m ∷ ns) (row ∷ rows) l h one e lt
     rest : List ℕ
     rest = places_from (k + 1) key (map (key_of places) rows)
 
-    by_test : (b : Bool) → has_key places key row ≡ b → cond b (Some m) (number_where (has_key places key) ns rows) ≡ Some n → (number_where (has_key places key) ns rows ≡ Some n → rest ≡ (k + 1 + p) ∷ []) → cond b (k ∷ rest) rest ≡ (k + suc p) ∷ []
+    by_test : (b : Bool) → has_key places key row ≡ b → cond b (Some m) (number_where (has_key places key) ns rows) ≡ Some n
+        → (number_where (has_key places key) ns rows ≡ Some n → rest ≡ (k + 1 + p) ∷ []) → cond b (k ∷ rest) rest ≡ (k + suc p) ∷ []
     by_test true t e more =
         let same : m ≡ n = number_is (Some m) m n refl e in
         let least = rising_least (m + 1) to ns p 0 h.2 (omega (arith, lt, l)) in

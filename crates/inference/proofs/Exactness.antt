@@ -23,13 +23,15 @@ module _ (params : List Ty) (columns : List ColumnSite) where
     pub first : IsFirstClash params columns all before rule
     pub found_at : found ≡ Some (at_of rule)
 
-  clashes : (before rules : List Rule) → has_typing params columns before ≡ true → has_typing params columns (before ++ rules) ≡ false → Clashes (before ++ rules) (clash_behind params columns before rules)
+  clashes : (before rules : List Rule) → has_typing params columns before ≡ true → has_typing params columns (before ++ rules) ≡ false
+      → Clashes (before ++ rules) (clash_behind params columns before rules)
   clashes before [] h k =
       let f : true ≡ false = sym h ∙ ap (has_typing params columns) (sym (append-nil before)) ∙ k in absurd cc
   clashes before (rule ∷ rules) h k = go (has_typing params columns (before ++ rule ∷ [])) refl (clashes (before ++ rule ∷ []) rules)
     where
       go : (b : Bool) → has_typing params columns (before ++ rule ∷ []) ≡ b
-          → (has_typing params columns (before ++ rule ∷ []) ≡ true → has_typing params columns ((before ++ rule ∷ []) ++ rules) ≡ false → Clashes ((before ++ rule ∷ []) ++ rules) (clash_behind params columns (before ++ rule ∷ []) rules))
+          → (has_typing params columns (before ++ rule ∷ []) ≡ true → has_typing params columns ((before ++ rule ∷ []) ++ rules) ≡ false
+          → Clashes ((before ++ rule ∷ []) ++ rules) (clash_behind params columns (before ++ rule ∷ []) rules))
           → Clashes (before ++ rule ∷ rules) (clash_behind params columns before (rule ∷ rules))
       go true t more =
           let e = push_append params columns before rule rules in

@@ -1,5 +1,37 @@
 -- From what was found to the least typing, or to the first clash.
-use Rattle.std.proofs.Common.{◌≡◌, ℕ, zero, suc, ◌+◌, ◌<◌, List, [], ◌∷◌, ◌++◌, length, take, drop, get_or, reverse, refl, ap, sym, subst, ◌∙◌, arith, Some, Bool, true, false, not, ◌&&◌, ◌||◌, Ok, add-one, append_assoc}
+use Rattle.std.proofs.Common.{
+  ◌≡◌,
+  ℕ,
+  zero,
+  suc,
+  ◌+◌,
+  ◌<◌,
+  List,
+  [],
+  ◌∷◌,
+  ◌++◌,
+  length,
+  take,
+  drop,
+  get_or,
+  reverse,
+  refl,
+  ap,
+  sym,
+  subst,
+  ◌∙◌,
+  arith,
+  Some,
+  Bool,
+  true,
+  false,
+  not,
+  ◌&&◌,
+  ◌||◌,
+  Ok,
+  add-one,
+  append_assoc,
+}
 use Rattle.std.specs.List.{list_all}
 use Rattle.ae_base.specs.declared.types.Ty.{Ty}
 use Rattle.ae_base.specs.declared.types.Enc.{Enc}
@@ -70,16 +102,20 @@ module _ (params : List Ty) (columns : List ColumnSite) where
     pub typed_found : list_all (holds params columns (typing_of columns reach)) rules ≡ true → true ≡ has_typing params columns rules
     typed_found h = sym ((has_typing-Decides params columns rules).1 (_, (least_found h).typed))
 
-    pub are_least : (encs : List Enc) → list_all (holds params columns (typing_of columns reach)) rules ≡ true → encs ≡ encs_from (typing_of columns reach) 0 params → AreLeast params columns rules encs
+    pub are_least : (encs : List Enc) → list_all (holds params columns (typing_of columns reach)) rules ≡ true
+        → encs ≡ encs_from (typing_of columns reach) 0 params → AreLeast params columns rules encs
     are_least encs h e =
-        let same : encs ≡ encs_from (traced columns (reverse reach.steps.items)) 0 params = e ∙ encs_same (typing_of columns reach) (traced columns (reverse reach.steps.items)) reached.found 0 params in
+        let same : encs ≡ encs_from (traced columns (reverse reach.steps.items)) 0 params = e ∙ encs_same
+        (typing_of columns reach) (traced columns (reverse reach.steps.items)) reached.found 0 params in
         record {
           typing = traced columns (reverse reach.steps.items);
           least = least_found h;
           given = same;
           inferred =
               ap (encs_or_clash (encs_from (least columns rules) 0 params)) (no_clash params columns rules (sym (typed_found h)))
-              ∙ ap Ok (sym (same ∙ encs_same (traced columns (reverse reach.steps.items)) (least columns rules) (one_least params columns rules (traced columns (reverse reach.steps.items)) (least_found h)) 0 params));
+              ∙ ap Ok (sym
+              (same ∙ encs_same (traced columns (reverse reach.steps.items)) (least columns rules)
+              (one_least params columns rules (traced columns (reverse reach.steps.items)) (least_found h)) 0 params));
         }
 
     -- where a rule doesn't
@@ -92,7 +128,8 @@ module _ (params : List Ty) (columns : List ColumnSite) where
         (broken_chain params columns rules (reverse reach.steps.items) reached.trace (sym (all_same _ _ (settled_same (typing_of columns reach) _ reached.found) rules) ∙ s) rule a
         (sym (holds_same (typing_of columns reach) (traced columns (reverse reach.steps.items)) reached.found rule) ∙ h))
 
-    pub untyped_found : AreSettled params columns rules reach → (rule : Rule) → IsAmong rules rule → holds params columns (typing_of columns reach) rule ≡ false → false ≡ has_typing params columns rules
+    pub untyped_found : AreSettled params columns rules reach → (rule : Rule) → IsAmong rules rule
+        → holds params columns (typing_of columns reach) rule ≡ false → false ≡ has_typing params columns rules
     untyped_found s rule a h =
         sym (is_false params columns rules _ (λ e. no_typing params columns rules _ (chain_found s rule a h) ((has_typing-Decides params columns rules).0 e)))
 

@@ -1,5 +1,40 @@
 -- What a step, and a pass over the rules, finds.
-use Rattle.std.proofs.Common.{◌≡◌, ℕ, zero, suc, ◌+◌, ◌<◌, ◌≤◌, List, [], ◌∷◌, ◌++◌, length, drop, get_or, reverse, refl, ap, sym, subst, ◌∙◌, arith, Option, Some, None, Bool, true, false, cond, ◌&&◌, ◌||◌, unwrap_or, ◌⊎◌, inl, inr}
+use Rattle.std.proofs.Common.{
+  ◌≡◌,
+  ℕ,
+  zero,
+  suc,
+  ◌+◌,
+  ◌<◌,
+  ◌≤◌,
+  List,
+  [],
+  ◌∷◌,
+  ◌++◌,
+  length,
+  drop,
+  get_or,
+  reverse,
+  refl,
+  ap,
+  sym,
+  subst,
+  ◌∙◌,
+  arith,
+  Option,
+  Some,
+  None,
+  Bool,
+  true,
+  false,
+  cond,
+  ◌&&◌,
+  ◌||◌,
+  unwrap_or,
+  ◌⊎◌,
+  inl,
+  inr,
+}
 use Rattle.std.specs.List.{list_all}
 use Rattle.std.proofs.lemmas.List.{get_or_default, reverse-append, at_drop_more, at_drop_all}
 use Rattle.ae_base.specs.declared.types.Ty.{Ty}
@@ -63,7 +98,13 @@ module _ (params : List Ty) (columns : List ColumnSite) (rules : List Rule) wher
     turned = ap reverse steps ∙ reverse-append old.steps.items (step ∷ [])
 
     trace : IsTrace params columns rules (step ∷ reverse old.steps.items)
-    trace = (among, carries, sym (goes_same params columns (typing_of columns old) (traced columns (reverse old.steps.items)) step.from step.to (reached.found step.from) (reached.found step.to)) ∙ go, reached.trace)
+    trace = (
+      among,
+      carries,
+      sym
+          (goes_same params columns (typing_of columns old) (traced columns (reverse old.steps.items)) step.from step.to (reached.found step.from) (reached.found step.to)) ∙ go,
+      reached.trace,
+    )
 
     now_found : (s : Site) → typing_of columns next s ≡ traced columns (step ∷ reverse old.steps.items) s
     now_found s = either (fixed_or_open columns s)
@@ -78,7 +119,8 @@ module _ (params : List Ty) (columns : List ColumnSite) (rules : List Rule) wher
             ∙ ap (λ e. cond (site_eq step.to s) e (enc_in old.encs.found s)) (reached.found step.from)
             ∙ ap (λ e. cond (site_eq step.to s) (traced columns (reverse old.steps.items) step.from) e) (sym (ap (λ o. or_found o (enc_in old.encs.found s)) f) ∙ reached.found s)
 
-        either : ((e : Enc) × (fixed columns s ≡ Some e) × (is_open s ≡ false)) ⊎ ((fixed columns s ≡ None) × (is_open s ≡ true)) → typing_of columns next s ≡ traced columns (step ∷ reverse old.steps.items) s
+        either : ((e : Enc) × (fixed columns s ≡ Some e) × (is_open s ≡ false)) ⊎ ((fixed columns s ≡ None) × (is_open s ≡ true))
+            → typing_of columns next s ≡ traced columns (step ∷ reverse old.steps.items) s
         either (inl (e, f, o)) = at_fixed e f
         either (inr (f, o)) = at_open f
 
@@ -106,7 +148,8 @@ pub record IsPassing (params : List Ty) (columns : List ColumnSite) (rules : Lis
 pub passing_begins : (params : List Ty) (columns : List ColumnSite) (rules : List Rule) (reach : Reach) → IsReached params columns rules reach → IsPassing params columns rules reach reach false 0
 passing_begins params columns rules reach h = record { reached = h; less = omega arith; fewer = λ e. absurd cc; settled = λ e. refl }
 
-pub passing_more : (params : List Ty) (columns : List ColumnSite) (rules : List Rule) (initial reach next : Reach) (changed more : Bool) (i : ℕ) (rule : Rule) → i < length rules → rule ≡ get_or rules i rule
+pub passing_more : (params : List Ty) (columns : List ColumnSite) (rules : List Rule) (initial reach next : Reach) (changed more : Bool) (i : ℕ) (rule : Rule)
+    → i < length rules → rule ≡ get_or rules i rule
     → IsPassing params columns rules initial reach changed i
     → ((all : List Rule) → IsAmong all rule → IsReached params columns all reach → IsReached params columns all next)
     → (more ≡ true → (all : List Rule) → IsAmong all rule → IsReached params columns all reach → loose (typing_of columns next) all < loose (typing_of columns reach) all)
@@ -114,14 +157,20 @@ pub passing_more : (params : List Ty) (columns : List ColumnSite) (rules : List 
     → IsPassing params columns rules initial next (changed || more) (i + 1)
 passing_more params columns rules initial reach next changed true i rule lt e h r f s t =
     let a : loose (typing_of columns next) rules < loose (typing_of columns reach) rules = f refl rules (among_at rules i rule lt e) h.reached in
-    record { reached = r rules (among_at rules i rule lt e) h.reached; less = omega (arith, h.less); fewer = λ k. omega (arith, h.less); settled = λ k. true_false (changed || true) (or_true changed) k }
+    record {
+      reached = r rules (among_at rules i rule lt e) h.reached;
+      less = omega (arith, h.less);
+      fewer = λ k. omega (arith, h.less);
+      settled = λ k. true_false (changed || true) (or_true changed) k;
+    }
   where
     or_true : (b : Bool) → b || true ≡ true
     or_true true = refl
     or_true false = refl
 passing_more params columns rules initial reach next changed false i rule lt e h r f s t =
     let P : Reach → Type 0 = λ z. IsPassing params columns rules initial z (changed || false) (i + 1) in
-    subst P (sym (s refl)) (record { reached = h.reached; less = h.less; fewer = λ k. h.fewer (or_false changed k); settled = λ k. all_more _ rules i rule lt e (h.settled (was_false changed k)) (t refl) })
+    subst P (sym (s refl))
+    (record { reached = h.reached; less = h.less; fewer = λ k. h.fewer (or_false changed k); settled = λ k. all_more _ rules i rule lt e (h.settled (was_false changed k)) (t refl) })
   where
     or_false : (b : Bool) → b || false ≡ true → b ≡ true
     or_false true k = refl
@@ -131,7 +180,8 @@ passing_more params columns rules initial reach next changed false i rule lt e h
     was_false true k = k
     was_false false k = refl
 
-pub passed_settled : (params : List Ty) (columns : List ColumnSite) (rules : List Rule) (initial reach : Reach) (changed : Bool) (i : ℕ) → length rules ≤ i → IsPassing params columns rules initial reach changed i
+pub passed_settled : (params : List Ty) (columns : List ColumnSite) (rules : List Rule) (initial reach : Reach) (changed : Bool) (i : ℕ)
+    → length rules ≤ i → IsPassing params columns rules initial reach changed i
     → changed ≡ false → AreSettled params columns rules reach
 passed_settled params columns rules initial reach changed i le h e = all_there _ rules i le (h.settled e)
 

@@ -35,7 +35,8 @@ module _ (params : List Ty) (columns : List ColumnSite) where
 
   pub goes_alike : (typing : Typing) (from to : Site) → goes params columns typing from to ≡ true → alike from to ≡ true
   goes_alike typing from to g =
-      and_right (is_plain (typing to)) (alike from to) (and_right (is_open to) (is_plain (typing to) && alike from to) (and_right (not (is_plain (typing from))) (is_open to && (is_plain (typing to) && alike from to)) g))
+      and_right (is_plain (typing to)) (alike from to)
+      (and_right (is_open to) (is_plain (typing to) && alike from to) (and_right (not (is_plain (typing from))) (is_open to && (is_plain (typing to) && alike from to)) g))
 
   pub goes_same : (typing other : Typing) (from to : Site) → typing from ≡ other from → typing to ≡ other to → goes params columns typing from to ≡ goes params columns other from to
   goes_same typing other from to e f =

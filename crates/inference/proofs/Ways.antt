@@ -96,7 +96,8 @@ module _ (params : List Ty) (columns : List ColumnSite) (rules : List Rule) wher
   back step steps s = go (site_eq step.to s) refl
     where
       go : (b : Bool) → site_eq step.to s ≡ b → Back step steps s
-      go true h = inl ((site_eq-Decides step.to s).0 h, ap (λ b. cond b (step.rule ∷ way_back steps step.from) (way_back steps s)) h, ap (λ b. cond b (traced columns steps step.from) (traced columns steps s)) h)
+      go true h = inl
+          ((site_eq-Decides step.to s).0 h, ap (λ b. cond b (step.rule ∷ way_back steps step.from) (way_back steps s)) h, ap (λ b. cond b (traced columns steps step.from) (traced columns steps s)) h)
       go false h = inr (ap (λ b. cond b (step.rule ∷ way_back steps step.from) (way_back steps s)) h, ap (λ b. cond b (traced columns steps step.from) (traced columns steps s)) h)
 
   abbrev Trace : List Step → Type 0
@@ -114,10 +115,12 @@ module _ (params : List Ty) (columns : List ColumnSite) (rules : List Rule) wher
       from_there = goes_from params columns (traced columns steps) step.from step.to t.2
 
       here : step.to ≡ s → traced columns (step ∷ steps) s ≡ traced columns steps step.from → HasEnds (traced columns (step ∷ steps)) (traced columns (step ∷ steps) s) step.rule
-      here e f = ends_of _ _ step.rule step.from step.to t.1 (kept step.from from_there ∙ sym f) (ap (traced columns (step ∷ steps)) e) (goes_alike params columns (traced columns steps) step.from step.to t.2)
+      here e f = ends_of _ _ step.rule step.from step.to t.1 (kept step.from from_there ∙ sym f)
+          (ap (traced columns (step ∷ steps)) e) (goes_alike params columns (traced columns steps) step.from step.to t.2)
 
       first_or_later : ((z : Site) → ¬ (traced columns steps z ≡ Plain) → (q : Rule) → IsAmong (way_back steps z) q → HasEnds (traced columns steps) (traced columns steps z) q)
-          → step.to ≡ s → traced columns (step ∷ steps) s ≡ traced columns steps step.from → IsAmong (step.rule ∷ way_back steps step.from) r → HasEnds (traced columns (step ∷ steps)) (traced columns (step ∷ steps) s) r
+          → step.to ≡ s → traced columns (step ∷ steps) s ≡ traced columns steps step.from
+          → IsAmong (step.rule ∷ way_back steps step.from) r → HasEnds (traced columns (step ∷ steps)) (traced columns (step ∷ steps) s) r
       first_or_later more e f (inl k) = let P : Rule → Type 0 = HasEnds (traced columns (step ∷ steps)) (traced columns (step ∷ steps) s) in subst P (sym k) (here e f)
       first_or_later more e f (inr k) =
           let P : Enc → Type 0 = λ d. HasEnds (traced columns (step ∷ steps)) d r in subst P (sym f) (ends_kept _ _ _ r from_there kept (more step.from from_there r k))
@@ -177,23 +180,29 @@ module _ (params : List Ty) (columns : List ColumnSite) (rules : List Rule) wher
       from_there = goes_from params columns (traced columns steps) step.from step.to t.2
 
       Root : Enc → List Rule → Site → Type 0
-      Root enc way z = (start : Site) × (fixed columns start ≡ Some enc) × ((rule : Rule) (rest : List Rule) → Leads params columns z enc (rule ∷ rest) → Leads params columns start enc (onto way (rule ∷ rest)))
+      Root enc way z = (start : Site) × (fixed columns start ≡ Some enc) ×
+          ((rule : Rule) (rest : List Rule) → Leads params columns z enc (rule ∷ rest) → Leads params columns start enc (onto way (rule ∷ rest)))
 
       go : Back step steps s
-          → ((z : Site) → ¬ (traced columns steps z ≡ Plain) → (start : Site) × (fixed columns start ≡ Some (traced columns steps z)) × ((rule : Rule) (rest : List Rule) → Leads params columns z (traced columns steps z) (rule ∷ rest)
+          → ((z : Site) → ¬ (traced columns steps z ≡ Plain)
+          → (start : Site) × (fixed columns start ≡ Some (traced columns steps z)) × ((rule : Rule) (rest : List Rule) → Leads params columns z (traced columns steps z) (rule ∷ rest)
           → Leads params columns start (traced columns steps z) (onto (way_back steps z) (rule ∷ rest))))
           → (start : Site) × (fixed columns start ≡ Some (traced columns (step ∷ steps) s)) × ((rule : Rule) (rest : List Rule) → Leads params columns s (traced columns (step ∷ steps) s) (rule ∷ rest)
           → Leads params columns start (traced columns (step ∷ steps) s) (onto (way_back (step ∷ steps) s) (rule ∷ rest)))
       go (inl (e, w, f)) more =
           let m = more step.from from_there in
-          let P : Enc → List Rule → Type 0 = λ enc way. (start : Site) × (fixed columns start ≡ Some enc) × ((rule : Rule) (rest : List Rule) → Leads params columns s enc (rule ∷ rest) → Leads params columns start enc (onto way (rule ∷ rest))) in
+          let P : Enc → List Rule
+          → Type 0 = λ enc way. (start : Site) × (fixed columns start ≡ Some enc) ×
+          ((rule : Rule) (rest : List Rule) → Leads params columns s enc (rule ∷ rest) → Leads params columns start enc (onto way (rule ∷ rest))) in
           let Q : Enc → Type 0 = λ enc. P enc (way_back (step ∷ steps) s) in
           let R : List Rule → Type 0 = λ way. P (traced columns steps step.from) way in
           let C : Site → Type 0 = λ z. Carries step.rule step.from z in
           subst Q (sym f) (subst R (sym w) (m.0, m.1, λ rule rest l. m.2 step.rule (rule ∷ rest) (s, subst C e t.1, l)))
       go (inr (w, f)) more =
           let m = more s (λ g. n (f ∙ g)) in
-          let P : Enc → List Rule → Type 0 = λ enc way. (start : Site) × (fixed columns start ≡ Some enc) × ((rule : Rule) (rest : List Rule) → Leads params columns s enc (rule ∷ rest) → Leads params columns start enc (onto way (rule ∷ rest))) in
+          let P : Enc → List Rule
+          → Type 0 = λ enc way. (start : Site) × (fixed columns start ≡ Some enc) ×
+          ((rule : Rule) (rest : List Rule) → Leads params columns s enc (rule ∷ rest) → Leads params columns start enc (onto way (rule ∷ rest))) in
           let Q : Enc → Type 0 = λ enc. P enc (way_back (step ∷ steps) s) in
           let R : List Rule → Type 0 = λ way. P (traced columns steps s) way in
           subst Q (sym f) (subst R (sym w) m)
@@ -278,7 +287,8 @@ module _ (params : List Ty) (columns : List ColumnSite) (rules : List Rule) wher
           stops step.rule s step.from d _ (subst C e (carries_back step.rule step.from step.to t.1)) (no_way steps t.3 step.from from_there w) (λ k. o (k ∙ sym f))
       longer (rule ∷ way) w e f l = let C : Site → Type 0 = λ z. Carries step.rule z step.from in (step.from, subst C e (carries_back step.rule step.from step.to t.1), l)
 
-      go : Back step steps s → ((z : Site) (c : Enc) → ¬ (traced columns steps z ≡ Plain) → ¬ (c ≡ traced columns steps z) → LeadsIfAny z c (way_back steps z)) → LeadsIfAny s d (way_back (step ∷ steps) s)
+      go : Back step steps s → ((z : Site) (c : Enc) → ¬ (traced columns steps z ≡ Plain) → ¬ (c ≡ traced columns steps z) → LeadsIfAny z c (way_back steps z))
+          → LeadsIfAny s d (way_back (step ∷ steps) s)
       go (inl (e, w, f)) more =
           let P : List Rule → Type 0 = LeadsIfAny s d in
           subst P (sym w) (longer (way_back steps step.from) refl e f (more step.from d from_there (λ k. o (k ∙ sym f))))
@@ -331,7 +341,8 @@ module _ (params : List Ty) (columns : List ColumnSite) (rules : List Rule) wher
   settled_goes typing (PlainOnly x at) from to c h = absurd c
 
   -- where nothing goes on to a plain site of one type, that is fixed
-  plain_closed : (typing : Typing) (from to : Site) → goes params columns typing from to ≡ false → is_plain (typing from) ≡ false → is_plain (typing to) ≡ true → alike from to ≡ true → is_open to ≡ false
+  plain_closed : (typing : Typing) (from to : Site) → goes params columns typing from to ≡ false
+      → is_plain (typing from) ≡ false → is_plain (typing to) ≡ true → alike from to ≡ true → is_open to ≡ false
   plain_closed typing from to g p q a = go (is_open to) refl
     where
       go : (b : Bool) → is_open to ≡ b → is_open to ≡ false
@@ -398,7 +409,8 @@ module _ (params : List Ty) (columns : List ColumnSite) (rules : List Rule) wher
         later : ¬ (found to ≡ Plain) → ¬ (IsAmong (way_back steps to) rule)
         later m b = o (end_there found (found to) rule to from (carries_back rule from to c) (ends steps t to m rule b))
 
-        there : ¬ (found to ≡ Plain) → (way : List Rule) → way_back steps to ≡ way → LeadsIfAny to (found from) way → IsChain params columns rules (onto (way_back steps from) (rule ∷ way_back steps to))
+        there : ¬ (found to ≡ Plain) → (way : List Rule) → way_back steps to ≡ way → LeadsIfAny to (found from) way
+            → IsChain params columns rules (onto (way_back steps from) (rule ∷ way_back steps to))
         there m [] w l = here (no_way steps t to m w) w
         there m (next ∷ way) w l =
             let P : List Rule → Type 0 = λ z. Leads params columns from (found from) (rule ∷ z) in

@@ -118,7 +118,8 @@ least_none entries all image h = record { front = h.front; at_least = front_none
 pub tries_none : (gate : ℕ) (more : List (List ℕ)) (disk : Option Moments) → TriesEntries gate [] more disk disk
 tries_none gate more =
     told_same (λ old new. (entries : List (List ℕ)) → EndsAt gate entries old → AreTried entries [] more old new)
-    (λ disk. λ entries e. record { moments = unchanged gate entries more disk e; now = λ image is. least_none entries more image (none_more entries more image (ends_leave gate entries disk e image is)) })
+    (λ disk. λ entries e. record
+    { moments = unchanged gate entries more disk e; now = λ image is. least_none entries more image (none_more entries more image (ends_leave gate entries disk e image is)) })
 
 -- ---- one call of append
 
@@ -130,7 +131,8 @@ appended_one gate entry a b entries w =
 pub appended_done : (gate : ℕ) (entry : List ℕ) (a b : Option Moments) → WhereTold (Appends appended.Done gate entry) a b → AddsEntries gate (gate + 9 + length entry) (entry ∷ []) a b
 appended_done gate entry =
     told_map (Appends appended.Done gate entry) (λ old new. (entries : List (List ℕ)) → EndsAt gate entries old → AreAdded (gate + 9 + length entry) entries (entry ∷ []) old new)
-    (λ old new a. λ entries e. let h = a entries e in record { moments = leaves_weaker (WithOrWithout entries entry) (HasFront entries (entry ∷ [])) old new (one_more entries entry) h.moments; ends = h.ends })
+    (λ old new a. λ entries e. let h = a entries e in record
+    { moments = leaves_weaker (WithOrWithout entries entry) (HasFront entries (entry ∷ [])) old new (one_more entries entry) h.moments; ends = h.ends })
 
 pub appended_tried : (result : Appended) (gate : ℕ) (entry : List ℕ) (a b : Option Moments) → WhereTold (Appends result gate entry) a b → TriesEntries gate [] (entry ∷ []) a b
 appended_tried appended.Done gate entry =

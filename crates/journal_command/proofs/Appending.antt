@@ -25,7 +25,8 @@ has_room result gate entry isnt full = (not_lt most_bytes (gate + 10 + length en
     not_lt : (m n : ℕ) → (m < n → ⊥) → n ≤ m
     not_lt m n none = grind arith
 
-appends_one : (result : Appended) (gate : ℕ) (entry : List ℕ) (a b : Option Moments) → (result ≡ appended.JournalFull) ↔ (most_bytes < gate + 10 + length entry) → WhereTold (Appends result gate entry) a b
+appends_one : (result : Appended) (gate : ℕ) (entry : List ℕ) (a b : Option Moments)
+    → (result ≡ appended.JournalFull) ↔ (most_bytes < gate + 10 + length entry) → WhereTold (Appends result gate entry) a b
     → AppendsEntry result gate (gate_after result gate entry) (entry ∷ []) a b
 appends_one appended.Done gate entry a b full w = (appended_done gate entry a b w, omega arith, has_room appended.Done gate entry (λ e. cc) full.1)
 appends_one appended.DiskFault gate entry a b full w = (appended_tried appended.DiskFault gate entry a b w, has_room appended.DiskFault gate entry (λ e. cc) full.1)
@@ -44,12 +45,14 @@ appends_none gate entry disk e =
 
 -- ---- of an answer, and of its request
 
-stops_alike : (stop : Stop) (frames others : List ℕ) (xs ys : List (List ℕ)) (before after : Outside) → frames ≡ others → xs ≡ ys → StopsBy stop frames xs before after → StopsBy stop others ys before after
+stops_alike : (stop : Stop) (frames others : List ℕ) (xs ys : List (List ℕ)) (before after : Outside)
+    → frames ≡ others → xs ≡ ys → StopsBy stop frames xs before after → StopsBy stop others ys before after
 stops_alike stop frames others xs ys before after e f s =
     subst (λ (l : List (List ℕ)). StopsBy stop others l before after) f (subst (λ (l : List ℕ). StopsBy stop l xs before after) e s)
 
 pub answers_so : (result : Answered) (held : List (List Asked)) (asked : Asked) (old mid new : DurableState) (replies : List Reply) (entry : Option (List ℕ)) (before after : Outside)
-    → IsServed replies entry asked old mid → old.held ≡ map frames_of held → new ≡ record mid { journal = new.journal } → PutsBy result (packed asked.version replies) (option_to_list entry) before after
+    → IsServed replies entry asked old mid → old.held ≡ map frames_of held → new ≡ record mid { journal = new.journal }
+    → PutsBy result (packed asked.version replies) (option_to_list entry) before after
     → AnswersBy result held asked old new before after
 answers_so answered.Whole held asked old mid new replies entry before after s e n p =
     let k = s.kept held e in

@@ -1,5 +1,34 @@
 -- Frames of requests that are held.
-use Rattle.std.proofs.Common.{◌≡◌, ◌<◌, ◌-◌, ℕ, zero, suc, List, [], ◌∷◌, ◌++◌, length, map, get_or, set, Bool, true, false, Option, Some, None, refl, sym, ap, subst, ◌∙◌, append-nil, arith, length-append}
+use Rattle.std.proofs.Common.{
+  ◌≡◌,
+  ◌<◌,
+  ◌-◌,
+  ℕ,
+  zero,
+  suc,
+  List,
+  [],
+  ◌∷◌,
+  ◌++◌,
+  length,
+  map,
+  get_or,
+  set,
+  Bool,
+  true,
+  false,
+  Option,
+  Some,
+  None,
+  refl,
+  sym,
+  ap,
+  subst,
+  ◌∙◌,
+  append-nil,
+  arith,
+  length-append,
+}
 use Rattle.std.specs.Prelude.{nat_lt, ◌==◌, if◌then◌else◌, option_to_list, IfSome}
 use Rattle.std.specs.List.{All, concat}
 use Rattle.std.proofs.Math.Dec.{eqb-suc-zero}
@@ -40,12 +69,14 @@ two_held : (b : Asked) (xs : List Asked) (r : Asked) → nat_lt 1 (length (b ∷
 two_held b xs r = lt-ltb 1 (length (b ∷ xs ++ r ∷ [])) (omega (arith, length-append xs (r ∷ [])))
 
 change_held : (none : Bool) (b : Asked) (held : List Asked) (r : Asked) → none ≡ false
-    → Agree (if none then record { entry = Some (asked_frame r); held = frames_of (b ∷ held) } else record { entry = None; held = record { frames = frames_in (b ∷ held) ++ asked_frame r; changes = true } })
+    → Agree (if none then record { entry = Some (asked_frame r); held = frames_of (b ∷ held) } else record
+    { entry = None; held = record { frames = frames_in (b ∷ held) ++ asked_frame r; changes = true } })
     (kept [] (b ∷ held ++ r ∷ []))
 change_held true b held r e = cc
 change_held false b held r e = record {
   entry = refl;
-  held = ap (λ (x : List ℕ). record { frames = x; changes = true }) (more_frames (b ∷ held) r) ∙ ap (λ (x : Bool). record { frames = frames_in (b ∷ held ++ r ∷ []); changes = x }) (sym (two_held b held r));
+  held = ap (λ (x : List ℕ). record { frames = x; changes = true }) (more_frames (b ∷ held) r) ∙ ap
+      (λ (x : Bool). record { frames = frames_in (b ∷ held ++ r ∷ []); changes = x }) (sym (two_held b held r));
 }
 
 commit_held : (more : Bool) (b c : Asked) (held : List Asked) (r : Asked) → more ≡ true
@@ -99,7 +130,8 @@ module _ (held : List (List Asked)) (session : ℕ) where
         made = n ∙ ap (λ (k : List HeldFrames). set k place made) e ∙ ap (set (map frames_of held) place) (m ∙ ap (λ (h : HeldFrames). with_frame h room.frame) was);
       }
 
-  module _ (keeper new : List HeldFrames) (r : Asked) (room : RoomMade) (old after : HeldFrames) (h : HasRoom held session r room keeper) (lt : place < length keeper) (is : old ≡ get_or keeper place old) (n : new ≡ set keeper place after) where
+  module _ (keeper new : List HeldFrames) (r : Asked) (room : RoomMade) (old after : HeldFrames)
+      (h : HasRoom held session r room keeper) (lt : place < length keeper) (is : old ≡ get_or keeper place old) (n : new ≡ set keeper place after) where
     room_there : old ≡ with_frame (frames_of (held_at held session)) room.frame
     room_there = is ∙ made_there keeper (with_frame (frames_of (held_at held session)) room.frame) old h.made lt
 

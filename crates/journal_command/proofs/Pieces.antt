@@ -43,8 +43,10 @@ goes_first feed durable source old e h =
     subst (λ (x : Feeding). Going durable.state most_stream_bytes x durable source source old old) (sym e)
     (record { taken = []; lost = removes_none source; few = refl; so_far = so_far_first durable old h; waits = inl (omega arith) })
 
-module _ (law : RequestsAreSerialFrom) (start : State) (count : ℕ) (feed : Feeding) (durable : DurableState) (source left : Option (List ℕ)) (first now : Outside) (g : Going start count feed durable source left first now) where
-  serially : (bytes : List ℕ) → IsStore any_cell start → HasNoTransactions start → (requests : List Asked) (others : List ℕ) → Begins bytes requests others → AreServedSeriallyFrom start (messages_of requests)
+module _ (law : RequestsAreSerialFrom) (start : State) (count : ℕ) (feed : Feeding) (durable : DurableState)
+    (source left : Option (List ℕ)) (first now : Outside) (g : Going start count feed durable source left first now) where
+  serially : (bytes : List ℕ) → IsStore any_cell start → HasNoTransactions start → (requests : List Asked) (others : List ℕ)
+      → Begins bytes requests others → AreServedSeriallyFrom start (messages_of requests)
   serially bytes = λ store none requests others b. law start store none (messages_of requests)
 
   lost_more : (piece : List ℕ) (after : Option (List ℕ)) → WhereTold (Takes (taken.Bytes piece)) left after → Removes (g.taken ++ piece) source after
@@ -92,18 +94,21 @@ module _ (law : RequestsAreSerialFrom) (start : State) (count : ℕ) (feed : Fee
           waits = h.1;
         }
 
-    pub ends_refused : (place : ℕ) (new : Outside) → After (λ begin bytes old. AnswersAll begin bytes (Refused place) old.out new.out × HasKeptAll begin bytes bytes old new) → ServesPieces (ended.BadFrame place) start source after first new
+    pub ends_refused : (place : ℕ) (new : Outside)
+        → After (λ begin bytes old. AnswersAll begin bytes (Refused place) old.out new.out × HasKeptAll begin bytes bytes old new) → ServesPieces (ended.BadFrame place) start source after first new
     ends_refused place new f =
         let h = holds (λ begin bytes old. AnswersAll begin bytes (Refused place) old.out new.out × HasKeptAll begin bytes bytes old new) f in
         record { taken = g.taken ++ piece; lost = lost_more piece after took; puts = (still_within, inl h.0); keeps = h.1; serial = serially (g.taken ++ piece) }
 
-    stopped : (stop : Stop) (new : Outside) → PutsOf stop start (g.taken ++ piece) first.out new.out × KeepsBy stop start (g.taken ++ piece) first new → ServesPieces (ended_by stop) start source after first new
+    stopped : (stop : Stop) (new : Outside) → PutsOf stop start (g.taken ++ piece) first.out new.out × KeepsBy stop start (g.taken ++ piece) first new
+        → ServesPieces (ended_by stop) start source after first new
     stopped stops.WriteFault new h = record { taken = g.taken ++ piece; lost = lost_more piece after took; puts = (still_within, h.0); keeps = h.1; serial = serially (g.taken ++ piece) }
     stopped stops.DiskFault new h = record { taken = g.taken ++ piece; lost = lost_more piece after took; puts = (still_within, h.0); keeps = h.1; serial = serially (g.taken ++ piece) }
     stopped stops.JournalFull new h = record { taken = g.taken ++ piece; lost = lost_more piece after took; puts = (still_within, h.0); keeps = h.1; serial = serially (g.taken ++ piece) }
     stopped stops.OutOfMemory new h = record { taken = g.taken ++ piece; lost = lost_more piece after took; puts = (still_within, h.0); keeps = h.1; serial = serially (g.taken ++ piece) }
 
-    pub ends_stopped : (stop : Stop) (r : Ended) (new : Outside) → r ≡ ended_by stop → After (λ begin bytes old. PutsOf stop begin bytes old.out new.out × KeepsBy stop begin bytes old new) → ServesPieces r start source after first new
+    pub ends_stopped : (stop : Stop) (r : Ended) (new : Outside) → r ≡ ended_by stop
+        → After (λ begin bytes old. PutsOf stop begin bytes old.out new.out × KeepsBy stop begin bytes old new) → ServesPieces r start source after first new
     ends_stopped stop r new e f =
         subst (λ (x : Ended). ServesPieces x start source after first new) (sym e)
         (stopped stop new (holds (λ begin bytes old. PutsOf stop begin bytes old.out new.out × KeepsBy stop begin bytes old new) f))
@@ -113,7 +118,17 @@ module _ (law : RequestsAreSerialFrom) (start : State) (count : ℕ) (feed : Fee
   kept_fed piece =
       let k = so_all.kept.kept in
       let fed : HasRoomFor start (g.taken ++ piece) first now = record {
-        kept = record { answered = k.answered; tried = k.tried; few = k.few; others = k.others ++ piece; begins = begins_fed g.taken (k.answered ++ k.tried) k.others piece k.begins; put = k.put; kept = k.kept; room = k.room };
+        kept = record {
+          answered = k.answered;
+          tried = k.tried;
+          few = k.few;
+          others = k.others ++ piece;
+          begins = begins_fed
+              g.taken (k.answered ++ k.tried) k.others piece k.begins;
+          put = k.put;
+          kept = k.kept;
+          room = k.room;
+        };
         room = so_all.kept.room;
       } in
       record { kept = fed; all = so_all.all; none = so_all.none }

@@ -110,7 +110,8 @@ module _ (gate place : ℕ) (old now : State) (a b : Option Moments) (h : HasSer
 -- ---- behind them the input is served
 
 -- the server wasn't found damaged then
-pub found_served : (how : Ended) (gate : ℕ) (source left : Option (List ℕ)) (disk disk_after : Option Moments) (out out_after : Option (List ℕ)) → ServesRestarted how gate source left disk disk_after out out_after
+pub found_served : (how : Ended) (gate : ℕ) (source left : Option (List ℕ)) (disk disk_after : Option Moments) (out out_after : Option (List ℕ))
+    → ServesRestarted how gate source left disk disk_after out out_after
     → ServesFound how gate source left disk disk_after out out_after
 found_served (ended.Damaged place) gate source left disk disk_after out out_after r = elim r.serves [ inl s ↦ absurd s.1.puts | inr e ↦ absurd (other place e.0) ]
   where

@@ -1,5 +1,31 @@
 -- Records that are served again: how far they were, and where one isn't.
-use Rattle.std.proofs.Common.{◌≡◌, ◌+◌, ◌<◌, ℕ, List, [], ◌∷◌, ◌++◌, length, get_or, take, drop, Bool, true, false, refl, sym, ap, subst, ◌∙◌, append-nil, append_assoc, length-append, take-append-drop, arith}
+use Rattle.std.proofs.Common.{
+  ◌≡◌,
+  ◌+◌,
+  ◌<◌,
+  ℕ,
+  List,
+  [],
+  ◌∷◌,
+  ◌++◌,
+  length,
+  get_or,
+  take,
+  drop,
+  Bool,
+  true,
+  false,
+  refl,
+  sym,
+  ap,
+  subst,
+  ◌∙◌,
+  append-nil,
+  append_assoc,
+  length-append,
+  take-append-drop,
+  arith,
+}
 use Rattle.std.specs.List.{All}
 use Rattle.std.proofs.lemmas.List.{append_cancel_left, drop_more, flat_map_more, take_more}
 use Rattle.std.proofs.lemmas.List.Elements.{All-nil, All-push, All-head, All-tail}
@@ -45,11 +71,13 @@ after_more : (state : State) (requests : List Asked) (r : Asked) → state_after
 after_more state [] r = refl
 after_more state (x ∷ requests) r = after_more (serve state x.message).after requests r
 
-done_more : (state : State) (requests : List Asked) (r : Asked) → AreDone state (messages_of requests) → is_done (serve (state_after state requests) r.message).replies ≡ true → AreDone state (messages_of (requests ++ r ∷ []))
+done_more : (state : State) (requests : List Asked) (r : Asked) → AreDone state (messages_of requests)
+    → is_done (serve (state_after state requests) r.message).replies ≡ true → AreDone state (messages_of (requests ++ r ∷ []))
 done_more state [] r all e = (e, tt)
 done_more state (x ∷ requests) r all e = (all.0, done_more (serve state x.message).after requests r all.1 e)
 
-done_next : (state : State) (requests : List Asked) (r : Asked) (others : List Asked) → AreDone state (messages_of (requests ++ r ∷ others)) → is_done (serve (state_after state requests) r.message).replies ≡ true
+done_next : (state : State) (requests : List Asked) (r : Asked) (others : List Asked)
+    → AreDone state (messages_of (requests ++ r ∷ others)) → is_done (serve (state_after state requests) r.message).replies ≡ true
 done_next state [] r others all = all.0
 done_next state (x ∷ requests) r others all = done_next (serve state x.message).after requests r others all.1
 

@@ -45,7 +45,8 @@ recorded_proper state held [] h p = All-nil (All IsProper)
 recorded_proper state held (r ∷ requests) h p =
     let k = proper_keeping state held r h (λ e. (All-head IsProper r requests p, e)) in
     All-append (All IsProper) (keeping state held r).records (records_of (serve state r.message).after (held_behind state held r) requests) (proper_records (keeping state held r).records k.0)
-    (recorded_proper (serve state r.message).after (held_behind state held r) requests (All-set (All IsHeldRequest) held (session_of r.message - 1) (keeping state held r).held k.1 h) (All-tail IsProper r requests p))
+    (recorded_proper (serve state r.message).after (held_behind state held r) requests
+    (All-set (All IsHeldRequest) held (session_of r.message - 1) (keeping state held r).held k.1 h) (All-tail IsProper r requests p))
 
 -- ---- a front of records' bytes is of a front of the records
 
@@ -133,7 +134,8 @@ module _ (may : RequestsMayBeAsked) (law : FrontsAreAccepted) where
       told_map (λ old new. Leaves (IsOfRun (entries_of records) more old.now) old new) StaysServable
       (λ old new m. λ all. leaves_weaker (IsOfRun (entries_of records) more old.now) IsServable old new (of_run records requests old.now s d.begins.proper all) m) a c d.crashed
 
-  is_durable : (how : Ended) (records : List (List Asked)) (taken : List ℕ) (a c : Option Moments) (out out_after : Option (List ℕ)) → KeepsRecords how records taken a c out out_after → IsDurable records taken a c out out_after
+  is_durable : (how : Ended) (records : List (List Asked)) (taken : List ℕ) (a c : Option Moments) (out out_after : Option (List ℕ))
+      → KeepsRecords how records taken a c out out_after → IsDurable records taken a c out out_after
   is_durable ended.OutOfMemory records taken a c out out_after k = k
   is_durable ended.Done records taken a c out out_after k = k.kept.durable
   is_durable ended.ReadFault records taken a c out out_after k = k.kept.durable
@@ -176,7 +178,8 @@ module _ (reading : HasOneReading SpellsRequest) where
       none (r ∷ more) h = absurd (omega (arith, ap length h, length-append (asked_frame r) (frames_in more)))
 
   pub refused_not : (state : State) (before records : List (List Asked)) (entry : List ℕ) (others : List (List ℕ)) → All (All IsProper) before → All (All IsProper) records
-      → entries_of records ≡ entries_of before ++ entry ∷ others → AreServedAgain state (messages_in records) → ((requests : List Asked) → IsServedRecord (state_behind state before) requests entry → ⊥) → ⊥
+      → entries_of records ≡ entries_of before ++ entry ∷ others → AreServedAgain state (messages_in records)
+      → ((requests : List Asked) → IsServedRecord (state_behind state before) requests entry → ⊥) → ⊥
   refused_not state [] [] entry others p q e s refused = absurd (omega (arith, ap length e))
   refused_not state [] (r ∷ records) entry others p q e s refused =
       refused r (record { proper = All-head (All IsProper) r records q; whole = sym (heads e); done = s.0; idle = s.1 })
@@ -201,7 +204,8 @@ module _ (reading : HasOneReading SpellsRequest) where
         | inl damaged ↦ no_damage old.now.seen (entries_of good.records) place good.reads damaged.0
         | inr other ↦
             let r = other.refuses in
-            refused_not empty_state r.before good.records r.entry r.others r.served.proper good.served.proper (same_records old.now.seen (entries_of good.records) other.entries good.reads other.read ∙ r.whole) good.served.served r.refused
+            refused_not empty_state r.before good.records r.entry r.others r.served.proper good.served.proper
+            (same_records old.now.seen (entries_of good.records) other.entries good.reads other.read ∙ r.whole) good.served.served r.refused
       ]
 
   pub isnt_damaged : (how : Ended) (source left out out_after : Option (List ℕ)) (a c : Option Moments) → ServesJournal how source left a c out out_after → IsntDamaged how a c

@@ -30,7 +30,8 @@ when_false true x y e = cc
 when_false false x y e = refl
 
 -- a statement that is done, and one that isn't
-pub keeps_done : (state : State) (session : ℕ) (kind : Sort) (request : Request) (asked : Asked) → IsStatementOf session kind request → is_done (serve state request).replies ≡ true → (held : List (List Asked))
+pub keeps_done : (state : State) (session : ℕ) (kind : Sort) (request : Request) (asked : Asked)
+    → IsStatementOf session kind request → is_done (serve state request).replies ≡ true → (held : List (List Asked))
     → (kept_by request asked (serve state request) (held_at held (session_of request)) ≡ kept_of kind (held_at held session) asked) × (session_of request ≡ session)
 keeps_done state session kind (Describe other text declarations) asked a d held = absurd a
 keeps_done state session kind (Execute other version text params) asked a d held =
@@ -41,8 +42,10 @@ keeps_done state session kind (Execute other version text params) asked a d held
       sym a.0,
     )
 
-pub keeps_open : (state : State) (session : ℕ) (kind : Sort) (request : Request) (asked : Asked) → IsStatementOf session kind request → is_done (serve state request).replies ≡ false → (held : List (List Asked))
-    → (kept_by request asked (serve state request) (held_at held (session_of request)) ≡ kept_where (has_transaction (serve state request).after session) (held_at held session)) × (session_of request ≡ session)
+pub keeps_open : (state : State) (session : ℕ) (kind : Sort) (request : Request) (asked : Asked)
+    → IsStatementOf session kind request → is_done (serve state request).replies ≡ false → (held : List (List Asked))
+    → (kept_by request asked (serve state request) (held_at held (session_of request)) ≡ kept_where
+    (has_transaction (serve state request).after session) (held_at held session)) × (session_of request ≡ session)
 keeps_open state session kind (Describe other text declarations) asked a d held = absurd a
 keeps_open state session kind (Execute other version text params) asked a d held =
     let r = Execute other version text params in (
@@ -80,19 +83,22 @@ module _ (replies : List Reply) (asked : Asked) (session : ℕ) (old new : Durab
 
   -- it wasn't, or is a question
   served_open : (goes_on : Bool) → ((held : List (List Asked)) → (keeping old.state held asked ≡ kept_where goes_on (held_at held session)) × (session_of asked.message ≡ session))
-      → ((held : List (List Asked)) → old.held ≡ map frames_of held → new.held ≡ map frames_of (with_held held session (kept_where goes_on (held_at held session)).held)) → IsServed replies None asked old new
+      → ((held : List (List Asked)) → old.held ≡ map frames_of held → new.held ≡ map frames_of (with_held held session (kept_where goes_on (held_at held session)).held))
+      → IsServed replies None asked old new
   served_open goes_on kn k = record {
     replies = replied;
     after = led;
     kept = λ held e.
         let one = kn held in (
           ap entries_of (sym (nothing_recorded goes_on (held_at held session))) ∙ ap (λ (x : Kept Asked). entries_of x.records) (sym one.0),
-          k held e ∙ ap (λ (x : Kept Asked). map frames_of (with_held held session x.held)) (sym one.0) ∙ ap (λ (n : ℕ). map frames_of (with_held held n (keeping old.state held asked).held)) (sym one.1),
+          k held e ∙ ap (λ (x : Kept Asked). map frames_of (with_held held session x.held)) (sym one.0) ∙ ap
+              (λ (n : ℕ). map frames_of (with_held held n (keeping old.state held asked).held)) (sym one.1),
         );
   }
 
   pub served_undone : (kind : Sort) (goes_on : Bool) → IsStatementOf session kind asked.message → is_done replies ≡ false → goes_on ≡ has_transaction new.state session
-      → ((held : List (List Asked)) → old.held ≡ map frames_of held → new.held ≡ map frames_of (with_held held session (kept_where goes_on (held_at held session)).held)) → IsServed replies None asked old new
+      → ((held : List (List Asked)) → old.held ≡ map frames_of held → new.held ≡ map frames_of (with_held held session (kept_where goes_on (held_at held session)).held))
+      → IsServed replies None asked old new
   served_undone kind goes_on a d o k =
       served_open goes_on
       (λ held.
@@ -128,13 +134,19 @@ pub proper_keeping : (state : State) (held : List (List Asked)) (asked : Asked) 
     → AreProper (keeping state held asked).records × All IsHeldRequest (keeping state held asked).held
 proper_keeping state held asked all h = proper_of state held asked.message asked all h
 
-pub served_holds : (replies : List Reply) (entry : Option (List ℕ)) (asked : Asked) (old new : DurableState) → IsServed replies entry asked old new → IsHolding old.held → (IsExecute asked.message → IsHeldRequest asked)
+pub served_holds : (replies : List Reply) (entry : Option (List ℕ)) (asked : Asked) (old new : DurableState)
+    → IsServed replies entry asked old new → IsHolding old.held → (IsExecute asked.message → IsHeldRequest asked)
     → IfSome entry IsRecord × IsHolding new.held
 served_holds replies entry asked old new s holds h =
     let k = s.kept holds.held holds.is in
     let p = proper_keeping old.state holds.held asked holds.proper h in (
       proper_entry (keeping old.state holds.held asked).records entry p.0 k.0,
-      record { held = held_behind old.state holds.held asked; is = k.1; proper = All-set (All IsHeldRequest) holds.held (session_of asked.message - 1) (keeping old.state holds.held asked).held p.1 holds.proper },
+      record {
+        held = held_behind old.state holds.held asked;
+        is = k.1;
+        proper = All-set (All IsHeldRequest)
+            holds.held (session_of asked.message - 1) (keeping old.state holds.held asked).held p.1 holds.proper;
+      },
     )
 
 -- of a session whose transaction goes on, or has ended
@@ -143,7 +155,8 @@ pub stay_holds : (session : ℕ) (goes_on : Bool) (old new : List HeldFrames) �
 stay_holds session goes_on old new h k = record {
   held = with_held h.held session (kept_where goes_on (held_at h.held session)).held;
   is = k h.held h.is;
-  proper = All-set (All IsHeldRequest) h.held (session - 1) (kept_where goes_on (held_at h.held session)).held (proper_open goes_on (held_at h.held session) (all_at h.held (session - 1) h.proper)).1 h.proper;
+  proper = All-set (All IsHeldRequest) h.held (session - 1) (kept_where goes_on (held_at h.held session)).held
+      (proper_open goes_on (held_at h.held session) (all_at h.held (session - 1) h.proper)).1 h.proper;
 }
 
 -- nothing is held, and a record can be added

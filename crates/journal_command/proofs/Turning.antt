@@ -67,7 +67,8 @@ module _ (start : State) (taken : List ℕ) (feed : Feeding) (durable : DurableS
       recorded_more start nothing_held answered r
       ∙ ap (λ (x : State). records_of start nothing_held answered ++ (keeping x held r).records) (sym s.stands.left)
 
-  entries_more : (r : Asked) → entries_of (records_of start nothing_held (answered ++ r ∷ [])) ≡ entries_of (records_of start nothing_held answered) ++ entries_of (keeping durable.state held r).records
+  entries_more : (r : Asked)
+      → entries_of (records_of start nothing_held (answered ++ r ∷ [])) ≡ entries_of (records_of start nothing_held answered) ++ entries_of (keeping durable.state held r).records
   entries_more r = ap entries_of (records_next r) ∙ entries_append (records_of start nothing_held answered) (keeping durable.state held r).records
 
   there_next : (r : Asked) (new : Outside) → AreThere (entries_of (keeping durable.state held r).records) now new → AreThere (entries_of (records_of start nothing_held (answered ++ r ∷ []))) first new
@@ -81,7 +82,8 @@ module _ (start : State) (taken : List ℕ) (feed : Feeding) (durable : DurableS
       subst (λ (l : List (List ℕ)). TriesEntries first.gate (entries_of (records_of start nothing_held answered)) l first.disk new.disk) (sym (entries_more r))
       (tries_more first.gate now.gate (entries_of (records_of start nothing_held answered)) (entries_of (keeping durable.state held r).records) first.disk now.disk new.disk s.there.added t.tried)
 
-  pub so_far_more : (used : ℕ) (after : DurableState) (new : Outside) → length taken < 2 ^ 64 → AnswersNext feed used held durable after now new → IsSoFar start taken (behind feed used) after first new
+  pub so_far_more : (used : ℕ) (after : DurableState) (new : Outside) → length taken < 2 ^ 64
+      → AnswersNext feed used held durable after now new → IsSoFar start taken (behind feed used) after first new
   unfolding stands_more there_next
   so_far_more used after new short a =
       let w = a.answers in
@@ -152,7 +154,8 @@ module _ (start : State) (taken : List ℕ) (feed : Feeding) (durable : DurableS
     room = s.there.room;
   }
 
-  kept_tried : (r : Asked) (used : ℕ) (new : Outside) → IsNext feed r used → MayBeThere (entries_of (keeping durable.state held r).records) now new → HaveRoom now.gate (entries_of (keeping durable.state held r).records)
+  kept_tried : (r : Asked) (used : ℕ) (new : Outside) → IsNext feed r used
+      → MayBeThere (entries_of (keeping durable.state held r).records) now new → HaveRoom now.gate (entries_of (keeping durable.state held r).records)
       → HasRoomFor start taken first new
   unfolding kept_before
   kept_tried r used new next t room = record {
@@ -161,7 +164,8 @@ module _ (start : State) (taken : List ℕ) (feed : Feeding) (durable : DurableS
         (room_more first.gate now.gate (entries_of (records_of start nothing_held answered)) (entries_of (keeping durable.state held r).records) s.there.gate s.there.room room);
   }
 
-  kept_full : (r : Asked) (used : ℕ) (new : Outside) → IsNext feed r used → MayBeThere (entries_of (keeping durable.state held r).records) now new → HasNoRoom now.gate (entries_of (keeping durable.state held r).records)
+  kept_full : (r : Asked) (used : ℕ) (new : Outside) → IsNext feed r used → MayBeThere (entries_of (keeping durable.state held r).records) now new
+      → HasNoRoom now.gate (entries_of (keeping durable.state held r).records)
       → HasNoRoomFor start taken first new
   unfolding kept_before
   kept_full r used new next t full =
@@ -195,14 +199,16 @@ module _ (start : State) (taken : List ℕ) (feed : Feeding) (durable : DurableS
       (subst (λ (x : Outside). PutsOf stops.OutOfMemory start taken first.out x.out × KeepsBy stops.OutOfMemory start taken first x) (sym n)
       (inl (first_before now refl), kept_so_far.kept))
 
-  pub stops_so : (stop : Stop) (after : DurableState) (new : Outside) → Turns (turn.Stopped stop) feed held durable after now new → PutsOf stop start taken first.out new.out × KeepsBy stop start taken first new
+  pub stops_so : (stop : Stop) (after : DurableState) (new : Outside) → Turns (turn.Stopped stop) feed held durable after now new
+      → PutsOf stop start taken first.out new.out × KeepsBy stop start taken first new
   stops_so stop after new t = elim t [ inl here ↦ stops_here stop new here.0 here.1 | inr next ↦ stops_next stop new next ]
 
   pub waits_so_far : (after : DurableState) (new : Outside) → Turns turn.Waits feed held durable after now new → IsSoFar start taken feed after first new × IsNotYet is_request_head feed.held
   waits_so_far after new t =
       (subst (λ (d : DurableState). IsSoFar start taken feed d first new) (sym t.2) (subst (λ (x : Outside). IsSoFar start taken feed durable first x) (sym t.3) s), t.0)
 
-  pub refused_so_far : (place : ℕ) (after : DurableState) (new : Outside) → Turns (turn.Refused place) feed held durable after now new → AnswersAll start taken (Refused place) first.out new.out × HasKeptAll start taken taken first new
+  pub refused_so_far : (place : ℕ) (after : DurableState) (new : Outside) → Turns (turn.Refused place) feed held durable after now new
+      → AnswersAll start taken (Refused place) first.out new.out × HasKeptAll start taken taken first new
   refused_so_far place after new t =
       subst (λ (x : Outside). AnswersAll start taken (Refused place) first.out x.out × HasKeptAll start taken taken first x) (sym t.2)
       (answers_all start taken feed durable.state first.out now.out s.stands (Refused place) (t.0, t.1), kept_all (inr t.1))

@@ -47,7 +47,8 @@ pub still_moments : (journal : JournalState) (x y z : Moments) → Mounts (mount
 still_moments journal x y z m s =
     leaves_then (IsSomeImage x.now) x y z m.0 (leaves_weaker (λ image. image ≡ y.now.seen) (IsSomeImage x.now) y z (still_image journal m.1 x y m.2) s.moments)
 
-still_mounted : (journal : JournalState) (entries : List (List ℕ)) (x y z : Moments) → Mounts (mounted.Ready journal) x y → ((es : List (List ℕ)) → EndsAt journal.gate es y → es ≡ entries) × StaysKept y z
+still_mounted : (journal : JournalState) (entries : List (List ℕ)) (x y z : Moments) → Mounts (mounted.Ready journal) x y
+    → ((es : List (List ℕ)) → EndsAt journal.gate es y → es ≡ entries) × StaysKept y z
     → HasMounted journal entries x z
 still_mounted journal entries x y z m all =
     let f = m.2 in
@@ -64,14 +65,16 @@ still_mounted journal entries x y z m all =
 
 -- ---- nothing was served
 
-still_unserved : (journal : JournalState) (source left out out_after : Option (List ℕ)) (a b c : Option Moments) → WhereTold (Mounts (mounted.Ready journal)) a b → StandsStill source left b c out out_after → IsUnserved source left a c out out_after
+still_unserved : (journal : JournalState) (source left out out_after : Option (List ℕ)) (a b c : Option Moments)
+    → WhereTold (Mounts (mounted.Ready journal)) a b → StandsStill source left b c out out_after → IsUnserved source left a c out out_after
 still_unserved journal source left out out_after a b c w s = record {
   untaken = s.untaken;
   unput = s.unput;
   crashed = told_then (Mounts (mounted.Ready journal)) StaysKept (λ old new. Leaves (IsSomeImage old.now) old new) (still_moments journal) a b c w s.stays;
 }
 
-pub refused_at : (journal : JournalState) (place : ℕ) (x y z : Moments) → Mounts (mounted.Ready journal) x y → ((es : List (List ℕ)) → EndsAt journal.gate es y → RefusesAt empty_state es place) × StaysKept y z
+pub refused_at : (journal : JournalState) (place : ℕ) (x y z : Moments) → Mounts (mounted.Ready journal) x y
+    → ((es : List (List ℕ)) → EndsAt journal.gate es y → RefusesAt empty_state es place) × StaysKept y z
     → IsImage x.now x.now.seen × IsBad place x z
 refused_at journal place x y z m r =
     let f = m.2 in (
@@ -86,15 +89,18 @@ refused_at journal place x y z m r =
 
 -- ---- or the input was
 
-module _ (may : RequestsMayBeAsked) (journal : JournalState) (entries : List (List ℕ)) (a b : Option Moments) (w : WhereTold (HasMounted journal entries) a b) (sound : journal.gate ≡ place_behind entries) where
+module _ (may : RequestsMayBeAsked) (journal : JournalState) (entries : List (List ℕ)) (a b : Option Moments)
+    (w : WhereTold (HasMounted journal entries) a b) (sound : journal.gate ≡ place_behind entries) where
   module _ (records : List (List Asked)) (served : AreServedRecords empty_state records entries) (source left out out_after : Option (List ℕ)) (c : Option Moments) (gate : ℕ) where
     abbrev start : State
     start = state_behind empty_state records
 
     abbrev Tried : List Asked → List Asked → Moments → Moments → Type 0
-    Tried answered all old new = (es : List (List ℕ)) → EndsAt journal.gate es old → AreTried es (entries_of (records_of start nothing_held answered)) (entries_of (records_of start nothing_held all)) old new
+    Tried answered all old new = (es : List (List ℕ)) → EndsAt journal.gate es old
+        → AreTried es (entries_of (records_of start nothing_held answered)) (entries_of (records_of start nothing_held all)) old new
 
-    moments : (answered all : List Asked) (x y z : Moments) → HasMounted journal entries x y → Tried answered all y z → Leaves (IsOfRun (entries_of records) (entries_of (records_of start nothing_held all)) x.now) x z
+    moments : (answered all : List Asked) (x y z : Moments) → HasMounted journal entries x y → Tried answered all y z
+        → Leaves (IsOfRun (entries_of records) (entries_of (records_of start nothing_held all)) x.now) x z
     moments answered all x y z m q =
         let more = entries_of (records_of start nothing_held all) in
         let t = q entries m.finds.ends in
@@ -102,9 +108,11 @@ module _ (may : RequestsMayBeAsked) (journal : JournalState) (entries : List (Li
         (leaves_then (IsOfRun entries more x.now) x y z (leaves_weaker (IsSomeImage x.now) (IsOfRun entries more x.now) x y (λ image i. inl i) m.moments)
         (leaves_weaker (HasFront entries more) (IsOfRun entries more x.now) y z (λ image h. inr h) t.moments))
 
-    crashed : (answered all : List Asked) → WhereTold (Tried answered all) b c → WhereTold (λ old new. Leaves (IsOfRun (entries_of records) (entries_of (records_of start nothing_held all)) old.now) old new) a c
+    crashed : (answered all : List Asked) → WhereTold (Tried answered all) b c
+        → WhereTold (λ old new. Leaves (IsOfRun (entries_of records) (entries_of (records_of start nothing_held all)) old.now) old new) a c
     crashed answered all q =
-        told_then (HasMounted journal entries) (Tried answered all) (λ old new. Leaves (IsOfRun (entries_of records) (entries_of (records_of start nothing_held all)) old.now) old new) (moments answered all) a b c w q
+        told_then (HasMounted journal entries) (Tried answered all)
+        (λ old new. Leaves (IsOfRun (entries_of records) (entries_of (records_of start nothing_held all)) old.now) old new) (moments answered all) a b c w q
 
     least : (answered all : List Asked) → WhereTold (Tried answered all) b c
         → WhereTold (λ old new. LeavesNow (HasLeast (entries_of records) (entries_of (records_of start nothing_held answered)) (entries_of (records_of start nothing_held all))) new.now) a c
@@ -119,7 +127,8 @@ module _ (may : RequestsMayBeAsked) (journal : JournalState) (entries : List (Li
         told_then (HasMounted journal entries) (Tried answered all) (λ old new. IsImage old.now old.now.seen × ReadsAs (Records (entries_of records)) old.now.seen)
         (λ x y z m t. (m.finds.was_image, subst (λ (es : List (List ℕ)). ReadsAs (Records es) x.now.seen) served.whole m.finds.read)) a b c w q
 
-    room : (requests : List Asked) → HaveRoom journal.gate (entries_of (records_of start nothing_held requests)) → HaveRoom (place_behind (entries_of records)) (entries_of (records_of start nothing_held requests))
+    room : (requests : List Asked) → HaveRoom journal.gate (entries_of (records_of start nothing_held requests))
+        → HaveRoom (place_behind (entries_of records)) (entries_of (records_of start nothing_held requests))
     room requests h = subst (λ (n : ℕ). HaveRoom n (entries_of (records_of start nothing_held requests))) (sound ∙ ap place_behind served.whole) h
 
     is_durable : (taken : List ℕ) → HasKept start taken (outside journal.gate b out) (outside gate c out_after) → IsDurable records taken a c out out_after
@@ -159,7 +168,8 @@ module _ (may : RequestsMayBeAsked) (journal : JournalState) (entries : List (Li
       );
     }
 
-    has_kept : (how : Ended) (taken : List ℕ) → KeepsSo how start taken (outside journal.gate b out) (outside gate c out_after) → HasKept start taken (outside journal.gate b out) (outside gate c out_after)
+    has_kept : (how : Ended) (taken : List ℕ) → KeepsSo how start taken (outside journal.gate b out) (outside gate c out_after)
+        → HasKept start taken (outside journal.gate b out) (outside gate c out_after)
     has_kept ended.OutOfMemory taken k = k
     has_kept ended.Done taken k = k.kept.kept
     has_kept ended.ReadFault taken k = k.kept.kept
@@ -203,7 +213,8 @@ not_so : (how : Ended) → is_memory how ≡ false → how ≡ ended.OutOfMemory
 unfolding is_memory
 not_so how f e = false_true (sym f ∙ ap is_memory e)
 
-module _ (may : RequestsMayBeAsked) (journal : JournalState) (a b : Option Moments) (w : WhereTold (Mounts (mounted.Ready journal)) a b) (source left out out_after : Option (List ℕ)) (c : Option Moments) where
+module _ (may : RequestsMayBeAsked) (journal : JournalState) (a b : Option Moments) (w : WhereTold (Mounts (mounted.Ready journal)) a b)
+    (source left out out_after : Option (List ℕ)) (c : Option Moments) where
   -- a run, or no memory for one
   data Came (how : Ended) : Type 0 where
     Ran : Runs how source left a c out out_after → Came how
@@ -214,7 +225,8 @@ module _ (may : RequestsMayBeAsked) (journal : JournalState) (a b : Option Momen
       let q = r.restarted in
       let entries = entries_of q.records in
       let there : WhereTold (HasMounted journal entries) a r.between =
-      told_then (Mounts (mounted.Ready journal)) (λ old new. ((es : List (List ℕ)) → EndsAt journal.gate es old → es ≡ entries) × StaysKept old new) (HasMounted journal entries) (still_mounted journal entries) a b r.between w q.all in
+      told_then (Mounts (mounted.Ready journal)) (λ old new. ((es : List (List ℕ)) → EndsAt journal.gate es old → es ≡ entries) × StaysKept old new)
+      (HasMounted journal entries) (still_mounted journal entries) a b r.between w q.all in
       let stays = still_of (λ es. es ≡ entries) journal.gate b r.between q.all in
       let from = subst (λ (st : State). ServesFrom how st journal.gate source left r.between c out out_after) q.after r.serves in
       elim from [
@@ -226,7 +238,8 @@ module _ (may : RequestsMayBeAsked) (journal : JournalState) (a b : Option Momen
   ran : (how : Ended) → is_memory how ≡ false → ServesRestarted how journal.gate source left b c out out_after → Runs how source left a c out out_after
   ran how f r = elim (came how r) [ Ran runs_so ↦ runs_so | Stood e u ↦ absurd (not_so how f e) ]
 
-  ran_or : (how : Ended) → ServesRestarted how journal.gate source left b c out out_after ⊎ StandsStill source left b c out out_after → IsUnserved source left a c out out_after ⊎ Runs how source left a c out out_after
+  ran_or : (how : Ended) → ServesRestarted how journal.gate source left b c out out_after ⊎ StandsStill source left b c out out_after
+      → IsUnserved source left a c out out_after ⊎ Runs how source left a c out out_after
   ran_or how s = elim s [
     | inl r ↦ elim (came how r) [ Ran runs_so ↦ inr runs_so | Stood e u ↦ inl u ]
     | inr still ↦ inl (still_unserved journal source left out out_after a b c w still)

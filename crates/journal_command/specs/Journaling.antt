@@ -32,7 +32,8 @@ pub record IsDurable (records : List (List Asked)) (taken : List ℕ) (disk disk
   pub others : List ℕ
   pub begins : Begins taken (answered ++ tried) others
   pub put : AddsFront (reply_frames (state_behind empty_state records) answered) out out_after
-  pub crashed : WhereTold (λ old new. Leaves (IsOfRun (entries_of records) (entries_of (records_of (state_behind empty_state records) nothing_held (answered ++ tried))) old.now) old new) disk disk_after
+  pub crashed : WhereTold
+      (λ old new. Leaves (IsOfRun (entries_of records) (entries_of (records_of (state_behind empty_state records) nothing_held (answered ++ tried))) old.now) old new) disk disk_after
   pub kept : WhereTold (λ old new. LeavesNow (HasLeast (entries_of records) (entries_of (records_of (state_behind empty_state records) nothing_held answered))
       (entries_of (records_of (state_behind empty_state records) nothing_held (answered ++ tried)))) new.now) disk disk_after
   pub room : HaveRoom (place_behind (entries_of records)) (entries_of (records_of (state_behind empty_state records) nothing_held answered))

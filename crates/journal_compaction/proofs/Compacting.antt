@@ -26,7 +26,8 @@ compaction entries fewer state led leads = record {
 -- the old file's records were read again
 read_still : (entries : List (List ℕ)) (a b c : Option Moments) → IsRead entries a b → WhereTold StaysKept b c → IsRead entries a c
 read_still entries =
-    told_then (λ old new. IsImage old.now old.now.seen × ReadsAs (Records entries) old.now.seen) StaysKept (λ old new. IsImage old.now old.now.seen × ReadsAs (Records entries) old.now.seen) (λ x y z r s. r)
+    told_then (λ old new. IsImage old.now old.now.seen × ReadsAs (Records entries) old.now.seen) StaysKept
+    (λ old new. IsImage old.now old.now.seen × ReadsAs (Records entries) old.now.seen) (λ x y z r s. r)
 
 compacts_from : (result : Compacted) (entries : List (List ℕ)) (state : State) (a b c d : Option Moments) → LedTo entries state × IsRead entries a b → Writes result state c d → Compacts result a b c d
 compacts_from ended.Done entries state a b c d f w = record { entries = entries; fewer = w.0; found = f.1; compaction = compaction entries w.0 state f.0 w.1; there = w.2 }

@@ -152,7 +152,8 @@ journal_put law stored.OutOfMemory entries a b c all h p s =
     told_then (IsAll entries) (Syncs stored.OutOfMemory) (WritesJournal stored.OutOfMemory entries) (λ x y z e t. tt) a b c (all_put entries a b h p) s
 
 -- what was there before is cut off
-pub cut_then : (result : Stored) (entries : List (List ℕ)) (a b c : Option Moments) → WhereTold (Cuts stored.Done 0) a b → WhereTold (WritesJournal result entries) b c → WhereTold (WritesJournal result entries) a c
+pub cut_then : (result : Stored) (entries : List (List ℕ)) (a b c : Option Moments) → WhereTold (Cuts stored.Done 0) a b
+    → WhereTold (WritesJournal result entries) b c → WhereTold (WritesJournal result entries) a c
 cut_then stored.Done entries a b c = told_then (Cuts stored.Done 0) (WritesJournal stored.Done entries) (WritesJournal stored.Done entries) (λ x y z p q. q) a b c
 cut_then stored.Failed entries a b c = told_then (Cuts stored.Done 0) (WritesJournal stored.Failed entries) (WritesJournal stored.Failed entries) (λ x y z p q. tt) a b c
 cut_then stored.OutOfMemory entries a b c = told_then (Cuts stored.Done 0) (WritesJournal stored.OutOfMemory entries) (WritesJournal stored.OutOfMemory entries) (λ x y z p q. tt) a b c

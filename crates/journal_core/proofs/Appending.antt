@@ -30,7 +30,8 @@ kept_leaves P file stand is p image im = subst P (sym (kept_only file image (sub
 
 -- no memory: nothing was asked
 pub unwritten : (at : ℕ) (bytes : List ℕ) (a : Moments) → IsKept a → WritesThrough stored.OutOfMemory at bytes a a
-unwritten at bytes a k = leaves_none (Torn a.now.seen (Range at (length bytes))) a (kept_leaves (Torn a.now.seen (Range at (length bytes))) a.now.seen a.now k (torn_same a.now.seen (Range at (length bytes))))
+unwritten at bytes a k = leaves_none (Torn a.now.seen (Range at (length bytes))) a
+    (kept_leaves (Torn a.now.seen (Range at (length bytes))) a.now.seen a.now k (torn_same a.now.seen (Range at (length bytes))))
 
 module _ (gate : ℕ) (entry : List ℕ) (is : IsEntry entry) (entries : List (List ℕ)) where
   abbrev staged : List ℕ
@@ -98,20 +99,24 @@ module _ (gate : ℕ) (entry : List ℕ) (is : IsEntry entry) where
   entry_unwritten : (a b : Moments) → IsMounted gate a → WritesThrough stored.OutOfMemory (gate + 1) (framed entry ++ 0 ∷ []) a b → WritesEntry stored.OutOfMemory gate entry a b
   entry_unwritten a b m w = λ entries e. behind gate entry is entries a b e w
 
-  entry_written : (result : Stored) (a b c : Moments) → IsMounted gate a → WritesThrough stored.Done (gate + 1) (framed entry ++ 0 ∷ []) a b → WritesThrough result gate (1 ∷ []) b c → WritesEntry result gate entry a c
+  entry_written : (result : Stored) (a b c : Moments) → IsMounted gate a → WritesThrough stored.Done (gate + 1) (framed entry ++ 0 ∷ []) a b
+      → WritesThrough result gate (1 ∷ []) b c → WritesEntry result gate entry a c
   entry_written stored.Done a b c m w v = λ entries e. added gate entry is entries a b c e w v
   entry_written stored.Failed a b c m w v = λ entries e. both gate entry is entries a b c e w v
   entry_written stored.OutOfMemory a b c m w v = λ entries e. both gate entry is entries a b c e w v
 
-  pub entry_stopped_told : (a b : Option Moments) → IfSome a (IsMounted gate) → WhereTold (WritesThrough stored.Failed (gate + 1) (framed entry ++ 0 ∷ [])) a b → WhereTold (WritesEntry stored.Failed gate entry) a b
+  pub entry_stopped_told : (a b : Option Moments) → IfSome a (IsMounted gate)
+      → WhereTold (WritesThrough stored.Failed (gate + 1) (framed entry ++ 0 ∷ [])) a b → WhereTold (WritesEntry stored.Failed gate entry) a b
   entry_stopped_told = told_from (IsMounted gate) (WritesThrough stored.Failed (gate + 1) (framed entry ++ 0 ∷ [])) (WritesEntry stored.Failed gate entry) entry_stopped
 
-  pub entry_unwritten_told : (a b : Option Moments) → IfSome a (IsMounted gate) → WhereTold (WritesThrough stored.OutOfMemory (gate + 1) (framed entry ++ 0 ∷ [])) a b → WhereTold (WritesEntry stored.OutOfMemory gate entry) a b
+  pub entry_unwritten_told : (a b : Option Moments) → IfSome a (IsMounted gate)
+      → WhereTold (WritesThrough stored.OutOfMemory (gate + 1) (framed entry ++ 0 ∷ [])) a b → WhereTold (WritesEntry stored.OutOfMemory gate entry) a b
   entry_unwritten_told = told_from (IsMounted gate) (WritesThrough stored.OutOfMemory (gate + 1) (framed entry ++ 0 ∷ [])) (WritesEntry stored.OutOfMemory gate entry) entry_unwritten
 
   pub entry_written_told : (result : Stored) (a b c : Option Moments) → IfSome a (IsMounted gate)
       → WhereTold (WritesThrough stored.Done (gate + 1) (framed entry ++ 0 ∷ [])) a b → WhereTold (WritesThrough result gate (1 ∷ [])) b c → WhereTold (WritesEntry result gate entry) a c
-  entry_written_told result = told_from_then (IsMounted gate) (WritesThrough stored.Done (gate + 1) (framed entry ++ 0 ∷ [])) (WritesThrough result gate (1 ∷ [])) (WritesEntry result gate entry) (entry_written result)
+  entry_written_told result = told_from_then (IsMounted gate) (WritesThrough stored.Done (gate + 1) (framed entry ++ 0 ∷ []))
+      (WritesThrough result gate (1 ∷ [])) (WritesEntry result gate entry) (entry_written result)
 
 -- and a further one can be added
 added_mounted : (gate : ℕ) (entry : List ℕ) (a b : Moments) → IsMounted gate a → WritesEntry stored.Done gate entry a b → IsMounted (gate + (9 + length entry)) b
@@ -119,7 +124,8 @@ added_mounted gate entry a b m w =
     let next : gate + 9 + length entry ≡ gate + (9 + length entry) = omega arith in
     (m.0 ++ entry ∷ [], subst (λ (n : ℕ). EndsAt n (m.0 ++ entry ∷ []) b) next (w m.0 m.1).ends)
 
-pub added_mounted_told : (gate : ℕ) (entry : List ℕ) (a b : Option Moments) → IfSome a (IsMounted gate) → WhereTold (WritesEntry stored.Done gate entry) a b → IfSome b (IsMounted (gate + (9 + length entry)))
+pub added_mounted_told : (gate : ℕ) (entry : List ℕ) (a b : Option Moments) → IfSome a (IsMounted gate)
+    → WhereTold (WritesEntry stored.Done gate entry) a b → IfSome b (IsMounted (gate + (9 + length entry)))
 added_mounted_told gate entry = told_after (IsMounted gate) (WritesEntry stored.Done gate entry) (IsMounted (gate + (9 + length entry))) (added_mounted gate entry)
 
 -- ---- before the calls
@@ -129,17 +135,21 @@ if_some_then P Q f (Some x) p = f x p
 if_some_then P Q f None p = tt
 
 -- the place of the gate is inside the file with the record staged
-staged_inside : (gate : ℕ) (entry : List ℕ) (a b : Moments) → IsEntry entry → IsMounted gate a → WritesThrough stored.Done (gate + 1) (framed entry ++ 0 ∷ []) a b → IsKept b × (gate ≤ length b.now.seen)
+staged_inside : (gate : ℕ) (entry : List ℕ) (a b : Moments) → IsEntry entry → IsMounted gate a
+    → WritesThrough stored.Done (gate + 1) (framed entry ++ 0 ∷ []) a b → IsKept b × (gate ≤ length b.now.seen)
 staged_inside gate entry a b is m w =
     let e = m.1 in
     let now = staged_now gate entry is m.0 a b e w in
     (now ∙ ap (λ (s : Stand). kept s.seen) (sym now), omega (arith, e.gate_is, ap (λ (s : Stand). length s.seen) now, length-append e.front (0 ∷ (framed entry ++ 0 ∷ []))))
 
-pub staged_kept_told : (gate : ℕ) (entry : List ℕ) (is : IsEntry entry) (a b : Option Moments) → IfSome a (IsMounted gate) → WhereTold (WritesThrough stored.Done (gate + 1) (framed entry ++ 0 ∷ [])) a b → IfSome b IsKept
+pub staged_kept_told : (gate : ℕ) (entry : List ℕ) (is : IsEntry entry) (a b : Option Moments) → IfSome a (IsMounted gate)
+    → WhereTold (WritesThrough stored.Done (gate + 1) (framed entry ++ 0 ∷ [])) a b → IfSome b IsKept
 staged_kept_told gate entry is = told_after (IsMounted gate) (WritesThrough stored.Done (gate + 1) (framed entry ++ 0 ∷ [])) IsKept (λ a b m w. (staged_inside gate entry a b is m w).0)
 
-pub staged_inside_told : (gate : ℕ) (entry : List ℕ) (is : IsEntry entry) (a b : Option Moments) → IfSome a (IsMounted gate) → WhereTold (WritesThrough stored.Done (gate + 1) (framed entry ++ 0 ∷ [])) a b → IfSome b (λ d. gate ≤ length d.now.seen)
-staged_inside_told gate entry is = told_after (IsMounted gate) (WritesThrough stored.Done (gate + 1) (framed entry ++ 0 ∷ [])) (λ d. gate ≤ length d.now.seen) (λ a b m w. (staged_inside gate entry a b is m w).1)
+pub staged_inside_told : (gate : ℕ) (entry : List ℕ) (is : IsEntry entry) (a b : Option Moments)
+    → IfSome a (IsMounted gate) → WhereTold (WritesThrough stored.Done (gate + 1) (framed entry ++ 0 ∷ [])) a b → IfSome b (λ d. gate ≤ length d.now.seen)
+staged_inside_told gate entry is = told_after (IsMounted gate) (WritesThrough stored.Done (gate + 1) (framed entry ++ 0 ∷ []))
+    (λ d. gate ≤ length d.now.seen) (λ a b m w. (staged_inside gate entry a b is m w).1)
 
 pub mounted_kept_told : (gate : ℕ) (a : Option Moments) → IfSome a (IsMounted gate) → IfSome a IsKept
 mounted_kept_told gate = if_some_then (IsMounted gate) IsKept (mounted_kept gate)

@@ -81,7 +81,9 @@ module _ (entries : List (List ℕ)) (front : List ℕ) (opens : Opens entries f
     pub gate_reads : (gate : ℕ) → WithOrWithout entries entry (front ++ gate ∷ (framed entry ++ 0 ∷ []))
     gate_reads gate = elim (cases_eq gate 0) [
       | inl shut ↦ inl (inr (record { front = front; rest = framed entry ++ 0 ∷ []; opens = opens; whole = ap (λ (g : ℕ). front ++ g ∷ (framed entry ++ 0 ∷ [])) shut }))
-      | inr is_open ↦ inr (inr (record { front = front ++ gate ∷ framed entry; rest = []; opens = opens_more entries front gate entry opens is_open is; whole = sym (append_assoc front (gate ∷ framed entry) (0 ∷ [])) }))
+      | inr is_open ↦ inr
+          (inr (record
+          { front = front ++ gate ∷ framed entry; rest = []; opens = opens_more entries front gate entry opens is_open is; whole = sym (append_assoc front (gate ∷ framed entry) (0 ∷ [])) }))
     ]
 
     pub opening_reads : (image : List ℕ) → Torn (front ++ 0 ∷ (framed entry ++ 0 ∷ [])) (Range (length front) 1) image → WithOrWithout entries entry image

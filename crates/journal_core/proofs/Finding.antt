@@ -57,7 +57,8 @@ settled entries gate file a b p w =
     record { moments = repaired entries gate file a b p both.moments; read = parsed_reads entries gate file p; ends = both.ends; left = both.left }
 
 -- by what the disk answered
-settled_by : (result : Stored) (gate : ℕ) (file : List ℕ) (entries : List (List ℕ)) → IsParsed entries gate file → (a b : Moments) → Repairs result gate file a b → Settles (mended_by result gate) file a b
+settled_by : (result : Stored) (gate : ℕ) (file : List ℕ) (entries : List (List ℕ)) → IsParsed entries gate file
+    → (a b : Moments) → Repairs result gate file a b → Settles (mended_by result gate) file a b
 settled_by stored.Done gate file entries p a b w = (entries, settled entries gate file a b p w)
 settled_by stored.Failed gate file entries p a b w = repaired entries gate file a b p (w entries p)
 settled_by stored.OutOfMemory gate file entries p a b w = repaired entries gate file a b p (w entries p)
@@ -103,7 +104,8 @@ short_settled result file a b c k r w =
     read_settled (mended_by result 0) a b c r.1
     (settled_by result 0 a.now.seen [] (short_parsed a.now.seen k.short) b c (subst (λ (f : List ℕ). Repairs result 0 f b c) (short_file file a b k r) w))
 
-pub short_settled_told : (result : Stored) (file : List ℕ) (a b c : Option Moments) → IfSome a IsShort → WhereTold (ReadsPart (given.Bytes file) 0 1) a b → WhereTold (Repairs result 0 file) b c → WhereTold (SettlesFile (mended_by result 0)) a c
+pub short_settled_told : (result : Stored) (file : List ℕ) (a b c : Option Moments) → IfSome a IsShort
+    → WhereTold (ReadsPart (given.Bytes file) 0 1) a b → WhereTold (Repairs result 0 file) b c → WhereTold (SettlesFile (mended_by result 0)) a c
 short_settled_told result file = told_from_then IsShort (ReadsPart (given.Bytes file) 0 1) (Repairs result 0 file) (SettlesFile (mended_by result 0)) (short_settled result file)
 
 pub short_kept_told : (file : List ℕ) (a b : Option Moments) → IfSome a IsShort → WhereTold (ReadsPart (given.Bytes file) 0 1) a b → IfSome b (λ d. d.now ≡ kept file)
@@ -117,7 +119,8 @@ whole_settled gate result a b c s w =
     read_settled (mended_by result gate) a b c s.1
     (settled_by result gate a.now.seen s.0.0 s.0.1 b c (subst (λ (x : Stand). Repairs result gate x.seen b c) s.1.now w))
 
-pub whole_settled_told : (gate : ℕ) (result : Stored) (a b c : Option Moments) → WhereTold (Scans (scanned.Whole gate)) a b → WhereTold (RepairsSeen result gate) b c → WhereTold (SettlesFile (mended_by result gate)) a c
+pub whole_settled_told : (gate : ℕ) (result : Stored) (a b c : Option Moments) → WhereTold (Scans (scanned.Whole gate)) a b
+    → WhereTold (RepairsSeen result gate) b c → WhereTold (SettlesFile (mended_by result gate)) a c
 whole_settled_told gate result = told_then (Scans (scanned.Whole gate)) (RepairsSeen result gate) (SettlesFile (mended_by result gate)) (whole_settled gate result)
 
 damaged : (last place : ℕ) (a b : Moments) → IsKeptTo last a → Scans (scanned.Broken place) a b → SettlesFile (mounted.Damaged place) a b
@@ -161,7 +164,8 @@ seen_images a b c y w =
     let seen : b.now.seen ≡ a.now.seen = ap (λ (s : Stand). s.seen) y.here in
     let first = leaves_pass (IsSomeImage a.now) (λ before after. after ≡ kept before.seen) a a b (leaves_none (IsSomeImage a.now) a (image_now a.now)) y
     (kept_leaves (IsSomeImage a.now) a.now.seen b.now y.here (record { of = a.now.seen; was = y.was_image; alike = alike_same a.now.seen })) in
-    let later = leaves_weaker (ReadsAlike b.now.seen) (IsSomeImage a.now) b c (λ image same. record { of = a.now.seen; was = y.was_image; alike = subst (λ (f : List ℕ). ReadsAlike f image) seen same }) w in
+    let later = leaves_weaker (ReadsAlike b.now.seen) (IsSomeImage a.now) b c
+    (λ image same. record { of = a.now.seen; was = y.was_image; alike = subst (λ (f : List ℕ). ReadsAlike f image) seen same }) w in
     leaves_then (IsSomeImage a.now) a b c first later
 
 mounted_read : (found : Mounted) (a b c : Moments) → Syncs stored.Done a b → Settles found b.now.seen b c → Mounts found a c
@@ -180,7 +184,12 @@ mounted_read (mounted.Ready journal) a b c y w =
         file = w.1.left ∙ ap (λ (f : List ℕ). take journal.gate f ++ 0 ∷ []) seen;
       },
     )
-mounted_read (mounted.Damaged place) a b c y w = (seen_images a b c y w.0, subst (ReadsAs (Damaged place)) (ap (λ (s : Stand). s.seen) y.here) w.1, y.was_image, left_then a b c (syncs_pass (λ before after. after ≡ kept before.seen) a a b NoCall y (inr y.here)) (ap (λ (s : Stand). s.seen) y.here) w.2)
+mounted_read (mounted.Damaged place) a b c y w = (
+  seen_images a b c y w.0,
+  subst (ReadsAs (Damaged place)) (ap (λ (s : Stand). s.seen) y.here) w.1,
+  y.was_image,
+  left_then a b c (syncs_pass (λ before after. after ≡ kept before.seen) a a b NoCall y (inr y.here)) (ap (λ (s : Stand). s.seen) y.here) w.2,
+)
 mounted_read mounted.DiskFault a b c y w = seen_images a b c y w
 mounted_read mounted.OutOfMemory a b c y w = seen_images a b c y w
 

@@ -1,5 +1,33 @@
 -- The record that stands first, and the records of a whole file.
-use Rattle.std.proofs.Common.{◌≡◌, ◌≢◌, inr, ℕ, zero, suc, ◌+◌, ◌≤◌, ◌<◌, ◌^◌, List, [], ◌∷◌, ◌++◌, length, take, drop, get_or, refl, sym, ap, ◌∙◌, subst, append_assoc, arith, length-append, take-append-drop}
+use Rattle.std.proofs.Common.{
+  ◌≡◌,
+  ◌≢◌,
+  inr,
+  ℕ,
+  zero,
+  suc,
+  ◌+◌,
+  ◌≤◌,
+  ◌<◌,
+  ◌^◌,
+  List,
+  [],
+  ◌∷◌,
+  ◌++◌,
+  length,
+  take,
+  drop,
+  get_or,
+  refl,
+  sym,
+  ap,
+  ◌∙◌,
+  subst,
+  append_assoc,
+  arith,
+  length-append,
+  take-append-drop,
+}
 use Rattle.std.specs.Int.{w64, to_be_bytes, from_be_bytes}
 use Rattle.std.proofs.lemmas.List.{take_at, drop_more, length-take-le}
 use Rattle.std.proofs.lemmas.Nat.{from_be_bytes-to_be_bytes_8}
@@ -24,7 +52,8 @@ found bytes len spelled small room proper =
     let entry = take len (drop 8 bytes) in
     let count : length entry ≡ len = length-take-le len (drop 8 bytes) (omega arith) in
     let head : to_be_bytes w64 (length entry) ≡ take 8 bytes = ap (to_be_bytes w64) count ∙ spelled in
-    let tail : drop 8 bytes ≡ entry ++ get_or (drop 8 bytes) len 0 ∷ drop (len + 1) (drop 8 bytes) = sym (take-append-drop len (drop 8 bytes)) ∙ ap (λ (w : List ℕ). entry ++ w) (drop_more (drop 8 bytes) len 0 room) in
+    let tail : drop 8 bytes ≡ entry ++ get_or (drop 8 bytes) len 0 ∷ drop (len + 1) (drop 8 bytes) = sym
+    (take-append-drop len (drop 8 bytes)) ∙ ap (λ (w : List ℕ). entry ++ w) (drop_more (drop 8 bytes) len 0 room) in
     let whole : bytes ≡ (to_be_bytes w64 (length entry) ++ entry) ++ get_or (drop 8 bytes) len 0 ∷ drop (len + 1) (drop 8 bytes) =
     sym (take-append-drop 8 bytes) ∙ (λ i. sym head i ++ tail i) ∙ sym (append_assoc (to_be_bytes w64 (length entry)) entry (get_or (drop 8 bytes) len 0 ∷ drop (len + 1) (drop 8 bytes))) in
     (record { proper = proper; small = omega (arith, count, small) }, get_or (drop 8 bytes) len 0, drop (len + 1) (drop 8 bytes), whole)
@@ -54,7 +83,8 @@ pub record Reads (entries : List (List ℕ)) (gate : ℕ) (file : List ℕ) : Ty
 front_is : (file : List ℕ) (gate : ℕ) → gate < length file → file ≡ take gate file ++ get_or file gate 0 ∷ drop (gate + 1) file
 front_is file gate inside = sym (take-append-drop gate file) ∙ ap (λ (w : List ℕ). take gate file ++ w) (drop_more file gate 0 inside)
 
-pub next_gate : (entries : List (List ℕ)) (gate : ℕ) (file entry : List ℕ) (next : ℕ) (rest : List ℕ) → Reads entries gate file → get_or file gate 0 ≢ 0 → IsEntry entry → drop (gate + 1) file ≡ framed entry ++ next ∷ rest
+pub next_gate : (entries : List (List ℕ)) (gate : ℕ) (file entry : List ℕ) (next : ℕ) (rest : List ℕ)
+    → Reads entries gate file → get_or file gate 0 ≢ 0 → IsEntry entry → drop (gate + 1) file ≡ framed entry ++ next ∷ rest
     → Reads (entries ++ entry ∷ []) (gate + (9 + length entry)) file
 next_gate entries gate file entry next rest r is_open is e =
     let front = take gate file in
@@ -62,7 +92,8 @@ next_gate entries gate file entry next rest r is_open is e =
     let n : length front ≡ gate = length-take-le gate file (omega (arith, r.inside)) in
     let whole : file ≡ (front ++ g ∷ framed entry) ++ next ∷ rest = front_is file gate r.inside ∙ ap (λ (w : List ℕ). front ++ g ∷ w) e ∙ sym (append_assoc front (g ∷ framed entry) (next ∷ rest)) in
     let long : length (front ++ g ∷ framed entry) ≡ gate + (9 + length entry) = omega (arith, n, length-append front (g ∷ framed entry), length_framed entry) in
-    let taken : take (gate + (9 + length entry)) file ≡ front ++ g ∷ framed entry = ap (λ (w : List ℕ). take (gate + (9 + length entry)) w) whole ∙ take_at (front ++ g ∷ framed entry) (next ∷ rest) (gate + (9 + length entry)) long in
+    let taken : take (gate + (9 + length entry)) file ≡ front ++ g ∷ framed entry = ap
+    (λ (w : List ℕ). take (gate + (9 + length entry)) w) whole ∙ take_at (front ++ g ∷ framed entry) (next ∷ rest) (gate + (9 + length entry)) long in
     record {
       opens = subst (Opens (entries ++ entry ∷ [])) (sym taken) (opens_more entries front g entry r.opens is_open is);
       inside = omega (arith, long, ap length whole, length-append (front ++ g ∷ framed entry) (next ∷ rest));
@@ -77,7 +108,8 @@ closed_gate entries gate file r shut = record {
 }
 
 -- an open gate, behind which no record stands
-pub broken_gate : (entries : List (List ℕ)) (gate : ℕ) (file : List ℕ) → 2 ≤ length file → Reads entries gate file → get_or file gate 0 ≢ 0 → ¬ HasRecord (drop (gate + 1) file) → ReadsAs (Damaged gate) file
+pub broken_gate : (entries : List (List ℕ)) (gate : ℕ) (file : List ℕ) → 2 ≤ length file → Reads entries gate file
+    → get_or file gate 0 ≢ 0 → ¬ HasRecord (drop (gate + 1) file) → ReadsAs (Damaged gate) file
 broken_gate entries gate file long r is_open none = (
   long,
   record {

@@ -1,5 +1,37 @@
 -- What stands at a gate, by its first nine bytes and the record behind them.
-use Rattle.std.proofs.Common.{◌≡◌, ◌≢◌, inl, inr, ℕ, suc, ◌+◌, ◌-◌, ◌≤◌, ◌<◌, ◌^◌, min, List, [], ◌∷◌, ◌++◌, length, take, drop, get_or, Option, Some, None, refl, sym, ap, ◌∙◌, subst, append_assoc, arith, take-append-drop}
+use Rattle.std.proofs.Common.{
+  ◌≡◌,
+  ◌≢◌,
+  inl,
+  inr,
+  ℕ,
+  suc,
+  ◌+◌,
+  ◌-◌,
+  ◌≤◌,
+  ◌<◌,
+  ◌^◌,
+  min,
+  List,
+  [],
+  ◌∷◌,
+  ◌++◌,
+  length,
+  take,
+  drop,
+  get_or,
+  Option,
+  Some,
+  None,
+  refl,
+  sym,
+  ap,
+  ◌∙◌,
+  subst,
+  append_assoc,
+  arith,
+  take-append-drop,
+}
 use Rattle.std.specs.Int.{w64, to_be_bytes, from_be_bytes}
 use Rattle.std.specs.Prelude.{IfSome}
 use Rattle.std.proofs.lemmas.Bool.{cases_lt}
@@ -109,11 +141,13 @@ module _ (gate last count : ℕ) (before : gate ≤ last) (n : count ≡ min (la
   told : (a b : Moments) → IsKeptTo last a → ReadsPart (given.Bytes bytes) gate count a b → bytes ≡ get_or a.now.seen gate 0 ∷ take 8 (drop (gate + 1) a.now.seen)
   told a b k r = head_bytes a.now.seen gate last k.reaches before count bytes n r.0
 
-  pub closed_told : (behind : ℕ) → IsHead head.Closed bytes behind → (a b : Option Moments) → IfSome a (IsKeptTo last) → WhereTold (ReadsPart (given.Bytes bytes) gate count) a b → WhereTold (Stands stood.Closed gate) a b
+  pub closed_told : (behind : ℕ) → IsHead head.Closed bytes behind → (a b : Option Moments) → IfSome a (IsKeptTo last)
+      → WhereTold (ReadsPart (given.Bytes bytes) gate count) a b → WhereTold (Stands stood.Closed gate) a b
   closed_told behind h = told_from (IsKeptTo last) (ReadsPart (given.Bytes bytes) gate count) (Stands stood.Closed gate)
       (λ a b k r. (is_closed a.now.seen gate last k.reaches before bytes (told a b k r) behind h, r.1))
 
-  pub broken_told : IsHead head.Broken bytes (last - gate) → (a b : Option Moments) → IfSome a (IsKeptTo last) → WhereTold (ReadsPart (given.Bytes bytes) gate count) a b → WhereTold (Stands stood.Broken gate) a b
+  pub broken_told : IsHead head.Broken bytes (last - gate) → (a b : Option Moments) → IfSome a (IsKeptTo last)
+      → WhereTold (ReadsPart (given.Bytes bytes) gate count) a b → WhereTold (Stands stood.Broken gate) a b
   broken_told h = told_from (IsKeptTo last) (ReadsPart (given.Bytes bytes) gate count) (Stands stood.Broken gate)
       (λ a b k r. (is_broken a.now.seen gate last k.reaches before bytes (told a b k r) h, r.1))
 

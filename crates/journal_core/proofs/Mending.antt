@@ -76,7 +76,11 @@ module _ (file : List ℕ) (gate : ℕ) (more : gate + 1 < length file) where
   long_front : (entries : List (List ℕ)) (p : IsParsed entries gate file) → (take (gate + 1) file ≡ p.front ++ 0 ∷ []) × (gate ≡ length p.front)
   long_front entries p = elim p.whole [
     | inl q ↦ absurd (omega (arith, more, q.0))
-    | inr q ↦ (ap (λ (w : List ℕ). take (gate + 1) w) (q.1 ∙ sym (append_assoc p.front (0 ∷ []) q.0)) ∙ take_at (p.front ++ 0 ∷ []) q.0 (gate + 1) (omega (arith, p.gate_is, length-append p.front (0 ∷ []))), p.gate_is)
+    | inr q ↦ (
+      ap (λ (w : List ℕ). take (gate + 1) w) (q.1 ∙ sym (append_assoc p.front (0 ∷ []) q.0)) ∙ take_at
+          (p.front ++ 0 ∷ []) q.0 (gate + 1) (omega (arith, p.gate_is, length-append p.front (0 ∷ []))),
+      p.gate_is,
+    )
   ]
 
   long_before : (entries : List (List ℕ)) (p : IsParsed entries gate file) → take gate file ≡ p.front
@@ -104,7 +108,8 @@ module _ (file : List ℕ) (gate : ℕ) (more : gate + 1 < length file) where
   mend_long stored.Failed a b k w = λ entries p. cut_moments entries a b k p w
   mend_long stored.OutOfMemory a b k w = λ entries p. cut_moments entries a b k p w
 
-pub mend_long_told : (last gate : ℕ) → gate < last → (result : Stored) (a b : Option Moments) → IfSome a (IsKeptTo last) → WhereTold (CutsThrough result (gate + 1)) a b → WhereTold (RepairsSeen result gate) a b
+pub mend_long_told : (last gate : ℕ) → gate < last → (result : Stored) (a b : Option Moments) → IfSome a (IsKeptTo last)
+    → WhereTold (CutsThrough result (gate + 1)) a b → WhereTold (RepairsSeen result gate) a b
 mend_long_told last gate more result = told_from (IsKeptTo last) (CutsThrough result (gate + 1)) (RepairsSeen result gate)
     (λ a b k w. mend_long a.now.seen gate (omega (arith, more, k.reaches)) result a b k.kept w)
 
@@ -157,6 +162,7 @@ module _ (file : List ℕ) (gate : ℕ) (has : (length file ≤ 1) × (file ≢ 
   pub mend_end_told : (result : Stored) (a b : Option Moments) → IfSome a (λ d. d.now ≡ kept file) → WhereTold (Syncs result) a b → WhereTold (Repairs result gate file) a b
   mend_end_told result = told_from (λ d. d.now ≡ kept file) (Syncs result) (Repairs result gate file) (mend_end result)
 
-pub mend_last_told : (last gate : ℕ) → last ≤ gate → 1 ≤ last → (result : Stored) (a b : Option Moments) → IfSome a (IsKeptTo last) → WhereTold (Syncs result) a b → WhereTold (RepairsSeen result gate) a b
+pub mend_last_told : (last gate : ℕ) → last ≤ gate → 1 ≤ last → (result : Stored) (a b : Option Moments)
+    → IfSome a (IsKeptTo last) → WhereTold (Syncs result) a b → WhereTold (RepairsSeen result gate) a b
 mend_last_told last gate none long result = told_from (IsKeptTo last) (Syncs result) (RepairsSeen result gate)
     (λ a b k y. mend_end a.now.seen gate (λ has. absurd (omega (arith, has.0, long, k.reaches))) (omega (arith, none, k.reaches)) result a b k.kept y)

@@ -50,7 +50,8 @@ pub record HasPart (at : ℕ) (bytes : List ℕ) (old now : Moments) : Type 0 wh
   pub kept : IsKept old
   pub stays : StaysKept old now
 
-longer : (at : ℕ) (bytes part file : List ℕ) → bytes ≡ take (length bytes) (drop at file) → part ≡ take (length part) (drop (at + length bytes) file) → bytes ++ part ≡ take (length (bytes ++ part)) (drop at file)
+longer : (at : ℕ) (bytes part file : List ℕ) → bytes ≡ take (length bytes) (drop at file)
+    → part ≡ take (length part) (drop (at + length bytes) file) → bytes ++ part ≡ take (length (bytes ++ part)) (drop at file)
 longer at bytes part file front is =
     let behind : part ≡ take (length part) (drop (length bytes) (drop at file)) = is ∙ ap (take (length part)) (sym (drop-drop (length bytes) at file)) in
     (λ i. front i ++ behind i) ∙ sym (take-add (length bytes) (length part) (drop at file)) ∙ ap (λ (n : ℕ). take n (drop at file)) (sym (length-append bytes part))
@@ -73,7 +74,8 @@ not_less : (m n : ℕ) → (m < n → ⊥) → n ≤ m
 not_less m n none = grind arith
 
 -- no more bytes are there
-read_end : (at len : ℕ) (part bytes : List ℕ) (a b c : Moments) → length bytes ≤ len → length part ≡ 0 → HasPart at bytes a b → Gives (at + length bytes) (given.Bytes part) b c → ReadsPart (given.Bytes bytes) at len a c
+read_end : (at len : ℕ) (part bytes : List ℕ) (a b c : Moments) → length bytes ≤ len → length part ≡ 0
+    → HasPart at bytes a b → Gives (at + length bytes) (given.Bytes part) b c → ReadsPart (given.Bytes bytes) at len a c
 read_end at len part bytes a b c few none h r =
     let some : at + length bytes < length a.now.seen → 0 < length part = subst (λ (s : Stand). at + length bytes < length s.seen → 0 < length part) h.stays.now r.here.1.some in
     let past : length a.now.seen ≤ at + length bytes = not_less (at + length bytes) (length a.now.seen) (λ less. absurd (omega (arith, some less, none))) in
@@ -90,7 +92,8 @@ pub read_none_told : (at : ℕ) (a : Option Moments) → IfSome a IsKept → Whe
 read_none_told at (Some a) k = record { front = refl; kept = k; stays = stays_same a k }
 read_none_told at None k = tt
 
-pub read_on_told : (at : ℕ) (part bytes : List ℕ) (a b c : Option Moments) → WhereTold (HasPart at bytes) a b → WhereTold (Gives (at + length bytes) (given.Bytes part)) b c → WhereTold (HasPart at (bytes ++ part)) a c
+pub read_on_told : (at : ℕ) (part bytes : List ℕ) (a b c : Option Moments) → WhereTold (HasPart at bytes) a b
+    → WhereTold (Gives (at + length bytes) (given.Bytes part)) b c → WhereTold (HasPart at (bytes ++ part)) a c
 read_on_told at part bytes = told_then (HasPart at bytes) (Gives (at + length bytes) (given.Bytes part)) (HasPart at (bytes ++ part)) (read_on at part bytes)
 
 pub read_whole_told : (at len : ℕ) (bytes : List ℕ) (a b : Option Moments) → length bytes ≡ len → WhereTold (HasPart at bytes) a b → WhereTold (ReadsPart (given.Bytes bytes) at len) a b
@@ -99,12 +102,14 @@ read_whole_told at len bytes None None e h = tt
 read_whole_told at len bytes (Some a) None e h = absurd h
 read_whole_told at len bytes None (Some b) e h = absurd h
 
-pub read_end_told : (at len : ℕ) (part bytes : List ℕ) (a b c : Option Moments) → length bytes ≤ len → length part ≡ 0 → WhereTold (HasPart at bytes) a b → WhereTold (Gives (at + length bytes) (given.Bytes part)) b c
+pub read_end_told : (at len : ℕ) (part bytes : List ℕ) (a b c : Option Moments) → length bytes ≤ len → length part ≡ 0
+    → WhereTold (HasPart at bytes) a b → WhereTold (Gives (at + length bytes) (given.Bytes part)) b c
     → WhereTold (ReadsPart (given.Bytes bytes) at len) a c
 read_end_told at len part bytes a b c few none h r =
     told_then (HasPart at bytes) (Gives (at + length bytes) (given.Bytes part)) (ReadsPart (given.Bytes bytes) at len) (λ x y z p q. read_end at len part bytes x y z few none p q) a b c h r
 
-pub read_failed_told : (at len : ℕ) (bytes : List ℕ) (a b c : Option Moments) → WhereTold (HasPart at bytes) a b → WhereTold (Gives (at + length bytes) given.Failed) b c → WhereTold (ReadsPart given.Failed at len) a c
+pub read_failed_told : (at len : ℕ) (bytes : List ℕ) (a b c : Option Moments) → WhereTold (HasPart at bytes) a b
+    → WhereTold (Gives (at + length bytes) given.Failed) b c → WhereTold (ReadsPart given.Failed at len) a c
 read_failed_told at len bytes = told_then (HasPart at bytes) (Gives (at + length bytes) given.Failed) (ReadsPart given.Failed at len) (read_failed at len bytes)
 
 -- without memory, before a call or for what came
@@ -113,7 +118,8 @@ pub read_stopped_told : (at len : ℕ) (part bytes : List ℕ) (a b c : Option M
 read_stopped_told at len part bytes =
     told_then (HasPart at bytes) (Gives (at + length bytes) (given.Bytes part)) (ReadsPart given.OutOfMemory at len) (λ x y z h r. (read_on at part bytes x y z h r).stays)
 
-pub read_unasked_told : (at len : ℕ) (bytes : List ℕ) (a b c : Option Moments) → WhereTold (HasPart at bytes) a b → WhereTold (Gives (at + length bytes) given.OutOfMemory) b c → WhereTold (ReadsPart given.OutOfMemory at len) a c
+pub read_unasked_told : (at len : ℕ) (bytes : List ℕ) (a b c : Option Moments) → WhereTold (HasPart at bytes) a b
+    → WhereTold (Gives (at + length bytes) given.OutOfMemory) b c → WhereTold (ReadsPart given.OutOfMemory at len) a c
 read_unasked_told at len bytes =
     told_then (HasPart at bytes) (Gives (at + length bytes) given.OutOfMemory) (ReadsPart given.OutOfMemory at len) (λ x y z h r. subst (StaysKept x) (sym r) h.stays)
 

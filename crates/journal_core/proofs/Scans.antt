@@ -46,7 +46,8 @@ module _ (last gate : ℕ) where
         stays = stays_then a b c h.stays s.1;
       }
 
-  pub scan_more : (entry : List ℕ) (a b c : Option Moments) → WhereTold (HasScanned last gate) a b → WhereTold (Stands (stood.Open entry) gate) b c → WhereTold (HasScanned last (gate + (9 + length entry))) a c
+  pub scan_more : (entry : List ℕ) (a b c : Option Moments) → WhereTold (HasScanned last gate) a b
+      → WhereTold (Stands (stood.Open entry) gate) b c → WhereTold (HasScanned last (gate + (9 + length entry))) a c
   scan_more entry = told_then (HasScanned last gate) (Stands (stood.Open entry) gate) (HasScanned last (gate + (9 + length entry))) (more entry)
 
   pub scan_closed : (a b c : Option Moments) → WhereTold (HasScanned last gate) a b → WhereTold (Stands stood.Closed gate) b c → WhereTold (Scans (scanned.Whole gate)) a c

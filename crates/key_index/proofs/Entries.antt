@@ -1,5 +1,35 @@
 -- The numbers that levels of maps have for keys.
-use Rattle.std.proofs.Common.{◌≡◌, ℕ, zero, suc, ◌+◌, ◌<◌, List, [], ◌∷◌, ◌++◌, length, get_or, slice_get, take, drop, map, refl, ap, sym, ◌∙◌, arith, Bool, true, false, cond, Option, Some, None, is_some}
+use Rattle.std.proofs.Common.{
+  ◌≡◌,
+  ℕ,
+  zero,
+  suc,
+  ◌+◌,
+  ◌<◌,
+  List,
+  [],
+  ◌∷◌,
+  ◌++◌,
+  length,
+  get_or,
+  slice_get,
+  take,
+  drop,
+  map,
+  refl,
+  ap,
+  sym,
+  ◌∙◌,
+  arith,
+  Bool,
+  true,
+  false,
+  cond,
+  Option,
+  Some,
+  None,
+  is_some,
+}
 use Rattle.std.specs.Prelude.{◌||◌}
 use Rattle.std.specs.List.{list_any}
 use Rattle.std.specs.Map.{KeepsOthers, lookup}
@@ -27,14 +57,18 @@ over_last before [] last key = refl
 over_last before (level ∷ levels) last key = over_last (number_through level before) levels last key
 
 -- one level more
-pub under_more : {L : Type 0} (level_of : L → Level) (levels : List L) (i : ℕ) (level : L) (key : List Atom) (found now : Option ℕ) → i < length levels → level ≡ get_or levels i level → found ≡ number_over (λ k. None) (map level_of (take i levels)) key
+pub under_more : {L : Type 0} (level_of : L → Level) (levels : List L) (i : ℕ) (level : L) (key : List Atom) (found now : Option ℕ)
+    → i < length levels → level ≡ get_or levels i level → found ≡ number_over (λ k. None) (map level_of (take i levels)) key
     → (((before : Found) → found ≡ before key → now ≡ number_through (level_of level) before key)) → now ≡ number_over (λ k. None) (map level_of (take (i + 1) levels)) key
 under_more level_of levels i level key found now lt is f says =
     says (number_over (λ k. None) (map level_of (take i levels))) f
-    ∙ sym (ap (λ ls. number_over (λ k. None) ls key) (ap (map level_of) (take_more levels i level lt ∙ ap (λ x. take i levels ++ x ∷ []) (sym is)) ∙ map-push level_of (take i levels) level) ∙ over_last (λ k. None) (map level_of (take i levels)) (level_of level) key)
+    ∙ sym (ap (λ ls. number_over (λ k. None) ls key)
+    (ap (map level_of) (take_more levels i level lt ∙ ap (λ x. take i levels ++ x ∷ []) (sym is)) ∙ map-push level_of (take i levels) level)
+    ∙ over_last (λ k. None) (map level_of (take i levels)) (level_of level) key)
 
 -- lists, one more
-pub map_more : {L X : Type 0} (f : L → X) (levels done new : List L) (i : ℕ) (copy level : L) → new ≡ done ++ copy ∷ [] → f copy ≡ f level → map f done ≡ map f (take i levels) → i < length levels → level ≡ get_or levels i level → map f new ≡ map f (take (i + 1) levels)
+pub map_more : {L X : Type 0} (f : L → X) (levels done new : List L) (i : ℕ) (copy level : L) → new ≡ done ++ copy ∷ []
+    → f copy ≡ f level → map f done ≡ map f (take i levels) → i < length levels → level ≡ get_or levels i level → map f new ≡ map f (take (i + 1) levels)
 map_more f levels done new i copy level n c d lt is =
     ap (map f) n ∙ map-push f done copy ∙ ap (λ l. l ++ f copy ∷ []) d ∙ ap (λ x. map f (take i levels) ++ x ∷ []) c
     ∙ sym (ap (map f) (take_more levels i level lt ∙ ap (λ x. take i levels ++ x ∷ []) (sym is)) ∙ map-push f (take i levels) level)
@@ -66,7 +100,8 @@ module _ {V : Type 0} (items : V → List Atom) where
       said_of None = None
       said_of (Some s) = s
 
-      by_test : (b : Bool) → (lookup (λ v. are_alike key (items v)) es ≡ Some said → number_through (seen es) before key ≡ said) → cond b (Some e.1) (lookup (λ v. are_alike key (items v)) es) ≡ Some said → cond b e.1 (number_through (seen es) before key) ≡ said
+      by_test : (b : Bool) → (lookup (λ v. are_alike key (items v)) es ≡ Some said → number_through (seen es) before key ≡ said)
+          → cond b (Some e.1) (lookup (λ v. are_alike key (items v)) es) ≡ Some said → cond b e.1 (number_through (seen es) before key) ≡ said
       by_test true rest l = ap said_of l
       by_test false rest l = rest l
 
@@ -74,7 +109,8 @@ module _ {V : Type 0} (items : V → List Atom) where
   through_none [] before key l = refl
   through_none (e ∷ es) before key l = by_test (are_alike key (items e.0)) (through_none es before key) l
     where
-      by_test : (b : Bool) → (lookup (λ v. are_alike key (items v)) es ≡ None → number_through (seen es) before key ≡ before key) → cond b (Some e.1) (lookup (λ v. are_alike key (items v)) es) ≡ None → cond b e.1 (number_through (seen es) before key) ≡ before key
+      by_test : (b : Bool) → (lookup (λ v. are_alike key (items v)) es ≡ None → number_through (seen es) before key ≡ before key)
+          → cond b (Some e.1) (lookup (λ v. are_alike key (items v)) es) ≡ None → cond b e.1 (number_through (seen es) before key) ≡ before key
       by_test true rest l = absurd (cc l)
       by_test false rest l = rest l
 
@@ -93,7 +129,8 @@ module _ {V : Type 0} (items : V → List Atom) where
         by_found (Some said) l = through_some new before key said (looked_same key e ∙ l) ∙ sym (through_some old before key said l)
 
     -- one key is said something of
-    pub one_said : (said : Option ℕ) → lookup (λ v. are_alike (items k) (items v)) new ≡ Some said → (before : Found) (key : List Atom) → number_through (seen new) before key ≡ cond (are_alike key (items k)) said (number_through (seen old) before key)
+    pub one_said : (said : Option ℕ) → lookup (λ v. are_alike (items k) (items v)) new ≡ Some said
+        → (before : Found) (key : List Atom) → number_through (seen new) before key ≡ cond (are_alike key (items k)) said (number_through (seen old) before key)
     one_said said there before key = by_test (are_alike key (items k)) refl
       where
         by_test : (b : Bool) → are_alike key (items k) ≡ b → number_through (seen new) before key ≡ cond b said (number_through (seen old) before key)
@@ -101,7 +138,8 @@ module _ {V : Type 0} (items : V → List Atom) where
         by_test false e = other_same before key e
 
     -- or nothing more, where it had no number before
-    pub one_unsaid : lookup (λ v. are_alike (items k) (items v)) new ≡ None → (before : Found) → before (items k) ≡ None → (key : List Atom) → number_through (seen new) before key ≡ cond (are_alike key (items k)) None (number_through (seen old) before key)
+    pub one_unsaid : lookup (λ v. are_alike (items k) (items v)) new ≡ None → (before : Found) → before (items k) ≡ None
+        → (key : List Atom) → number_through (seen new) before key ≡ cond (are_alike key (items k)) None (number_through (seen old) before key)
     one_unsaid gone before none key = by_test (are_alike key (items k)) refl
       where
         by_test : (b : Bool) → are_alike key (items k) ≡ b → number_through (seen new) before key ≡ cond b None (number_through (seen old) before key)
@@ -119,7 +157,8 @@ module _ {V : Type 0} (items : V → List Atom) where
   -- a place is said again over what was said of those behind it
   pub said_again : (old new level : List (V × Option ℕ)) (place : ℕ) (k atoms : V) (said : Option ℕ) → Some (atoms, said) ≡ slice_get level place → items k ≡ items atoms
       → KeepsOthers (λ a b. are_alike (items a) (items b)) (λ v. are_alike (items k) (items v)) old new → lookup (λ v. are_alike (items k) (items v)) new ≡ Some said
-      → (before : Found) (key : List Atom) → number_through (seen old) before key ≡ number_through (seen (drop (place + 1) level)) before key → number_through (seen new) before key ≡ number_through (seen (drop place level)) before key
+      → (before : Found) (key : List Atom) → number_through (seen old) before key ≡ number_through (seen (drop (place + 1) level)) before key
+      → number_through (seen new) before key ≡ number_through (seen (drop place level)) before key
   said_again old new level place k atoms said got same others there before key is =
       one_said old new k others said there before key
       ∙ ap (λ o. cond (are_alike key (items k)) said o) is
@@ -151,7 +190,8 @@ module _ {V : Type 0} (items : V → List Atom) where
 -- ---- one key after another
 
 -- what is found of a key so far
-pub put_more : (key k : List Atom) (found now : Option ℕ) (numbers : List ℕ) (left rest : List (List Atom)) (i n d : ℕ) → i < length numbers → n ≡ get_or numbers i d → left ≡ k ∷ rest → now ≡ cond (are_alike key k) (Some n) found
+pub put_more : (key k : List Atom) (found now : Option ℕ) (numbers : List ℕ) (left rest : List (List Atom)) (i n d : ℕ)
+    → i < length numbers → n ≡ get_or numbers i d → left ≡ k ∷ rest → now ≡ cond (are_alike key k) (Some n) found
     → put_in key found (drop i numbers) left ≡ put_in key now (drop (i + 1) numbers) rest
 put_more key k found now numbers left rest i n d lt is e w =
     ap (put_in key found (drop i numbers)) e ∙ ap (λ ns. put_in key found ns (k ∷ rest)) (drop_more numbers i d lt ∙ ap (λ m. m ∷ drop (i + 1) numbers) (sym is))
@@ -161,7 +201,8 @@ pub put_over : (key : List Atom) (found : Option ℕ) (numbers : List ℕ) (left
 put_over key found numbers [] n = refl
 put_over key found numbers (k ∷ left) n = absurd (omega (arith, n))
 
-pub taken_next : (key k : List Atom) (found now : Option ℕ) (left rest : List (List Atom)) → left ≡ k ∷ rest → now ≡ cond (are_alike key k) None found → taken_out key found left ≡ taken_out key now rest
+pub taken_next : (key k : List Atom) (found now : Option ℕ) (left rest : List (List Atom)) → left ≡ k ∷ rest
+    → now ≡ cond (are_alike key k) None found → taken_out key found left ≡ taken_out key now rest
 taken_next key k found now left rest e w =
     ap (taken_out key found) e ∙ both (are_alike key k) (list_any (are_alike key) rest) ∙ ap (λ o. taken_out key o rest) (sym w)
   where

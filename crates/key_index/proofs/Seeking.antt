@@ -45,8 +45,10 @@ pub record AreLookedUp (gone : List ℕ) (index : Keyed) (keys : List (List Atom
   pub rest : first_alike gone index keys ≡ first_known i gone index seen (drop i keys)
   pub count : now ≡ old + i
 
-module _ (gone : List ℕ) (index : Keyed) (keys : List (List Atom)) (i : ℕ) (key : List Atom) (seen : List (List Atom)) (old now : ℕ) (lt : i < length keys) (is : key ≡ get_or keys i key) (s : AreLookedUp gone index keys i seen old now) where
-  next : (b : Bool) → (is_known gone index key || list_any (are_alike key) seen) ≡ b → first_alike gone index keys ≡ cond b (Some i) (first_known (i + 1) gone index (seen ++ key ∷ []) (drop (i + 1) keys))
+module _ (gone : List ℕ) (index : Keyed) (keys : List (List Atom)) (i : ℕ) (key : List Atom) (seen : List (List Atom))
+    (old now : ℕ) (lt : i < length keys) (is : key ≡ get_or keys i key) (s : AreLookedUp gone index keys i seen old now) where
+  next : (b : Bool) → (is_known gone index key || list_any (are_alike key) seen) ≡ b
+      → first_alike gone index keys ≡ cond b (Some i) (first_known (i + 1) gone index (seen ++ key ∷ []) (drop (i + 1) keys))
   next b t = s.rest ∙ ap (first_known i gone index seen) (drop_there keys i key lt is) ∙ ap (λ b. cond b (Some i) (first_known (i + 1) gone index (seen ++ key ∷ []) (drop (i + 1) keys))) t
 
   pub found_known : is_known gone index key ≡ true → Some i ≡ first_alike gone index keys

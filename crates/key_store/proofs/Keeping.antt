@@ -39,7 +39,8 @@ promoted-none value old new is none =
     let test = same_value value in
     is ∙ unmoved test old (lookup_entry test old) refl (sym (ap (lookup test) is) ∙ none)
 
-pub put-kept : (value : KeyValue) (key : List ℕ) (cache : LruCache KeyValue (List ℕ)) (new : List (KeyValue × List ℕ)) → new ≡ put_entries same_value cache value key → AreKeptWith value key cache.entries new
+pub put-kept : (value : KeyValue) (key : List ℕ) (cache : LruCache KeyValue (List ℕ)) (new : List (KeyValue × List ℕ))
+    → new ≡ put_entries same_value cache value key → AreKeptWith value key cache.entries new
 put-kept value key cache new is entry h = elim (Contains-put_entries same_value cache value key entry (subst (λ entries. Contains entries entry) is h)) [
   | inl before ↦ inl before
   | inr put ↦ inr (elim put.1 [

@@ -137,7 +137,8 @@ pub one-shut : (told : Option KeyMap) (meta : KeyMeta) (there : Bool) (fault : K
 one-shut None meta there fault is first f = tt
 one-shut (Some map) meta there fault is first f =
     let none : first_opened map (behind meta.values.second) ≡ None = ap (λ second. first_opened map (behind second)) is in
-    let there_is : list_any (is_there map) (each_of meta.values) ≡ there = ap (λ second. is_there map meta.values.first || list_any (is_there map) (behind second)) is ∙ at (is_there map meta.values.first) ∙ sym first.1 in
+    let there_is : list_any (is_there map) (each_of meta.values) ≡ there = ap
+    (λ second. is_there map meta.values.first || list_any (is_there map) (behind second)) is ∙ at (is_there map meta.values.first) ∙ sym first.1 in
     by_second map meta (Err fault) first.0 (shut_by map meta there none there_is ∙ ap Err (sym f))
   where
     at : (b : Bool) → (b || false) ≡ b
@@ -151,7 +152,8 @@ pub two-shut : (told : Option KeyMap) (meta : KeyMeta) (value : KeyValue) (there
 two-shut None meta value there too either fault is first second both f = tt
 two-shut (Some map) meta value there too either fault is first second both f =
     let none : first_opened map (behind meta.values.second) ≡ None = ap (λ s. first_opened map (behind s)) is ∙ at_none (opened map value) second.0 in
-    let there_is : list_any (is_there map) (each_of meta.values) ≡ either = ap (λ s. is_there map meta.values.first || list_any (is_there map) (behind s)) is ∙ at (is_there map meta.values.first) (is_there map value) first.1 second.1 ∙ sym both in
+    let there_is : list_any (is_there map) (each_of meta.values) ≡ either = ap
+    (λ s. is_there map meta.values.first || list_any (is_there map) (behind s)) is ∙ at (is_there map meta.values.first) (is_there map value) first.1 second.1 ∙ sym both in
     by_second map meta (Err fault) first.0 (shut_by map meta either none there_is ∙ ap Err (sym f))
   where
     at_none : (o : Option (List ℕ)) → option_map keys_of o ≡ None → option_or o None ≡ None

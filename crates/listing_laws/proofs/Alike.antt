@@ -100,14 +100,16 @@ came pairs c a b h =
       paired = subst (λ d. Contains pairs (record { class = d; left = p.left; right = p.right })) class r.there;
     }
 
-sealed_onto : (pairs : List (Pair Class)) → IsCellRenaming classing (Pairs pairs) → (k : ℕ) (t : Ty) (a b c d : Atom) → Listing (map sealed_pair pairs) (Det k t) a b → Listing (map sealed_pair pairs) (Det k t) c d → a ≡ c → b ≡ d
+sealed_onto : (pairs : List (Pair Class)) → IsCellRenaming classing (Pairs pairs) → (k : ℕ) (t : Ty) (a b c d : Atom)
+    → Listing (map sealed_pair pairs) (Det k t) a b → Listing (map sealed_pair pairs) (Det k t) c d → a ≡ c → b ≡ d
 sealed_onto pairs r k t a b c d h i e =
     let p = came pairs (Det k t) a b h in
     let q = came pairs (Det k t) c d i in
     let same = r.onto (Det k t) refl p.left p.right q.left q.right p.paired q.paired (ap cell_in (p.left_is ∙ e ∙ sym q.left_is)) in
     sym p.right_is ∙ ap Sealed same ∙ q.right_is
 
-sealed_back : (pairs : List (Pair Class)) → IsCellRenaming classing (Pairs pairs) → (k : ℕ) (t : Ty) (a b c d : Atom) → Listing (map sealed_pair pairs) (Det k t) a b → Listing (map sealed_pair pairs) (Det k t) c d → b ≡ d → a ≡ c
+sealed_back : (pairs : List (Pair Class)) → IsCellRenaming classing (Pairs pairs) → (k : ℕ) (t : Ty) (a b c d : Atom)
+    → Listing (map sealed_pair pairs) (Det k t) a b → Listing (map sealed_pair pairs) (Det k t) c d → b ≡ d → a ≡ c
 sealed_back pairs r k t a b c d h i e =
     let p = came pairs (Det k t) a b h in
     let q = came pairs (Det k t) c d i in

@@ -18,7 +18,28 @@ use Rattle.wire_messages.specs.declared.requests.Request.TheVariants.{Describe, 
 use Rattle.wire_payloads.specs.declared.payloads.Payload.{Payload}
 use Rattle.wire_payloads.specs.declared.payloads.Payload.TheVariants.{One, Rows}
 use Rattle.wire_payloads.specs.declared.versioned.Versioned.{Versioned}
-use Rattle.tap_listing.specs.Frames.{classes_after, classes_behind, blank_cell, blank_atom, cell_spots, atom_spots, blank_param, params_spots, blank_request, request_spots, blank_row, row_spots, rows_spots, blank_reply, reply_spots, blank_payload, payload_spots, blank_frame, frame_spots, parts_of}
+use Rattle.tap_listing.specs.Frames.{
+  classes_after,
+  classes_behind,
+  blank_cell,
+  blank_atom,
+  cell_spots,
+  atom_spots,
+  blank_param,
+  params_spots,
+  blank_request,
+  request_spots,
+  blank_row,
+  row_spots,
+  rows_spots,
+  blank_reply,
+  reply_spots,
+  blank_payload,
+  payload_spots,
+  blank_frame,
+  frame_spots,
+  parts_of,
+}
 use Rattle.tap_listing.specs.declared.frames.Frame.{Frame}
 use Rattle.tap_listing.specs.declared.frames.Frame.TheVariants.{Asked, Told}
 use Rattle.listing_laws.specs.Renamed.{RowsRenamed, ReplyRenamed, PayloadRenamed, FrameRenamed, FramesRenamed}
@@ -66,7 +87,8 @@ module _ (R : Pairing) (cells : PairsCells R) where
   atom_on (Det k t) a b h = cell_on (Det k t) a b h
   atom_on (Rnd k t) a b h = cell_on (Rnd k t) a b h
 
-  row_on : (classes : List Class) (row other : List Atom) → RowsRenamed R classes row other → (blank_row classes other ≡ blank_row classes row) × Zipped R (row_spots classes row) (row_spots classes other)
+  row_on : (classes : List Class) (row other : List Atom) → RowsRenamed R classes row other
+      → (blank_row classes other ≡ blank_row classes row) × Zipped R (row_spots classes row) (row_spots classes other)
   row_on classes [] [] h = (refl, tt)
   row_on classes [] (b ∷ bs) h = absurd h
   row_on classes (a ∷ xs) [] h = absurd h
@@ -120,7 +142,8 @@ module _ (R : Pairing) (cells : PairsCells R) where
         inner.1,
       )
 
-  told_as : (classes : List Class) (r o : Reply) → o ≡ r → reply_spots classes r ≡ [] → blank_reply classes r ≡ r → (blank_reply classes o ≡ blank_reply classes r) × Zipped R (reply_spots classes r) (reply_spots classes o)
+  told_as : (classes : List Class) (r o : Reply) → o ≡ r → reply_spots classes r ≡ [] → blank_reply classes r ≡ r
+      → (blank_reply classes o ≡ blank_reply classes r) × Zipped R (reply_spots classes r) (reply_spots classes o)
   told_as classes r o e f g =
       let none : Zipped R (reply_spots classes r) (reply_spots classes r) = subst (λ ss. Zipped R ss ss) (sym f) tt in
       (ap (blank_reply classes) e, subst (λ o. Zipped R (reply_spots classes r) (reply_spots classes o)) (sym e) none)
@@ -136,7 +159,8 @@ module _ (R : Pairing) (cells : PairsCells R) where
   reply_on classes (Ended d) o h = told_as classes (Ended d) o h refl refl
   reply_on classes (Refused d) o h = told_as classes (Refused d) o h refl refl
 
-  payload_on : (classes : List Class) (p q : Payload) → PayloadRenamed R classes p q → (blank_payload classes q ≡ blank_payload classes p) × Zipped R (payload_spots classes p) (payload_spots classes q)
+  payload_on : (classes : List Class) (p q : Payload) → PayloadRenamed R classes p q
+      → (blank_payload classes q ≡ blank_payload classes p) × Zipped R (payload_spots classes p) (payload_spots classes q)
   payload_on classes (One r) (One o) h = let inner = reply_on classes r o h in (ap One inner.0, inner.1)
   payload_on classes (One r) (Rows os) h = absurd h
   payload_on classes (Rows rs) (One o) h = absurd h
@@ -211,12 +235,14 @@ module _ (R : Pairing) where
   cell_back c (Sealed x) (Plain w) ss ts e h = absurd cc
   cell_back c (Sealed x) (Sealed y) ss ts e h = (h.0.1, h.1)
 
-  atom_back : (c : Class) (a b : Atom) (ss ts : List (Spot Class)) → blank_atom c b ≡ blank_atom c a → Zipped R (atom_spots c a ++ ss) (atom_spots c b ++ ts) → SentAtomsCorrespond R c a b × Zipped R ss ts
+  atom_back : (c : Class) (a b : Atom) (ss ts : List (Spot Class)) → blank_atom c b ≡ blank_atom c a
+      → Zipped R (atom_spots c a ++ ss) (atom_spots c b ++ ts) → SentAtomsCorrespond R c a b × Zipped R ss ts
   atom_back Open a b ss ts e h = (e, h)
   atom_back (Det k t) a b ss ts e h = cell_back (Det k t) a b ss ts e h
   atom_back (Rnd k t) a b ss ts e h = cell_back (Rnd k t) a b ss ts e h
 
-  row_back : (classes : List Class) (row other : List Atom) (ss ts : List (Spot Class)) → blank_row classes other ≡ blank_row classes row → Zipped R (row_spots classes row ++ ss) (row_spots classes other ++ ts)
+  row_back : (classes : List Class) (row other : List Atom) (ss ts : List (Spot Class))
+      → blank_row classes other ≡ blank_row classes row → Zipped R (row_spots classes row ++ ss) (row_spots classes other ++ ts)
       → RowsRenamed R classes row other × Zipped R ss ts
   row_back classes [] [] ss ts e h = (tt, h)
   row_back [] [] (b ∷ bs) ss ts e h = absurd cc
@@ -227,18 +253,22 @@ module _ (R : Pairing) where
       let rest = row_back [] xs bs ss ts (rest_of b a (blank_row [] bs) (blank_row [] xs) e) h in
       ((first b a (blank_row [] bs) (blank_row [] xs) e, rest.0), rest.1)
   row_back (c ∷ cs) (a ∷ xs) (b ∷ bs) ss ts e h =
-      let left : Zipped R (atom_spots c a ++ (row_spots cs xs ++ ss)) ((atom_spots c b ++ row_spots cs bs) ++ ts) = subst (λ l. Zipped R l ((atom_spots c b ++ row_spots cs bs) ++ ts)) (append_assoc (atom_spots c a) (row_spots cs xs) ss) h in
-      let right : Zipped R (atom_spots c a ++ (row_spots cs xs ++ ss)) (atom_spots c b ++ (row_spots cs bs ++ ts)) = subst (λ l. Zipped R (atom_spots c a ++ (row_spots cs xs ++ ss)) l) (append_assoc (atom_spots c b) (row_spots cs bs) ts) left in
+      let left : Zipped R (atom_spots c a ++ (row_spots cs xs ++ ss)) ((atom_spots c b ++ row_spots cs bs) ++ ts)
+      = subst (λ l. Zipped R l ((atom_spots c b ++ row_spots cs bs) ++ ts)) (append_assoc (atom_spots c a) (row_spots cs xs) ss) h in
+      let right : Zipped R (atom_spots c a ++ (row_spots cs xs ++ ss)) (atom_spots c b ++ (row_spots cs bs ++ ts))
+      = subst (λ l. Zipped R (atom_spots c a ++ (row_spots cs xs ++ ss)) l) (append_assoc (atom_spots c b) (row_spots cs bs) ts) left in
       let front = atom_back c a b (row_spots cs xs ++ ss) (row_spots cs bs ++ ts) (first (blank_atom c b) (blank_atom c a) (blank_row cs bs) (blank_row cs xs) e) right in
       let rest = row_back cs xs bs ss ts (rest_of (blank_atom c b) (blank_atom c a) (blank_row cs bs) (blank_row cs xs) e) front.1 in
       ((front.0, rest.0), rest.1)
 
-  rows_back : (classes : List Class) (rows others : List (List Atom)) → map (blank_row classes) others ≡ map (blank_row classes) rows → Zipped R (rows_spots classes rows) (rows_spots classes others) → AllZip (RowsRenamed R classes) rows others
+  rows_back : (classes : List Class) (rows others : List (List Atom)) → map (blank_row classes) others ≡ map (blank_row classes) rows
+      → Zipped R (rows_spots classes rows) (rows_spots classes others) → AllZip (RowsRenamed R classes) rows others
   rows_back classes [] [] e h = tt
   rows_back classes [] (b ∷ bs) e h = absurd cc
   rows_back classes (a ∷ xs) [] e h = absurd cc
   rows_back classes (a ∷ xs) (b ∷ bs) e h =
-      let front = row_back classes a b (rows_spots classes xs) (rows_spots classes bs) (first (blank_row classes b) (blank_row classes a) (map (blank_row classes) bs) (map (blank_row classes) xs) e) h in
+      let front = row_back classes a b (rows_spots classes xs) (rows_spots classes bs)
+      (first (blank_row classes b) (blank_row classes a) (map (blank_row classes) bs) (map (blank_row classes) xs) e) h in
       (front.0, rows_back classes xs bs (rest_of (blank_row classes b) (blank_row classes a) (map (blank_row classes) bs) (map (blank_row classes) xs) e) front.1)
 
   param_back : (p q : SentParam) (ss ts : List (Spot Class)) → blank_param q ≡ blank_param p → Zipped R (atom_spots (class_of p.ty p.enc) p.atom ++ ss) (atom_spots (class_of q.ty q.enc) q.atom ++ ts)
@@ -295,7 +325,8 @@ module _ (R : Pairing) where
   reply_back classes (Refused d) (Ended x) e h = absurd cc
   reply_back classes (Refused d) (Refused x) e h = e
 
-  payload_back : (classes : List Class) (p q : Payload) → blank_payload classes q ≡ blank_payload classes p → Zipped R (payload_spots classes p) (payload_spots classes q) → PayloadRenamed R classes p q
+  payload_back : (classes : List Class) (p q : Payload) → blank_payload classes q ≡ blank_payload classes p
+      → Zipped R (payload_spots classes p) (payload_spots classes q) → PayloadRenamed R classes p q
   payload_back classes (One r) (One o) e h = reply_back classes r o (ap (reply_in r) e) h
   payload_back classes (One r) (Rows os) e h = absurd cc
   payload_back classes (Rows rs) (One o) e h = absurd cc

@@ -88,12 +88,16 @@ module _ (R : Pairing) (cells : PairsCells R) where
     answer_renamed version (classes_behind classes p) ps qs fs gs (subst (λ cs. PayloadsCorrespond R cs ps qs) (told_alike classes p) h.1) f,
   )
 
-  exchanges_renamed : (version : FrameVersion) (es others : List Exchange) → AllZip (ExchangesCarriedAlike R version) es others → (classes : List Class) → FramesRenamed R classes (recorded version es) (recorded version others)
+  exchanges_renamed : (version : FrameVersion) (es others : List Exchange) → AllZip (ExchangesCarriedAlike R version) es others
+      → (classes : List Class) → FramesRenamed R classes (recorded version es) (recorded version others)
   exchanges_renamed version [] [] h classes = tt
   exchanges_renamed version [] (o ∷ others) h classes = absurd h
   exchanges_renamed version (e ∷ es) [] h classes = absurd h
-  exchanges_renamed version (e ∷ es) (o ∷ others) h classes =
-      ((refl, h.0.0), answer_renamed version [] (payloads_of version e.replies) (payloads_of version o.replies) (recorded version es) (recorded version others) h.0.1 (exchanges_renamed version es others h.1))
+  exchanges_renamed version (e ∷ es) (o ∷ others) h classes = (
+    (refl, h.0.0),
+    answer_renamed version [] (payloads_of version e.replies) (payloads_of version o.replies)
+        (recorded version es) (recorded version others) h.0.1 (exchanges_renamed version es others h.1),
+  )
 
   -- ---- to a server's answers, where rows fit
 
@@ -142,7 +146,8 @@ pub exchanges_alike : (entries : List Entry) → IsRenaming entries → (version
 exchanges_alike entries r version es others h =
     hidden entries r (recorded version es) (recorded version others) (exchanges_renamed (Listing entries) r.cells version es others h [])
 
-pub fitting : (entries : List Entry) → IsRenaming entries → (classes : List Class) (p q : Payload) → PayloadFits classes p → PayloadRenamed (Listing entries) classes p q → PayloadCorresponds (Listing entries) classes p q
+pub fitting : (entries : List Entry) → IsRenaming entries → (classes : List Class) (p q : Payload)
+    → PayloadFits classes p → PayloadRenamed (Listing entries) classes p q → PayloadCorresponds (Listing entries) classes p q
 fitting entries r classes p q f h = payload_fits (Listing entries) r.cells classes p q f h
 
 pub narrower : (entries : List Entry) (cell : List ℕ) (other : Payload) → PayloadCorresponds (Listing entries) (Open ∷ []) (One (Row (Sealed cell ∷ []))) other → ⊥

@@ -1,6 +1,14 @@
 //! Laws of listings: functions that do nothing, whose contracts are the laws.
 
-ghost use Rattle.listing_laws.specs.Laws.{AnswersAreNarrower, ExchangesListedAlike, FittingFramesCorrespond, ListingsHideRenamings, ListingsLeaveNothingOut, ListingsShowWhatIsSeen, TwinsAreListedAlike};
+ghost use Rattle.listing_laws.specs.Laws.{
+  AnswersAreNarrower,
+  ExchangesListedAlike,
+  FittingFramesCorrespond,
+  ListingsHideRenamings,
+  ListingsLeaveNothingOut,
+  ListingsShowWhatIsSeen,
+  TwinsAreListedAlike,
+};
 
 use twin_scripts::laws::twins_alike;
 

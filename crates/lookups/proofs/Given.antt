@@ -67,7 +67,8 @@ module _ (columns params width : ℕ) where
   first_placed place (c ∷ cs) v e h =
       one_more (pin_in width place c) refl (All-head (IsPlacedCondition columns params) c cs h) (λ g. first_placed place cs v g (All-tail (IsPlacedCondition columns params) c cs h)) e
     where
-      one_more : (o : Option BoundOperand) → pin_in width place c ≡ o → IsPlacedCondition columns params c → (first_pin width place cs ≡ Some v → IsPlaced width params v) → or_else o (first_pin width place cs) ≡ Some v → IsPlaced width params v
+      one_more : (o : Option BoundOperand) → pin_in width place c ≡ o → IsPlacedCondition columns params c
+          → (first_pin width place cs ≡ Some v → IsPlaced width params v) → or_else o (first_pin width place cs) ≡ Some v → IsPlaced width params v
       one_more (Some w) f t r g =
           let same : w ≡ v = cc in
           subst (IsPlaced width params) same (pin_placed place c w f t)
@@ -111,7 +112,8 @@ module _ (columns params width : ℕ) where
   first_choice_placed place (c ∷ cs) values e h =
       one_more (choice_in width place c) refl (All-head (IsPlacedCondition columns params) c cs h) (λ g. first_choice_placed place cs values g (All-tail (IsPlacedCondition columns params) c cs h)) e
     where
-      one_more : (o : Option (List BoundOperand)) → choice_in width place c ≡ o → IsPlacedCondition columns params c → (first_choice width place cs ≡ Some values → All (IsPlaced width params) values) → or_else o (first_choice width place cs) ≡ Some values → All (IsPlaced width params) values
+      one_more : (o : Option (List BoundOperand)) → choice_in width place c ≡ o → IsPlacedCondition columns params c
+          → (first_choice width place cs ≡ Some values → All (IsPlaced width params) values) → or_else o (first_choice width place cs) ≡ Some values → All (IsPlaced width params) values
       one_more (Some vs) f t r g =
           let same : vs ≡ values = cc in
           subst (All (IsPlaced width params)) same (choice_placed place c vs f t)
@@ -132,7 +134,8 @@ module _ (columns params width : ℕ) where
   by_choices cs h (place ∷ []) values e = each_placed place values (first_choice_placed place cs values e h)
   by_choices cs h (place ∷ next ∷ places) values e = absurd cc
 
-  pub given_placed : (more : ℕ) (cs : List BoundCondition) (uniques : List (List ℕ)) (lookup : Lookup) → lookup_in width more cs uniques ≡ Some lookup → ArePlaced cs → IsLookedUp uniques params width more lookup
+  pub given_placed : (more : ℕ) (cs : List BoundCondition) (uniques : List (List ℕ)) (lookup : Lookup)
+      → lookup_in width more cs uniques ≡ Some lookup → ArePlaced cs → IsLookedUp uniques params width more lookup
   given_placed more cs uniques lookup e h =
       let is = lookup_given width more cs uniques lookup e in
       let keys = by_keys is.keys in
@@ -141,6 +144,10 @@ module _ (columns params width : ℕ) where
       by_keys : AreGiven width cs lookup.places lookup.keys → HasKeys lookup.places lookup.keys
       by_keys (inl k) =
           let fits = pins_placed cs h lookup.places k.0 k.1 in
-          subst (HasKeys lookup.places) (sym k.2)
-          (All-cons (λ values. length values ≡ length lookup.places) k.0 [] fits.0 (All-nil (λ values. length values ≡ length lookup.places)), All-cons (λ values. All (IsPlaced width params) values) k.0 [] fits.1 (All-nil (λ values. All (IsPlaced width params) values)))
+          subst (HasKeys lookup.places) (sym k.2) (
+            All-cons (λ values. length values ≡ length lookup.places) k.0 [] fits.0
+                (All-nil (λ values. length values ≡ length lookup.places)),
+            All-cons (λ values. All (IsPlaced width params) values)
+                k.0 [] fits.1 (All-nil (λ values. All (IsPlaced width params) values)),
+          )
       by_keys (inr k) = subst (HasKeys lookup.places) (sym k.2) (by_choices cs h lookup.places k.0 k.1)

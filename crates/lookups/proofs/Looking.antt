@@ -1,5 +1,37 @@
 -- Rows of a key that a condition gives: where a row isn't among them, the condition is not true.
-use Rattle.std.proofs.Common.{◌≡◌, ◌⊎◌, ℕ, ◌+◌, ◌<◌, ◌≤◌, List, [], ◌∷◌, ◌++◌, length, map, refl, ap, sym, ◌∙◌, subst, arith, suc, Option, Some, None, Result, Ok, Err, Bool, true, false, cond, inl, inr}
+use Rattle.std.proofs.Common.{
+  ◌≡◌,
+  ◌⊎◌,
+  ℕ,
+  ◌+◌,
+  ◌<◌,
+  ◌≤◌,
+  List,
+  [],
+  ◌∷◌,
+  ◌++◌,
+  length,
+  map,
+  refl,
+  ap,
+  sym,
+  ◌∙◌,
+  subst,
+  arith,
+  suc,
+  Option,
+  Some,
+  None,
+  Result,
+  Ok,
+  Err,
+  Bool,
+  true,
+  false,
+  cond,
+  inl,
+  inr,
+}
 use Rattle.std.specs.Prelude.{◌&&◌, ◌||◌, ◌==◌, filter, nat_lt}
 use Rattle.std.specs.List.{Contains, list_all, list_any}
 use Rattle.std.specs.Cmp.Lexicographic.{pointwise}
@@ -20,7 +52,31 @@ use Rattle.scalar.specs.Eval.{atom_at, compare, disjunction, eval, in_list}
 use Rattle.operators.specs.Alike.{key_of}
 use Rattle.operators.specs.Events.{Event, is_true, asks, row_where, scan_of, behind, join_of}
 use Rattle.operators.specs.Wide.{AreWide}
-use Rattle.lookups.specs.Lookups.{Lookup, is_known, is_column, pin_between, pin_of_comparison, pin_in, or_else, first_pin, with_pin, pins, choice_in, first_choice, choices, one_key, one_each, lookup_by, lookup_in, or_null, worth, key_at, is_found, rows_found, joined_found}
+use Rattle.lookups.specs.Lookups.{
+  Lookup,
+  is_known,
+  is_column,
+  pin_between,
+  pin_of_comparison,
+  pin_in,
+  or_else,
+  first_pin,
+  with_pin,
+  pins,
+  choice_in,
+  first_choice,
+  choices,
+  one_key,
+  one_each,
+  lookup_by,
+  lookup_in,
+  or_null,
+  worth,
+  key_at,
+  is_found,
+  rows_found,
+  joined_found,
+}
 use Rattle.lookups.specs.Conjuncts.{conjuncts}
 use Rattle.lookups.specs.Reach.{is_safe}
 use Rattle.lookups.proofs.Reaching.{and_both}
@@ -45,7 +101,8 @@ abbrev some_lookup : Lookup → Option Lookup
 some_lookup lookup = Some lookup
 
 module _ (width more : ℕ) (cs : List BoundCondition) where
-  by_given : (places : List ℕ) (lookup : Lookup) (b : Bool) (p c : Option (List BoundOperand)) → list_all (λ place. nat_lt place more) places ≡ b → pins width cs places ≡ p → choices width cs places ≡ c
+  by_given : (places : List ℕ) (lookup : Lookup) (b : Bool) (p c : Option (List BoundOperand))
+      → list_all (λ place. nat_lt place more) places ≡ b → pins width cs places ≡ p → choices width cs places ≡ c
       → cond b (or_else (one_key places p) (one_each places c)) None ≡ some_lookup lookup → IsGiven width more cs lookup
   by_given places lookup false p c w e f g = absurd cc
   by_given places lookup true (Some values) c w e f g =
@@ -60,12 +117,14 @@ module _ (width more : ℕ) (cs : List BoundCondition) where
   lookup_given [] lookup e = absurd cc
   lookup_given (key ∷ keys) lookup e = one_more (lookup_by width more cs key) refl (λ g. lookup_given keys lookup g) e
     where
-      one_more : (o : Option Lookup) → lookup_by width more cs key ≡ o → (lookup_in width more cs keys ≡ some_lookup lookup → IsGiven width more cs lookup) → or_else o (lookup_in width more cs keys) ≡ some_lookup lookup → IsGiven width more cs lookup
+      one_more : (o : Option Lookup) → lookup_by width more cs key ≡ o
+          → (lookup_in width more cs keys ≡ some_lookup lookup → IsGiven width more cs lookup) → or_else o (lookup_in width more cs keys) ≡ some_lookup lookup → IsGiven width more cs lookup
       one_more (Some found) f r g =
           by_given key lookup (list_all (λ place. nat_lt place more) key) (pins width cs key) (choices width cs key) refl refl refl (f ∙ g)
       one_more None f r g = r g
 
-  by_places : (places : List ℕ) (lookup : Lookup) (b : Bool) (p c : Option (List BoundOperand)) → cond b (or_else (one_key places p) (one_each places c)) None ≡ some_lookup lookup → places ≡ lookup.places
+  by_places : (places : List ℕ) (lookup : Lookup) (b : Bool) (p c : Option (List BoundOperand))
+      → cond b (or_else (one_key places p) (one_each places c)) None ≡ some_lookup lookup → places ≡ lookup.places
   by_places places lookup false p c g = absurd cc
   by_places places lookup true (Some values) c g =
       let same : look places (values ∷ []) ≡ lookup = cc in
@@ -80,7 +139,8 @@ module _ (width more : ℕ) (cs : List BoundCondition) where
   lookup_key [] lookup e = absurd cc
   lookup_key (key ∷ keys) lookup e = one_more (lookup_by width more cs key) refl (λ g. lookup_key keys lookup g) e
     where
-      one_more : (o : Option Lookup) → lookup_by width more cs key ≡ o → (lookup_in width more cs keys ≡ some_lookup lookup → Contains keys lookup.places) → or_else o (lookup_in width more cs keys) ≡ some_lookup lookup → Contains (key ∷ keys) lookup.places
+      one_more : (o : Option Lookup) → lookup_by width more cs key ≡ o
+          → (lookup_in width more cs keys ≡ some_lookup lookup → Contains keys lookup.places) → or_else o (lookup_in width more cs keys) ≡ some_lookup lookup → Contains (key ∷ keys) lookup.places
       one_more (Some found) f r g = (0, omega arith, by_places key lookup (list_all (λ place. nat_lt place more) key) (pins width cs key) (choices width cs key) (f ∙ g))
       one_more None f r g = let there = r g in (suc there.0, omega (arith, there.1), there.2)
 
@@ -162,7 +222,8 @@ module _ (params : List Atom) (width : ℕ) (row next : List Atom) (wide : lengt
       let both = and_both (holds params c (row ++ next)) (all_hold cs) h in
       one_more (pin_in width place c) refl both.0 (λ g. first_held place cs v g both.1) e
     where
-      one_more : (o : Option BoundOperand) → pin_in width place c ≡ o → holds params c (row ++ next) ≡ true → (first_pin width place cs ≡ Some v → HasWorth place v) → or_else o (first_pin width place cs) ≡ Some v → HasWorth place v
+      one_more : (o : Option BoundOperand) → pin_in width place c ≡ o → holds params c (row ++ next) ≡ true
+          → (first_pin width place cs ≡ Some v → HasWorth place v) → or_else o (first_pin width place cs) ≡ Some v → HasWorth place v
       one_more (Some w) f t r g =
           let same : w ≡ v = cc in
           subst (HasWorth place) same (pin_held place c w f t)
@@ -250,7 +311,8 @@ module _ (params : List Atom) (width : ℕ) (row next : List Atom) (wide : lengt
       let both = and_both (holds params c (row ++ next)) (all_hold cs) h in
       one_more (choice_in width place c) refl both.0 (λ g. first_choice_held place cs values g both.1) e
     where
-      one_more : (o : Option (List BoundOperand)) → choice_in width place c ≡ o → holds params c (row ++ next) ≡ true → (first_choice width place cs ≡ Some values → list_any (is_worth place) values ≡ true) → or_else o (first_choice width place cs) ≡ Some values → list_any (is_worth place) values ≡ true
+      one_more : (o : Option (List BoundOperand)) → choice_in width place c ≡ o → holds params c (row ++ next) ≡ true
+          → (first_choice width place cs ≡ Some values → list_any (is_worth place) values ≡ true) → or_else o (first_choice width place cs) ≡ Some values → list_any (is_worth place) values ≡ true
       one_more (Some vs) f t r g =
           let same : vs ≡ values = cc in
           subst (λ vs. list_any (is_worth place) vs ≡ true) same (choice_held place c vs f t)
@@ -271,7 +333,8 @@ module _ (params : List Atom) (width : ℕ) (row next : List Atom) (wide : lengt
       ap (λ b. b || list_any (has_key (place ∷ [])) (map (λ v. v ∷ []) vs)) (and_true (is_worth place v))
       ∙ ap (λ b. is_worth place v || b) (any_one place vs)
 
-  by_choices : (cs : List BoundCondition) → all_hold cs ≡ true → (places : List ℕ) (values : List BoundOperand) → choices width cs places ≡ Some values → list_any (has_key places) (map (λ v. v ∷ []) values) ≡ true
+  by_choices : (cs : List BoundCondition) → all_hold cs ≡ true → (places : List ℕ) (values : List BoundOperand)
+      → choices width cs places ≡ Some values → list_any (has_key places) (map (λ v. v ∷ []) values) ≡ true
   by_choices cs h [] values e = absurd cc
   by_choices cs h (place ∷ []) values e = any_one place values ∙ first_choice_held place cs values e h
   by_choices cs h (place ∷ next_place ∷ places) values e = absurd cc
@@ -289,7 +352,8 @@ module _ (params : List Atom) (width : ℕ) (row next : List Atom) (wide : lengt
       by_keys (inr k) = subst (λ keys. list_any (has_key lookup.places) keys ≡ true) (sym k.2) (by_choices cs h lookup.places k.0 k.1)
 
   -- and where it isn't found, the condition is not true
-  pub not_found : (more : ℕ) (on : BoundCondition) (lookup : Lookup) → is_safe on ≡ true → IsGiven width more (conjuncts on) lookup → is_found params lookup row next ≡ false → holds params on (row ++ next) ≡ false
+  pub not_found : (more : ℕ) (on : BoundCondition) (lookup : Lookup) → is_safe on ≡ true → IsGiven width more (conjuncts on) lookup
+      → is_found params lookup row next ≡ false → holds params on (row ++ next) ≡ false
   not_found more on lookup s is d = by_test (holds params on (row ++ next)) refl
     where
       by_test : (b : Bool) → holds params on (row ++ next) ≡ b → holds params on (row ++ next) ≡ false
@@ -301,7 +365,8 @@ module _ (params : List Atom) (width : ℕ) (row next : List Atom) (wide : lengt
 
 -- ---- rows
 
-pub behind_filtered : (params : List Atom) (on : BoundCondition) (row : List Atom) (p : List Atom → Bool) → is_safe on ≡ true → ((next : List Atom) → p next ≡ false → holds params on (row ++ next) ≡ false) → (rows : List (List Atom))
+pub behind_filtered : (params : List Atom) (on : BoundCondition) (row : List Atom) (p : List Atom → Bool)
+    → is_safe on ≡ true → ((next : List Atom) → p next ≡ false → holds params on (row ++ next) ≡ false) → (rows : List (List Atom))
     → behind params on (filter p rows) row ≡ behind params on rows row
 behind_filtered params on row p s d [] = refl
 behind_filtered params on row p s d (next ∷ rows) = by_test (p next) refl (behind_filtered params on row p s d rows)
@@ -342,7 +407,8 @@ pub scan_kept : (p : List Atom → Bool) (rows : List (List Atom)) → scan_of (
 scan_kept p [] = refl
 scan_kept p (row ∷ rows) = by_test (p row) (scan_kept p rows)
   where
-    by_test : (b : Bool) → scan_of (filter p rows) ≡ kept p (scan_of rows) → scan_of (cond b (row ∷ filter p rows) (filter p rows)) ≡ cond b (event_row row ∷ kept p (scan_of rows)) (kept p (scan_of rows))
+    by_test : (b : Bool) → scan_of (filter p rows) ≡ kept p (scan_of rows)
+        → scan_of (cond b (row ∷ filter p rows) (filter p rows)) ≡ cond b (event_row row ∷ kept p (scan_of rows)) (kept p (scan_of rows))
     by_test true e = ap (λ es. event_row row ∷ es) e
     by_test false e = e
 

@@ -30,7 +30,8 @@ pub collected_fault : {A E : Type 0} (whole : Result (List A) E) (done : List A)
     → whole ≡ collected done (before one rest) → one ≡ Err fault → whole ≡ Err fault
 collected_fault whole done one rest fault w e = w ∙ ap (λ o. collected done (before o rest)) e
 
-pub fault_handed : {A B C E : Type 0} (v : A → B) (e : Refusal E) (part : Result B E) (whole : Result C E) → AnswersAs v (Err e) part → ((f : E) → part ≡ Err f → whole ≡ Err f) → Answers {A = C} (Err e) whole
+pub fault_handed : {A B C E : Type 0} (v : A → B) (e : Refusal E) (part : Result B E) (whole : Result C E)
+    → AnswersAs v (Err e) part → ((f : E) → part ≡ Err f → whole ≡ Err f) → Answers {A = C} (Err e) whole
 fault_handed v (Fault f) part whole h pass = pass f h
 fault_handed v OutOfMemory part whole h pass = tt
 
@@ -58,7 +59,8 @@ came_before (Err f) rest items e = absurd cc
 
 -- ---- what was made of each
 
-pub each_all : {A B E : Type 0} (P : A → Type 0) (Q : B → Type 0) (f : A → Result B E) (xs : List A) (ys : List B) → ((x : A) (y : B) → P x → f x ≡ Ok y → Q y) → All P xs → each f xs ≡ Ok ys → All Q ys
+pub each_all : {A B E : Type 0} (P : A → Type 0) (Q : B → Type 0) (f : A → Result B E) (xs : List A) (ys : List B)
+    → ((x : A) (y : B) → P x → f x ≡ Ok y → Q y) → All P xs → each f xs ≡ Ok ys → All Q ys
 each_all P Q f [] ys g h e = let k : [] ≡ ys = cc in subst (All Q) k (All-nil Q)
 each_all P Q f (x ∷ xs) ys g h e =
     let b = came_before (f x) (each f xs) ys e in

@@ -1,5 +1,37 @@
 -- Rows that find their groups by their keys.
-use Rattle.std.proofs.Common.{◌≡◌, ℕ, zero, suc, ◌+◌, ◌<◌, ◌≤◌, ◌^◌, List, [], ◌∷◌, ◌++◌, length, length-append, get_or, drop, map, slice_set, refl, ap, sym, subst, ◌∙◌, arith, take, unwrap_or, Bool, true, false, not, cond}
+use Rattle.std.proofs.Common.{
+  ◌≡◌,
+  ℕ,
+  zero,
+  suc,
+  ◌+◌,
+  ◌<◌,
+  ◌≤◌,
+  ◌^◌,
+  List,
+  [],
+  ◌∷◌,
+  ◌++◌,
+  length,
+  length-append,
+  get_or,
+  drop,
+  map,
+  slice_set,
+  refl,
+  ap,
+  sym,
+  subst,
+  ◌∙◌,
+  arith,
+  take,
+  unwrap_or,
+  Bool,
+  true,
+  false,
+  not,
+  cond,
+}
 use Rattle.std.specs.Prelude.{◌&&◌, ◌||◌, if◌then◌else◌}
 use Rattle.std.specs.Cmp.{partial_equiv_from_equiv, decided}
 use Rattle.std.specs.Cmp.Lexicographic.{lists_per}
@@ -68,12 +100,14 @@ keys_grouped places (group ∷ groups) row =
   where
     by_test : (b c : Bool) → b ≡ c → keys_on places (grouped_row places groups row) ≡ with_key (keys_on places groups) (key_of places row)
         → keys_on places (cond b (record { first = group.first; count = group.count + 1 } ∷ groups) (group ∷ grouped_row places groups row))
-        ≡ (if (c || list_any (are_alike (key_of places row)) (keys_on places groups)) then (key_of places group.first ∷ keys_on places groups) else ((key_of places group.first ∷ keys_on places groups) ++ key_of places row ∷ []))
+        ≡ (if (c || list_any (are_alike (key_of places row)) (keys_on places groups)) then
+        (key_of places group.first ∷ keys_on places groups) else ((key_of places group.first ∷ keys_on places groups) ++ key_of places row ∷ []))
     by_test true true e more = refl
     by_test true false e more = absurd cc
     by_test false true e more = absurd cc
     by_test false false e more =
-        ap (λ ks. key_of places group.first ∷ ks) more ∙ cond-cons (list_any (are_alike (key_of places row)) (keys_on places groups)) (key_of places group.first) (keys_on places groups) (keys_on places groups ++ key_of places row ∷ [])
+        ap (λ ks. key_of places group.first ∷ ks) more ∙ cond-cons (list_any (are_alike (key_of places row)) (keys_on places groups))
+        (key_of places group.first) (keys_on places groups) (keys_on places groups ++ key_of places row ∷ [])
 
 -- ---- the group at a key's place
 
@@ -120,7 +154,8 @@ placed places (group ∷ groups) row =
 
 -- ---- counts
 
-pub counted_few : (places : List ℕ) (groups : List Group) (row : List Atom) (n : ℕ) → All (λ (group : Group). group.count ≤ n) groups → All (λ (group : Group). group.count ≤ n + 1) (grouped_row places groups row)
+pub counted_few : (places : List ℕ) (groups : List Group) (row : List Atom) (n : ℕ) → All (λ (group : Group). group.count ≤ n) groups
+    → All (λ (group : Group). group.count ≤ n + 1) (grouped_row places groups row)
 counted_few places [] row n h = let le : 1 ≤ n + 1 = omega arith in All-cons (λ (group : Group). group.count ≤ n + 1) (new_group row) [] le (All-nil (λ (group : Group). group.count ≤ n + 1))
 counted_few places (group ∷ groups) row n h =
     by_test (alike_on places group.first row) (counted_few places groups row n (All-tail (λ (group : Group). group.count ≤ n) group groups h))
@@ -136,7 +171,8 @@ counted_few places (group ∷ groups) row n h =
 
     by_test : (b : Bool) → All (λ (group : Group). group.count ≤ n + 1) (grouped_row places groups row)
         → All (λ (group : Group). group.count ≤ n + 1) (cond b (record { first = group.first; count = group.count + 1 } ∷ groups) (group ∷ grouped_row places groups row))
-    by_test true more = All-cons (λ (group : Group). group.count ≤ n + 1) (record { first = group.first; count = group.count + 1 }) groups (omega (arith, head)) (less groups (All-tail (λ (group : Group). group.count ≤ n) group groups h))
+    by_test true more = All-cons (λ (group : Group). group.count ≤ n + 1) (record { first = group.first; count = group.count + 1 })
+        groups (omega (arith, head)) (less groups (All-tail (λ (group : Group). group.count ≤ n) group groups h))
     by_test false more = All-cons (λ (group : Group). group.count ≤ n + 1) group (grouped_row places groups row) (omega (arith, head)) more
 
 -- the groups so far, with the rows that are left, are the whole, from some groups on; each has its key, and none has grown by more
@@ -149,14 +185,16 @@ pub record AreSoFar (places : List ℕ) (first : List Group) (rows : List (List 
 pub so_far_start : (places : List ℕ) (first : List Group) (rows : List (List Atom)) (keys : List (List Atom)) → keys ≡ keys_on places first → AreSoFar places first rows 0 keys first
 so_far_start places first rows keys k = record { keyed = k; whole = refl; few = λ most h. let e : most ≡ most + 0 = omega arith in subst (λ n. All (λ (group : Group). group.count ≤ n) first) e h }
 
-pub so_far_more : (places : List ℕ) (first : List Group) (rows : List (List Atom)) (i : ℕ) (row : List Atom) (keys more : List (List Atom)) (groups others : List Group) → AreSoFar places first rows i keys groups → i < length rows
+pub so_far_more : (places : List ℕ) (first : List Group) (rows : List (List Atom)) (i : ℕ) (row : List Atom) (keys more : List (List Atom)) (groups others : List Group)
+    → AreSoFar places first rows i keys groups → i < length rows
     → row ≡ get_or rows i row → more ≡ keys_on places others → others ≡ grouped_row places groups row → AreSoFar places first rows (i + 1) more others
 so_far_more places first rows i row keys more groups others s lt e k g = record {
   keyed = k;
   whole = s.whole ∙ ap (grouping_of places groups) (drop_more rows i row lt ∙ ap (λ r. r ∷ drop (i + 1) rows) (sym e)) ∙ ap (λ gs. grouping_of places gs (drop (i + 1) rows)) (sym g);
   few = λ most h.
       let one : most + i + 1 ≡ most + (i + 1) = omega arith in
-      subst (All (λ (group : Group). group.count ≤ most + (i + 1))) (sym g) (subst (λ n. All (λ (group : Group). group.count ≤ n) (grouped_row places groups row)) one (counted_few places groups row (most + i) (s.few most h)));
+      subst (All (λ (group : Group). group.count ≤ most + (i + 1))) (sym g)
+      (subst (λ n. All (λ (group : Group). group.count ≤ n) (grouped_row places groups row)) one (counted_few places groups row (most + i) (s.few most h)));
 }
 
 pub still_few : (groups : List Group) (i n : ℕ) → i < n → n < 2 ^ 32 → All (λ (group : Group). group.count ≤ i) groups → All (λ (group : Group). group.count + 1 < 2 ^ 32) groups
@@ -168,11 +206,13 @@ grouped-append : (places : List ℕ) (groups : List Group) (rows more : List (Li
 grouped-append places groups [] more = refl
 grouped-append places groups (row ∷ rows) more = grouped-append places (grouped_row places groups row) rows more
 
-grouped_few : (places : List ℕ) (groups : List Group) (rows : List (List Atom)) (most : ℕ) → All (λ (group : Group). group.count ≤ most) groups → All (λ (group : Group). group.count ≤ most + length rows) (grouping_of places groups rows)
+grouped_few : (places : List ℕ) (groups : List Group) (rows : List (List Atom)) (most : ℕ)
+    → All (λ (group : Group). group.count ≤ most) groups → All (λ (group : Group). group.count ≤ most + length rows) (grouping_of places groups rows)
 grouped_few places groups [] most h = let e : most ≡ most + 0 = omega arith in subst (λ n. All (λ (group : Group). group.count ≤ n) groups) e h
 grouped_few places groups (row ∷ rows) most h =
     let e : most + 1 + length rows ≡ most + length (row ∷ rows) = omega arith in
-    subst (λ n. All (λ (group : Group). group.count ≤ n) (grouping_of places (grouped_row places groups row) rows)) e (grouped_few places (grouped_row places groups row) rows (most + 1) (counted_few places groups row most h))
+    subst (λ n. All (λ (group : Group). group.count ≤ n) (grouping_of places (grouped_row places groups row) rows))
+    e (grouped_few places (grouped_row places groups row) rows (most + 1) (counted_few places groups row most h))
 
 -- the same over pages: the groups so far count some of the rows of the pages so far
 pub record AreByPages (places : List ℕ) (pages : List (Owned (List (List Atom)))) (i : ℕ) (keys : List (List Atom)) (groups : List Group) : Type 0 where
@@ -180,11 +220,13 @@ pub record AreByPages (places : List ℕ) (pages : List (Owned (List (List Atom)
   pub whole : grouping_of places [] (flat pages) ≡ grouping_of places groups (flat (drop i pages))
   pub few : All (λ (group : Group). group.count ≤ length (flat (take i pages))) groups
 
-pub pages_more : (places : List ℕ) (pages : List (Owned (List (List Atom)))) (i : ℕ) (page : Owned (List (List Atom))) (keys more : List (List Atom)) (groups others : List Group) → AreByPages places pages i keys groups → i < length pages
+pub pages_more : (places : List ℕ) (pages : List (Owned (List (List Atom)))) (i : ℕ) (page : Owned (List (List Atom)))
+    (keys more : List (List Atom)) (groups others : List Group) → AreByPages places pages i keys groups → i < length pages
     → page ≡ get_or pages i page → more ≡ keys_on places others → others ≡ grouping_of places groups page.value → AreByPages places pages (i + 1) more others
 pages_more places pages i page keys more groups others s lt e k g = record {
   keyed = k;
-  whole = s.whole ∙ ap (grouping_of places groups) (flat_left pages i page lt e) ∙ grouped-append places groups page.value (flat (drop (i + 1) pages)) ∙ ap (λ gs. grouping_of places gs (flat (drop (i + 1) pages))) (sym g);
+  whole = s.whole ∙ ap (grouping_of places groups) (flat_left pages i page lt e) ∙ grouped-append places groups
+      page.value (flat (drop (i + 1) pages)) ∙ ap (λ gs. grouping_of places gs (flat (drop (i + 1) pages))) (sym g);
   few =
       let n : length (flat (take i pages)) + length page.value ≡ length (flat (take (i + 1) pages)) = sym (ap length (flat_taken pages i page lt e) ∙ length-append (flat (take i pages)) page.value) in
       subst (All (λ (group : Group). group.count ≤ length (flat (take (i + 1) pages)))) (sym g)
@@ -192,9 +234,11 @@ pages_more places pages i page keys more groups others s lt e k g = record {
 }
 
 -- a page has room left in the counts
-pub page_few : (pages : List (Owned (List (List Atom)))) (i : ℕ) (page : Owned (List (List Atom))) → i < length pages → page ≡ get_or pages i page → length (flat pages) < 2 ^ 32 → length (flat (take i pages)) + length page.value < 2 ^ 32
+pub page_few : (pages : List (Owned (List (List Atom)))) (i : ℕ) (page : Owned (List (List Atom))) → i < length pages
+    → page ≡ get_or pages i page → length (flat pages) < 2 ^ 32 → length (flat (take i pages)) + length page.value < 2 ^ 32
 page_few pages i page lt e few =
-    let whole : length (flat pages) ≡ length (flat (take i pages)) + length (flat (drop i pages)) = ap length (sym (ap flat (take-append-drop i pages)) ∙ flat-append (take i pages) (drop i pages)) ∙ length-append (flat (take i pages)) (flat (drop i pages)) in
+    let whole : length (flat pages) ≡ length (flat (take i pages)) + length (flat (drop i pages)) = ap length
+    (sym (ap flat (take-append-drop i pages)) ∙ flat-append (take i pages) (drop i pages)) ∙ length-append (flat (take i pages)) (flat (drop i pages)) in
     let left : length (flat (drop i pages)) ≡ length page.value + length (flat (drop (i + 1) pages)) = ap length (flat_left pages i page lt e) ∙ length-append page.value (flat (drop (i + 1) pages)) in
     omega (arith, whole, left, few)
 
@@ -226,12 +270,14 @@ module _ {V : Type 0} (items : V → List Atom) where
 abbrev pub count_more : {K : Type 0} → code.Group K → code.Group K
 count_more group = record { first = group.first; count = group.count + 1 }
 
-pub few_at : {K : Type 0} (groups : List (code.Group K)) (n : ℕ) (group : code.Group K) → n < length groups → group ≡ get_or groups n group → All (λ (group : Group). group.count + 1 < 2 ^ 32) (map group_of groups) → group.count + 1 < 2 ^ 32
+pub few_at : {K : Type 0} (groups : List (code.Group K)) (n : ℕ) (group : code.Group K) → n < length groups
+    → group ≡ get_or groups n group → All (λ (group : Group). group.count + 1 < 2 ^ 32) (map group_of groups) → group.count + 1 < 2 ^ 32
 few_at [] n group lt e h = absurd (omega arith)
 few_at {K} (g ∷ groups) zero group lt e h = subst (λ (x : code.Group K). x.count + 1 < 2 ^ 32) (sym e) (All-head (λ (group : Group). group.count + 1 < 2 ^ 32) (group_of g) (map group_of groups) h)
 few_at (g ∷ groups) (suc n) group lt e h = few_at groups n group (omega arith) e (All-tail (λ (group : Group). group.count + 1 < 2 ^ 32) (group_of g) (map group_of groups) h)
 
-pub counted_there : {K : Type 0} (groups : List (code.Group K)) (n : ℕ) (group : code.Group K) → n < length groups → group ≡ get_or groups n group → map group_of (slice_set groups n (count_more group)) ≡ counted_at n (map group_of groups)
+pub counted_there : {K : Type 0} (groups : List (code.Group K)) (n : ℕ) (group : code.Group K) → n < length groups
+    → group ≡ get_or groups n group → map group_of (slice_set groups n (count_more group)) ≡ counted_at n (map group_of groups)
 counted_there [] n group lt e = absurd (omega arith)
 counted_there (g ∷ groups) zero group lt e = ap (λ x. group_of (count_more x) ∷ map group_of groups) e
 counted_there (g ∷ groups) (suc n) group lt e = ap (λ gs. group_of g ∷ gs) (counted_there groups n group (omega arith) e)
@@ -241,8 +287,10 @@ counted_there (g ∷ groups) (suc n) group lt e = ap (λ gs. group_of g ∷ gs) 
 pub atom_read : (atoms : List Atom) (i : ℕ) (atom : Atom) → i < length atoms → atom ≡ get_or atoms i atom → atom ≡ atom_at atoms i
 atom_read atoms i atom lt e = ap (λ x. unwrap_or x Null) (sym (slice_get_read atoms (length atoms) i atom refl lt e))
 
-pub atoms_more : (columns : List PlaceAt) (row : List Atom) (i : ℕ) (column : PlaceAt) (atom : Atom) (done : List Atom) → done ≡ map (λ (column : PlaceAt). atom_at row column.place) (take i columns) → i < length columns
-    → (get_or columns i column).place < length row → atom ≡ get_or row (get_or columns i column).place atom → done ++ atom ∷ [] ≡ map (λ (column : PlaceAt). atom_at row column.place) (take (i + 1) columns)
+pub atoms_more : (columns : List PlaceAt) (row : List Atom) (i : ℕ) (column : PlaceAt) (atom : Atom) (done : List Atom)
+    → done ≡ map (λ (column : PlaceAt). atom_at row column.place) (take i columns) → i < length columns
+    → (get_or columns i column).place < length row → atom ≡ get_or row (get_or columns i column).place atom
+    → done ++ atom ∷ [] ≡ map (λ (column : PlaceAt). atom_at row column.place) (take (i + 1) columns)
 atoms_more columns row i column atom done d lt within e =
     let at : PlaceAt → Atom = λ (column : PlaceAt). atom_at row column.place in
     let one : suc i ≡ i + 1 = omega arith in

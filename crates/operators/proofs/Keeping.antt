@@ -97,7 +97,8 @@ module _ (R : Pairing) (r : IsOneToOne R) (cs : List Class) where
     put_alike x y [] (g ∷ gs) p h = absurd h
     put_alike x y (f ∷ fs) [] p h = absurd h
     put_alike x y (f ∷ fs) (g ∷ gs) p h =
-        by_test (is_gt (by_keys x f)) (is_gt (by_keys y g)) (sym (ap (λ ks. is_gt (keys_cmp order_by ks g.keys)) p.keys ∙ ap (λ ks. is_gt (keys_cmp order_by x.keys ks)) h.0.keys)) (put_alike x y fs gs p h.1)
+        by_test (is_gt (by_keys x f)) (is_gt (by_keys y g))
+        (sym (ap (λ ks. is_gt (keys_cmp order_by ks g.keys)) p.keys ∙ ap (λ ks. is_gt (keys_cmp order_by x.keys ks)) h.0.keys)) (put_alike x y fs gs p h.1)
       where
         by_test : (b c : Bool) → b ≡ c → Founds R cs (put by_keys x fs) (put by_keys y gs) → Founds R cs (cond b (f ∷ put by_keys x fs) (x ∷ f ∷ fs)) (cond c (g ∷ put by_keys y gs) (y ∷ g ∷ gs))
         by_test true true e more = (h.0, more)

@@ -103,4 +103,5 @@ found_total {K} keys = on_total (λ (f : code.Found K). f.row.now) (rows_total k
 
 pub ordered_by : {K : Type 0} (keys : List BoundOrderKey) (xs ys : List (code.Found K)) → IsSortedBy (before (found_cmp {K = K} keys)) ys → IsStableBy (before (found_cmp {K = K} keys)) xs ys
     → map (found_by keys) ys ≡ in_order keys (map (found_by keys) xs)
-ordered_by {K} keys xs ys h s = ap (map (found_by keys)) (stable_sort (found_cmp {K = K} keys) (found_total keys) xs ys h s) ∙ sym (sorted_by-map (λ (a b : Found). keys_cmp keys a.keys b.keys) (found_by {K = K} keys) xs)
+ordered_by {K} keys xs ys h s = ap (map (found_by keys)) (stable_sort (found_cmp {K = K} keys) (found_total keys) xs ys h s)
+    ∙ sym (sorted_by-map (λ (a b : Found). keys_cmp keys a.keys b.keys) (found_by {K = K} keys) xs)

@@ -1,5 +1,35 @@
 -- A stable sort by a total order puts items in order.
-use Rattle.std.proofs.Common.{◌≡◌, ℕ, zero, suc, ◌<◌, ◌≤◌, List, [], ◌∷◌, length, get_or, map, refl, ap, sym, ◌∙◌, arith, Bool, true, false, not, cond, Ordering, Less, Equal, Greater, is_lt, is_gt, is_eq}
+use Rattle.std.proofs.Common.{
+  ◌≡◌,
+  ℕ,
+  zero,
+  suc,
+  ◌<◌,
+  ◌≤◌,
+  List,
+  [],
+  ◌∷◌,
+  length,
+  get_or,
+  map,
+  refl,
+  ap,
+  sym,
+  ◌∙◌,
+  arith,
+  Bool,
+  true,
+  false,
+  not,
+  cond,
+  Ordering,
+  Less,
+  Equal,
+  Greater,
+  is_lt,
+  is_gt,
+  is_eq,
+}
 use Rattle.std.specs.Prelude.{◌&&◌}
 use Rattle.std.specs.Cmp.{IsTotalOrder, IsStrictWeakOrder, upto, alike_right, tied_itself}
 use Rattle.std.specs.List.{filter}
@@ -16,11 +46,13 @@ sorted_by-map {A} cmp f (x ∷ xs) = ap (put cmp (f x)) (sorted_by-map cmp f xs)
     put-map x [] = refl
     put-map x (y ∷ ys) = by_test (is_gt (cmp (f x) (f y))) (put-map x ys)
       where
-        by_test : (b : Bool) → put cmp (f x) (map f ys) ≡ map f (put (λ a b. cmp (f a) (f b)) x ys) → cond b (f y ∷ put cmp (f x) (map f ys)) (f x ∷ f y ∷ map f ys) ≡ map f (cond b (y ∷ put (λ a b. cmp (f a) (f b)) x ys) (x ∷ y ∷ ys))
+        by_test : (b : Bool) → put cmp (f x) (map f ys) ≡ map f (put (λ a b. cmp (f a) (f b)) x ys)
+            → cond b (f y ∷ put cmp (f x) (map f ys)) (f x ∷ f y ∷ map f ys) ≡ map f (cond b (y ∷ put (λ a b. cmp (f a) (f b)) x ys) (x ∷ y ∷ ys))
         by_test true more = ap (λ l. f y ∷ l) more
         by_test false more = refl
 
-swap_kept : {A : Type 0} (p q : Bool) (x y : A) (xs : List A) → ((p ≡ true) × (q ≡ true) → ⊥) → cond q (y ∷ cond p (x ∷ xs) xs) (cond p (x ∷ xs) xs) ≡ cond p (x ∷ cond q (y ∷ xs) xs) (cond q (y ∷ xs) xs)
+swap_kept : {A : Type 0} (p q : Bool) (x y : A) (xs : List A) → ((p ≡ true) × (q ≡ true) → ⊥)
+    → cond q (y ∷ cond p (x ∷ xs) xs) (cond p (x ∷ xs) xs) ≡ cond p (x ∷ cond q (y ∷ xs) xs) (cond q (y ∷ xs) xs)
 swap_kept true true x y xs n = absurd (n (refl, refl))
 swap_kept true false x y xs n = refl
 swap_kept false true x y xs n = refl

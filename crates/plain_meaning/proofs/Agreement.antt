@@ -118,7 +118,8 @@ pub record Ready (key_for : ℕ → List ℕ) (now : State) (n : ℕ) (p : Pendi
   pub types : tys_in (uses_of p) ≡ (alone meant.bound).params
 
 module _ (laws : LawsBelow) (keys : KeyMap) (trusted : List (List ℕ)) (key_for : ℕ → List ℕ) (now : State) (n : ℕ) (fits : Fits keys key_for (catalog_of now n)) where
-  pub is_ready : (p : Pending) → Each IsSendableParam p.batch.params → (d : DescribedAs (catalog_of now n) p) → (sent : List SentParam) → AreSealed keys trusted p.keys (uses_of p) sent → Ready key_for now n p d.meant sent
+  pub is_ready : (p : Pending) → Each IsSendableParam p.batch.params → (d : DescribedAs (catalog_of now n) p)
+      → (sent : List SentParam) → AreSealed keys trusted p.keys (uses_of p) sent → Ready key_for now n p d.meant sent
   is_ready p sendable d sent sealed =
       let b = d.meant.bound in
       let es = encs_alone d.meant in
@@ -134,7 +135,8 @@ module _ (laws : LawsBelow) (keys : KeyMap) (trusted : List (List ℕ)) (key_for
         may = may_ask is_short (world_of now n).world (alone b).statement (execution_alone d.meant sent) (record { bound = s.on; typed = admitted; values = values });
         pairs = subst (λ xs. RowsCorrespond (Standing key_for) (param_classes (alone b).params es) atoms xs) s.values
             (subst (λ tys. RowsCorrespond (Standing key_for) (param_classes tys es) atoms (plain_in us)) s.types
-            (subst (λ es. RowsCorrespond (Standing key_for) (param_classes (tys_in us) es) atoms (plain_in us)) s.encs (sent_stands laws.seals keys trusted p.keys key_for (keys_told laws keys key_for (catalog_of now n) fits p d) us sent s.fit sealed)));
+            (subst (λ es. RowsCorrespond (Standing key_for) (param_classes (tys_in us) es) atoms (plain_in us))
+            s.encs (sent_stands laws.seals keys trusted p.keys key_for (keys_told laws keys key_for (catalog_of now n) fits p d) us sent s.fit sealed)));
         encs = s.encs;
         types = s.types;
       }
@@ -146,7 +148,8 @@ module _ (laws : LawsBelow) (keys : KeyMap) (trusted : List (List ℕ)) (key_for
 
   -- whatever the result of a turn, over states that go on from these, it goes on as it is meant, where what is asked of the rest holds
   abbrev pub GoesOn : State → ℕ → turns.Onward → Rest → (outcomes.Outcome → Accepted → Option Pending → State → Type 0) → Type 0
-  GoesOn state n k rest Holds = (comes : outcomes.Outcome) (columns : Accepted) (after : Option Pending) (now beside : State) → StandsFor keys key_for now beside → Goes Always state n now after → Holds comes columns after beside
+  GoesOn state n k rest Holds = (comes : outcomes.Outcome) (columns : Accepted) (after : Option Pending) (now beside : State)
+      → StandsFor keys key_for now beside → Goes Always state n now after → Holds comes columns after beside
       → IsMeant now [] (k comes columns (resting after)) (rest comes columns after beside)
 
   -- what is executed over both answers alike, and goes on in both
@@ -159,7 +162,8 @@ module _ (laws : LawsBelow) (keys : KeyMap) (trusted : List (List ℕ)) (key_for
   abbrev plain_alone : Meant → Pending → Execution
   plain_alone meant p = record { bound = alone meant.bound; encs = encs_alone meant; params = used_among (is_used meant.bound) 0 (plain_atoms_of p.batch) }
 
-  pub stands_on : (state plainly : State) (n : ℕ) → Fits keys key_for (catalog_of state n) → StandsFor keys key_for state plainly → (meant : Meant) (sent : List SentParam) (p : Pending) → Ready key_for state n p meant sent
+  pub stands_on : (state plainly : State) (n : ℕ) → Fits keys key_for (catalog_of state n) → StandsFor keys key_for state plainly
+      → (meant : Meant) (sent : List SentParam) (p : Pending) → Ready key_for state n p meant sent
       → StandsOn state n (done_alone state n meant sent) (transact plainly n (ask_of (plain_alone meant p)))
   stands_on state plainly n fits st meant sent p r =
       let e = execution_alone meant sent in
@@ -179,7 +183,8 @@ module _ (laws : LawsBelow) (keys : KeyMap) (trusted : List (List ℕ)) (key_for
   -- ---- the result of a conversation, node by node
 
   module _ (state : State) (queue : List Reply) where
-    says : (aloud : Bool) (t : Talk) (comes : outcomes.Outcome) (wanted : List outcomes.Outcome) → IsMeant state queue t wanted → IsMeant state queue (saying aloud (Some comes) t) (first aloud comes wanted)
+    says : (aloud : Bool) (t : Talk) (comes : outcomes.Outcome) (wanted : List outcomes.Outcome)
+        → IsMeant state queue t wanted → IsMeant state queue (saying aloud (Some comes) t) (first aloud comes wanted)
     says true t comes wanted h = λ taken left a. printed comes _ _ _ (h taken left a)
     says false t comes wanted h = h
 
@@ -200,7 +205,8 @@ module _ (laws : LawsBelow) (keys : KeyMap) (trusted : List (List ℕ)) (key_for
         by true = λ taken left a. at left (listen broken queue before shown taken) (l broken taken).0 (l broken taken).1 (h (l broken taken).0 left a)
         by false = λ taken left a. at left (listen nothing_broken queue before shown taken) (l nothing_broken taken).0 (l nothing_broken taken).1 (h (l nothing_broken taken).0 left a)
 
-    opens : (wanted : List outcomes.Outcome) (m : KeyMeta) (f g : Result Keys DriverFault → Talk) → ((r : Result Keys DriverFault) → AnswersOf keys trusted m r → IsMeant state queue (f r) wanted) → IsMeant state queue (opening_by trusted m f) wanted
+    opens : (wanted : List outcomes.Outcome) (m : KeyMeta) (f g : Result Keys DriverFault → Talk)
+        → ((r : Result Keys DriverFault) → AnswersOf keys trusted m r → IsMeant state queue (f r) wanted) → IsMeant state queue (opening_by trusted m f) wanted
     opens wanted m f g h = at (trusted_meta trusted m) refl
       where
         at : (t : Result KeyMeta DriverFault) → trusted_meta trusted m ≡ t → IsMeant state queue (on_result (λ told. Opens told f) (λ e. f (Err e)) t) wanted
@@ -210,7 +216,8 @@ module _ (laws : LawsBelow) (keys : KeyMap) (trusted : List (List ℕ)) (key_for
     draws : (wanted : List outcomes.Outcome) (f g : List ℕ → Talk) → ((iv vi : List ℕ) → IsBlock iv → IsBlock vi → IsMeant state queue (f iv) wanted) → IsMeant state queue (Draws f) wanted
     draws wanted f g h = λ taken left a. at taken left a (nat_lt (length left) 16) refl
       where
-        at : (taken : ℕ) (left : List ℕ) → AreBytes left → (b : Bool) → nat_lt (length left) 16 ≡ b → Agrees (passed_by (λ bytes more. over serve keys (f bytes) taken more state queue) left state b) wanted
+        at : (taken : ℕ) (left : List ℕ) → AreBytes left → (b : Bool) → nat_lt (length left) 16 ≡ b
+            → Agrees (passed_by (λ bytes more. over serve keys (f bytes) taken more state queue) left state b) wanted
         at taken left a true e = record { rest = wanted; is = refl }
         at taken left a false e = let s = sixteen left a e in h (take 16 left) (take 16 left) s.0 s.0 taken (drop 16 left) s.1
 
@@ -231,7 +238,8 @@ module _ (laws : LawsBelow) (keys : KeyMap) (trusted : List (List ℕ)) (key_for
     seen_here : catalog_of plainly n ≡ here
     seen_here = (seen_alike (Standing key_for) state plainly n st.stores).worlds.catalog
 
-    pub prints : (comes : outcomes.Outcome) (after : Option Pending) → Held after → Holding comes None after plainly → IsMeant state [] (saying aloud (Some comes) (k comes None (resting after))) (first aloud comes (rest comes None after plainly))
+    pub prints : (comes : outcomes.Outcome) (after : Option Pending) → Held after → Holding comes None after plainly
+        → IsMeant state [] (saying aloud (Some comes) (k comes None (resting after))) (first aloud comes (rest comes None after plainly))
     prints comes after h r =
         says state [] aloud (k comes None (resting after)) comes (rest comes None after plainly) (go comes None after state plainly st (stays_so Always state n after h) r)
 
@@ -241,7 +249,8 @@ module _ (laws : LawsBelow) (keys : KeyMap) (trusted : List (List ℕ)) (key_for
       abbrev onward : (comes : outcomes.Outcome) (columns : Accepted) → Holding comes columns None beside → IsMeant now [] (k comes columns session.Idle) (rest comes columns None beside)
       onward comes columns r = go comes columns None now beside after goes r
 
-      comes_to : (comes : outcomes.Outcome) (columns : Accepted) → Holding comes columns None beside → IsMeant now [] (saying aloud (Some comes) (k comes columns session.Idle)) (first aloud comes (rest comes columns None beside))
+      comes_to : (comes : outcomes.Outcome) (columns : Accepted) → Holding comes columns None beside
+          → IsMeant now [] (saying aloud (Some comes) (k comes columns session.Idle)) (first aloud comes (rest comes columns None beside))
       comes_to comes columns r = says now [] aloud (k comes columns session.Idle) comes (rest comes columns None beside) (onward comes columns r)
 
       abbrev wanted_of : Result Answer SqlFault → List outcomes.Outcome
@@ -250,8 +259,10 @@ module _ (laws : LawsBelow) (keys : KeyMap) (trusted : List (List ℕ)) (key_for
       abbrev holding_of : Result Answer SqlFault → Type 0
       holding_of y = Holding (plain.answered keys trusted here y) (plain.accepted_of y) None beside
 
-      rows_agree : (columns : List ResultColumn) (rows others : List (List Atom)) → AreResults is_short columns rows → AllZip (RowsCorrespond (Standing key_for) (map class_of_result columns)) rows others
-          → holding_of (Ok (Rows columns others)) → IsMeant now (map Row rows ++ Ended (Answered (length rows)) ∷ []) (reading aloud trusted (header here columns) k) (wanted_of (Ok (Rows columns others)))
+      rows_agree : (columns : List ResultColumn) (rows others : List (List Atom)) → AreResults is_short columns rows
+          → AllZip (RowsCorrespond (Standing key_for) (map class_of_result columns)) rows others
+          → holding_of (Ok (Rows columns others))
+          → IsMeant now (map Row rows ++ Ended (Answered (length rows)) ∷ []) (reading aloud trusted (header here columns) k) (wanted_of (Ok (Rows columns others)))
       rows_agree columns rows others typed pairs r =
           let metas = keys_of here (plain.encs_shown columns) in
           let titles = titles_of (header here columns) in
@@ -265,21 +276,27 @@ module _ (laws : LawsBelow) (keys : KeyMap) (trusted : List (List ℕ)) (key_for
           reading_goes trusted (AnswersOf keys trusted) (λ t u. IsMeant now queue t all) (opens now queue all) aloud here columns k k
           (λ os none opened.
           let is : wanted ≡ outcome.Rows listing =
-          ap shown (unopened_is keys trusted metas (plain.encs_shown columns) None none) ∙ ap (λ t. outcome.Rows (record { titles = t; rows = map (map plain.value_of) others })) (sym (titles_sent columns)) in
+          ap shown (unopened_is keys trusted metas (plain.encs_shown columns) None none) ∙ ap
+          (λ t. outcome.Rows (record { titles = t; rows = map (map plain.value_of) others })) (sym (titles_sent columns)) in
           let r0 : Holding (outcome.Rows listing) sent None beside = subst (λ (o : outcomes.Outcome). Holding o sent None beside) is r in
           subst (λ (o : outcomes.Outcome). IsMeant now queue (read_by aloud here columns k os) (first aloud o (rest o sent None beside))) (sym is)
-          (hears now queue aloud (session.Reading (types_shown columns) os 0) (record { titles = titles; rows = [] }) (rows_on aloud (λ comes. k comes sent)) (Said (Some (outcome.Rows listing)) session.Idle) (first aloud (outcome.Rows listing) (rest (outcome.Rows listing) sent None beside))
-          (λ lost taken. rows_opened keys trusted is_short key_for metas told columns os opened rows others typed pairs lost titles [] 0 (length rows) taken (whole_count rows)) (comes_to (outcome.Rows listing) sent r0)))
+          (hears now queue aloud (session.Reading (types_shown columns) os 0) (record { titles = titles; rows = [] })
+          (rows_on aloud (λ comes. k comes sent)) (Said (Some (outcome.Rows listing)) session.Idle) (first aloud (outcome.Rows listing) (rest (outcome.Rows listing) sent None beside))
+          (λ lost taken. rows_opened keys trusted is_short key_for metas told columns os opened rows others
+          typed pairs lost titles [] 0 (length rows) taken (whole_count rows)) (comes_to (outcome.Rows listing) sent r0)))
           (λ f some.
           let is : wanted ≡ outcome.Failed f = ap shown (unopened_is keys trusted metas (plain.encs_shown columns) (Some f) some) in
           let r0 : Holding (outcome.Failed f) sent None beside = subst (λ (o : outcomes.Outcome). Holding o sent None beside) is r in
           subst (λ (o : outcomes.Outcome). IsMeant now queue (skipped_by aloud here columns k f) (first aloud o (rest o sent None beside))) (sym is)
           (says now queue aloud (rested aloud (k (outcome.Failed f) sent) (session.Skipping (types_shown columns) 0)) (outcome.Failed f) (rest (outcome.Failed f) sent None beside)
-          (hears now queue aloud (session.Skipping (types_shown columns) 0) nothing_shown (over_on aloud (k (outcome.Failed f) sent)) (Said None session.Idle) (rest (outcome.Failed f) sent None beside)
-          (λ lost taken. rows_skipped is_short key_for columns rows others typed pairs lost nothing_shown 0 (length rows) taken (whole_count rows)) (says_nothing now [] aloud (k (outcome.Failed f) sent session.Idle) (rest (outcome.Failed f) sent None beside) (onward (outcome.Failed f) sent r0)))))
+          (hears now queue aloud (session.Skipping (types_shown columns) 0) nothing_shown
+          (over_on aloud (k (outcome.Failed f) sent)) (Said None session.Idle) (rest (outcome.Failed f) sent None beside)
+          (λ lost taken. rows_skipped is_short key_for columns rows others typed pairs lost nothing_shown 0 (length rows) taken (whole_count rows))
+          (says_nothing now [] aloud (k (outcome.Failed f) sent session.Idle) (rest (outcome.Failed f) sent None beside) (onward (outcome.Failed f) sent r0)))))
 
       -- the columns are heard first
-      opened_on : (columns : List ResultColumn) (rows : List (List Atom)) (queue : List Reply) (wanted : List outcomes.Outcome) → IsMeant now queue (reading aloud trusted (header here columns) k) wanted
+      opened_on : (columns : List ResultColumn) (rows : List (List Atom)) (queue : List Reply) (wanted : List outcomes.Outcome)
+          → IsMeant now queue (reading aloud trusted (header here columns) k) wanted
           → IsMeant now (reply.Columns (header here columns) ∷ queue) (hearing aloud session.Sent nothing_shown (answered_on aloud trusted k)) wanted
       opened_on columns rows queue wanted m = by aloud refl
         where
@@ -288,7 +305,8 @@ module _ (laws : LawsBelow) (keys : KeyMap) (trusted : List (List ℕ)) (key_for
           by false e = λ taken left a. m (suc taken) left a
 
       -- one reply is heard
-      heard_once : (queue : List Reply) (reply : Reply) (comes : outcomes.Outcome) (wanted : List outcomes.Outcome) → queue ≡ reply ∷ [] → hear session.Sent nothing_shown reply ≡ Got (Said (Some comes) session.Idle)
+      heard_once : (queue : List Reply) (reply : Reply) (comes : outcomes.Outcome) (wanted : List outcomes.Outcome)
+          → queue ≡ reply ∷ [] → hear session.Sent nothing_shown reply ≡ Got (Said (Some comes) session.Idle)
           → IsMeant now [] (saying aloud (Some comes) (k comes None session.Idle)) wanted → IsMeant now queue (hearing aloud session.Sent nothing_shown (answered_on aloud trusted k)) wanted
       heard_once queue reply comes wanted e h m =
           hears now queue aloud session.Sent nothing_shown (answered_on aloud trusted k) (Said (Some comes) session.Idle) wanted (λ lost taken. (suc taken, rw (e, h) refl)) m
@@ -297,11 +315,17 @@ module _ (laws : LawsBelow) (keys : KeyMap) (trusted : List (List ℕ)) (key_for
           → let s = answered here x now in IsMeant s.after s.replies (hearing aloud session.Sent nothing_shown (answered_on aloud trusted k)) (wanted_of y)
       answer_agrees (Ok (Rows columns rows)) (Ok (Rows columns2 rows2)) c typed r =
           let queue : List Reply = map Row rows ++ Ended (Answered (length rows)) ∷ [] in
-          subst (λ cs. holding_of (Ok (Rows cs rows2)) → IsMeant now (reply.Columns (header here columns) ∷ queue) (hearing aloud session.Sent nothing_shown (answered_on aloud trusted k)) (wanted_of (Ok (Rows cs rows2)))) (sym c.0)
+          subst (λ cs. holding_of (Ok (Rows cs rows2))
+          → IsMeant now (reply.Columns (header here columns) ∷ queue) (hearing aloud session.Sent nothing_shown (answered_on aloud trusted k)) (wanted_of (Ok (Rows cs rows2)))) (sym c.0)
           (λ r. opened_on columns rows queue (wanted_of (Ok (Rows columns rows2))) (rows_agree columns rows rows2 typed c.1 r)) r
-      answer_agrees (Ok (Changed count)) (Ok (Changed other)) c typed r = heard_once _ (Ended (done_as.Changed count)) (outcome.Changed count) _ refl refl (subst (λ n. IsMeant now [] (saying aloud (Some (outcome.Changed count)) (k (outcome.Changed count) None session.Idle)) (wanted_of (Ok (Changed n)))) (sym c) (comes_to (outcome.Changed count) None (subst (λ n. holding_of (Ok (Changed n))) c r)))
+      answer_agrees (Ok (Changed count)) (Ok (Changed other)) c typed r = heard_once _ (Ended (done_as.Changed count))
+          (outcome.Changed count) _ refl refl
+          (subst (λ n. IsMeant now [] (saying aloud (Some (outcome.Changed count)) (k (outcome.Changed count) None session.Idle)) (wanted_of (Ok (Changed n))))
+          (sym c) (comes_to (outcome.Changed count) None (subst (λ n. holding_of (Ok (Changed n))) c r)))
       answer_agrees (Ok Defined) (Ok Defined) c typed r = heard_once _ (Ended done_as.Defined) outcome.Defined _ refl refl (comes_to outcome.Defined None r)
-      answer_agrees (Err f) (Err g) c typed r = heard_once _ (reply.Refused f) (outcome.Refused f) _ refl refl (subst (λ h. IsMeant now [] (saying aloud (Some (outcome.Refused f)) (k (outcome.Refused f) None session.Idle)) (wanted_of (Err h))) (sym c) (comes_to (outcome.Refused f) None (subst (λ h. holding_of (Err h)) c r)))
+      answer_agrees (Err f) (Err g) c typed r = heard_once _ (reply.Refused f) (outcome.Refused f) _ refl refl
+          (subst (λ h. IsMeant now [] (saying aloud (Some (outcome.Refused f)) (k (outcome.Refused f) None session.Idle)) (wanted_of (Err h)))
+          (sym c) (comes_to (outcome.Refused f) None (subst (λ h. holding_of (Err h)) c r)))
       answer_agrees x y c typed r = absurd c
 
     -- ---- what is pending is executed
@@ -322,18 +346,26 @@ module _ (laws : LawsBelow) (keys : KeyMap) (trusted : List (List ℕ)) (key_for
         let served = ready.served in
         let on = stands_on state plainly n fits st meant sent p ready in
         let same : other ≡ whole = transact_alone plainly n meant.bound meant.encs atoms in
-        let u : understood (catalog_of plainly n) p.batch.text (declarations_of p.batch) ≡ Ok meant = ap (λ (c : Catalog). understood c p.batch.text (declarations_of p.batch)) seen_here ∙ d.understood in
+        let u : understood (catalog_of plainly n) p.batch.text (declarations_of p.batch) ≡ Ok meant = ap
+        (λ (c : Catalog). understood c p.batch.text (declarations_of p.batch)) seen_here ∙ d.understood in
         let whole_rest : RestOf (plain.came_by keys trusted (catalog_of plainly n) whole) = rw u at r in
-        let other_rest : RestOf (plain.came_by keys trusted here other) = subst (λ (c : Catalog). RestOf (plain.came_by keys trusted c other)) seen_here (subst (λ (o : Transacted). RestOf (plain.came_by keys trusted (catalog_of plainly n) o)) (sym same) whole_rest) in
+        let other_rest : RestOf (plain.came_by keys trusted here other) = subst
+        (λ (c : Catalog). RestOf (plain.came_by keys trusted c other)) seen_here (subst (λ (o : Transacted). RestOf (plain.came_by keys trusted (catalog_of plainly n) o)) (sym same) whole_rest) in
         let all_agrees = answer_agrees did.after other.after on.stands on.goes did.answer other.answer on.answers on.typed other_rest in
         let meant_so : text aloud rest (plain.came_by keys trusted here other) ≡ text aloud rest (plain.came_by keys trusted (catalog_of plainly n) whole) =
         ap (λ (o : Transacted). text aloud rest (plain.came_by keys trusted here o)) same
         ∙ ap (λ c. text aloud rest (plain.came_by keys trusted c whole)) (sym seen_here) in
-        λ taken left a. rw (served, u) (subst (λ wanted. Agrees (over serve keys (hearing aloud session.Sent nothing_shown (answered_on aloud trusted k)) taken left (answered here did.answer did.after).after (answered here did.answer did.after).replies) wanted) meant_so (all_agrees taken left a))
+        λ taken left a. rw (served, u)
+        (subst (λ wanted. Agrees
+        (over serve keys (hearing aloud session.Sent nothing_shown (answered_on aloud trusted k)) taken
+        left (answered here did.answer did.after).after (answered here did.answer did.after).replies) wanted) meant_so (all_agrees taken left a))
 
     -- a refusal is heard
-    refused_agrees : (f : SqlFault) → Holding (outcome.Refused f) None None plainly → IsMeant state (reply.Refused f ∷ []) (hearing aloud session.Sent nothing_shown (answered_on aloud trusted k)) (first aloud (outcome.Refused f) (rest (outcome.Refused f) None None plainly))
-    refused_agrees f r = hears state (reply.Refused f ∷ []) aloud session.Sent nothing_shown (answered_on aloud trusted k) (Said (Some (outcome.Refused f)) session.Idle) (first aloud (outcome.Refused f) (rest (outcome.Refused f) None None plainly)) (λ lost taken. (suc taken, refl)) (prints (outcome.Refused f) None nothing r)
+    refused_agrees : (f : SqlFault) → Holding (outcome.Refused f) None None plainly
+        → IsMeant state (reply.Refused f ∷ []) (hearing aloud session.Sent nothing_shown (answered_on aloud trusted k)) (first aloud (outcome.Refused f) (rest (outcome.Refused f) None None plainly))
+    refused_agrees f r = hears state (reply.Refused f ∷ []) aloud session.Sent nothing_shown (answered_on aloud trusted k)
+        (Said (Some (outcome.Refused f)) session.Idle) (first aloud (outcome.Refused f) (rest (outcome.Refused f) None None plainly))
+        (λ lost taken. (suc taken, refl)) (prints (outcome.Refused f) None nothing r)
 
     abbrev moved : Pending → ℕ → SqlFault
     moved p now = Moved (record { seen = p.version; now = now })
@@ -341,17 +373,20 @@ module _ (laws : LawsBelow) (keys : KeyMap) (trusted : List (List ℕ)) (key_for
     asked_agrees : (p : Pending) → HoldsBatch Always here p → (sent : List SentParam) → AreSealed keys trusted p.keys (uses_of p) sent → (b : Bool) → (p.version == here.version) ≡ b
         → RestOf (cond b (stepped_at p) (came (outcome.Refused (moved p here.version)) None plainly))
         → let s = executed state n (cond b (understood here p.batch.text (map declaration_of sent)) (Err (moved p here.version)) >>= λ meant. suited meant.encs sent >>= λ atoms. Ok (meant, atoms)) in
-        IsMeant s.after s.replies (hearing aloud session.Sent nothing_shown (answered_on aloud trusted k)) (text aloud rest (cond b (stepped_at p) (came (outcome.Refused (moved p here.version)) None plainly)))
+        IsMeant s.after s.replies (hearing aloud session.Sent nothing_shown (answered_on aloud trusted k))
+        (text aloud rest (cond b (stepped_at p) (came (outcome.Refused (moved p here.version)) None plainly)))
     asked_agrees p h sent s true e r = runs_agrees p h (h.same (eqb-true p.version here.version e)) sent s r
     asked_agrees p h sent s false e r = refused_agrees (moved p here.version) r
 
-    pub executing_agrees : (p : Pending) → HoldsBatch Always here p → RestOf (plain.execution_of keys trusted plainly n p) → IsMeant state [] (executing aloud trusted n (session.Pending p) k) (text aloud rest (plain.execution_of keys trusted plainly n p))
+    pub executing_agrees : (p : Pending) → HoldsBatch Always here p → RestOf (plain.execution_of keys trusted plainly n p)
+        → IsMeant state [] (executing aloud trusted n (session.Pending p) k) (text aloud rest (plain.execution_of keys trusted plainly n p))
     executing_agrees p h r =
         let onward : Session → Talk = λ after. hearing aloud after nothing_shown (answered_on aloud trusted k) in
         let wanted = text aloud rest (plain.execution_of keys trusted plainly n p) in
         let sends : List SentParam → Talk = λ params. asked aloud onward k (Ok (request.Execute n p.version p.batch.text params)) session.Sent in
         let fails : DriverFault → Talk = λ f. asked aloud onward k (Err f) session.Idle in
-        sealing_goes trusted (AnswersOf keys trusted) (λ t u. IsMeant state [] t wanted) (opens state [] wanted) p.keys (draws state [] wanted) (uses_of p) (uses_of p) (same_uses (uses_of p)) sends sends fails fails
+        sealing_goes trusted (AnswersOf keys trusted) (λ t u. IsMeant state [] t wanted) (opens state [] wanted)
+        p.keys (draws state [] wanted) (uses_of p) (uses_of p) (same_uses (uses_of p)) sends sends fails fails
         (λ sent other none s z. λ taken left a.
         let e = unopened_is keys trusted p.keys (encs_in (uses_of p)) None none in
         let r0 : RestOf (plain.executed_with keys trusted plainly n p None) = rw e at r in
@@ -362,11 +397,15 @@ module _ (laws : LawsBelow) (keys : KeyMap) (trusted : List (List ℕ)) (key_for
         rw e (prints (outcome.Failed f) None nothing r0 taken left a))
       where
         versioned : (sent : List SentParam) → AreSealed keys trusted p.keys (uses_of p) sent → RestOf (plain.executed_with keys trusted plainly n p None)
-            → let x = executed state n (cond (p.version == here.version) (understood here p.batch.text (map declaration_of sent)) (Err (moved p here.version)) >>= λ meant. suited meant.encs sent >>= λ atoms. Ok (meant, atoms)) in
+            → let x = executed state n
+            (cond (p.version == here.version) (understood here p.batch.text (map declaration_of sent))
+            (Err (moved p here.version)) >>= λ meant. suited meant.encs sent >>= λ atoms. Ok (meant, atoms)) in
             IsMeant x.after x.replies (hearing aloud session.Sent nothing_shown (answered_on aloud trusted k)) (text aloud rest (plain.executed_with keys trusted plainly n p None))
         versioned sent s =
             subst (λ (v : ℕ). let c = cond (p.version == v) (stepped_at p) (came (outcome.Refused (moved p v)) None plainly) in
-            let x = executed state n (cond (p.version == here.version) (understood here p.batch.text (map declaration_of sent)) (Err (moved p here.version)) >>= λ meant. suited meant.encs sent >>= λ atoms. Ok (meant, atoms)) in
+            let x = executed state n
+            (cond (p.version == here.version) (understood here p.batch.text (map declaration_of sent))
+            (Err (moved p here.version)) >>= λ meant. suited meant.encs sent >>= λ atoms. Ok (meant, atoms)) in
             RestOf c → IsMeant x.after x.replies (hearing aloud session.Sent nothing_shown (answered_on aloud trusted k)) (text aloud rest c))
             (sym (ap (λ (c : Catalog). c.version) seen_here)) (asked_agrees p h sent s (p.version == here.version) refl)
 
@@ -398,26 +437,34 @@ module _ (laws : LawsBelow) (keys : KeyMap) (trusted : List (List ℕ)) (key_for
           let p : Pending = record { batch = batch; version = here.version; keys = d.keys; encs = told_among (is_used meant.bound) 0 meant.encs } in
           let r0 : RestOf (plain.readied plainly readied p) = rw found at r in
           let t = conversation.readied batch d p.encs (first_open batch.forced batch.params p.encs) in
-          rw found (hears state (reply.Described d ∷ []) aloud (session.Begun batch) nothing_shown (described_on aloud ready k) (Said (described_outcome t.answer) t.after) (text aloud rest (plain.readied plainly readied p))
+          rw found (hears state (reply.Described d ∷ []) aloud (session.Begun batch) nothing_shown
+          (described_on aloud ready k) (Said (described_outcome t.answer) t.after) (text aloud rest (plain.readied plainly readied p))
           (λ lost taken. (suc taken, rw found refl)) (readied_agrees d p.encs refl h.1 (first_open batch.forced batch.params p.encs) refl r0))
       described_agrees fit (Err f) e r =
-          hears state (reply.Refused f ∷ []) aloud (session.Begun batch) nothing_shown (described_on aloud ready k) (Said (Some (outcome.Refused f)) session.Idle) (first aloud (outcome.Refused f) (rest (outcome.Refused f) None None plainly))
+          hears state (reply.Refused f ∷ []) aloud (session.Begun batch) nothing_shown (described_on aloud ready k)
+          (Said (Some (outcome.Refused f)) session.Idle) (first aloud (outcome.Refused f) (rest (outcome.Refused f) None None plainly))
           (λ lost taken. (suc taken, refl)) (prints (outcome.Refused f) None nothing r)
 
       abbrev begins_so : Option DriverFault → Talk
       begins_so o = let t = begun n (unless o batch) in asked aloud (λ after. hearing aloud after nothing_shown (described_on aloud ready k)) k t.answer t.after
 
-      begun_agrees : (o : Option DriverFault) → why_unfit batch ≡ o → RestOf (plain.begun plainly n batch (plain.readied plainly readied) o) → IsMeant state [] (begins_so o) (text aloud rest (plain.begun plainly n batch (plain.readied plainly readied) o))
+      begun_agrees : (o : Option DriverFault) → why_unfit batch ≡ o → RestOf (plain.begun plainly n batch (plain.readied plainly readied) o)
+          → IsMeant state [] (begins_so o) (text aloud rest (plain.begun plainly n batch (plain.readied plainly readied) o))
       begun_agrees (Some f) e r = prints (outcome.Failed f) None nothing r
       begun_agrees None e r =
-          subst (λ (c : Catalog). let came = plain.described plainly batch (plain.readied plainly readied) (describe c batch.text (declarations_of batch)) in RestOf came → IsMeant state [] (begins_so None) (text aloud rest came)) (sym seen_here)
+          subst (λ (c : Catalog). let came = plain.described plainly batch (plain.readied plainly readied) (describe c batch.text (declarations_of batch)) in RestOf came
+          → IsMeant state [] (begins_so None) (text aloud rest came)) (sym seen_here)
           (described_agrees e (understood here batch.text (declarations_of batch)) refl) r
 
-      pub begins_agrees : (before : Option Pending) → Held before → RestOf (plain.begins plainly n batch (plain.readied plainly readied) before) → IsMeant state [] (describing aloud n batch (resting before) ready k) (text aloud rest (plain.begins plainly n batch (plain.readied plainly readied) before))
+      pub begins_agrees : (before : Option Pending) → Held before → RestOf (plain.begins plainly n batch (plain.readied plainly readied) before)
+          → IsMeant state [] (describing aloud n batch (resting before) ready k) (text aloud rest (plain.begins plainly n batch (plain.readied plainly readied) before))
       begins_agrees None h = begun_agrees (why_unfit batch) refl
       begins_agrees (Some p) h = prints (outcome.Failed StillPending) (Some p) h
 
     -- a whole batch, aloud or quietly: its outcome goes on
-    pub running_agrees : (batch : Batch) → HasParams batch → HasProperParams batch → (before : Option Pending) → Held before → RestOf (plain.begins plainly n batch (plain.readied plainly (plain.execution_of keys trusted plainly n)) before)
-        → IsMeant state [] (running aloud trusted n batch (resting before) k) (text aloud rest (plain.begins plainly n batch (plain.readied plainly (plain.execution_of keys trusted plainly n)) before))
-    running_agrees batch params proper before h r = begins_agrees batch params proper (λ p. executing aloud trusted n (session.Pending p) k) (plain.execution_of keys trusted plainly n) (λ p held v. executing_agrees p held) before h r
+    pub running_agrees : (batch : Batch) → HasParams batch → HasProperParams batch → (before : Option Pending)
+        → Held before → RestOf (plain.begins plainly n batch (plain.readied plainly (plain.execution_of keys trusted plainly n)) before)
+        → IsMeant state [] (running aloud trusted n batch (resting before) k)
+        (text aloud rest (plain.begins plainly n batch (plain.readied plainly (plain.execution_of keys trusted plainly n)) before))
+    running_agrees batch params proper before h r = begins_agrees batch params proper
+        (λ p. executing aloud trusted n (session.Pending p) k) (plain.execution_of keys trusted plainly n) (λ p held v. executing_agrees p held) before h r

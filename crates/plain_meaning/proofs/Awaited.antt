@@ -86,10 +86,12 @@ module _ (laws : LawsBelow) (Proper : Type 0) where
     ends_await comes fine told held now stands goes none = (fine, go comes None held now stands goes none told)
 
     runs_await : (batch : Batch) → MayRun Proper batch → (t : Accepted → Outcome → Session → Talk)
-        → ((columns : Accepted) (comes : Outcome) → IsTold Proper IsFineFault columns comes → Awaited (λ after. t columns comes after)) → Awaited (λ before. talks.runs trusted number old new ends batch before t)
+        → ((columns : Accepted) (comes : Outcome) → IsTold Proper IsFineFault columns comes → Awaited (λ after. t columns comes after))
+        → Awaited (λ before. talks.runs trusted number old new ends batch before t)
     runs_await batch may t next held now stands goes none =
         running_awaits laws Proper NoneHeld refl trusted now number stands false (λ comes columns after. t columns (told_of comes) after)
-        (λ comes columns after later stand further over told. next columns (told_of comes) (is_told comes columns told) after later stand (goes_then Proper start now later number held after goes further) over)
+        (λ comes columns after later stand further over told. next columns (told_of comes) (is_told comes columns told)
+        after later stand (goes_then Proper start now later number held after goes further) over)
         batch may.params may.proper held (subst (λ held. HoldsIn Proper now.shared (transaction_at now number) held) (sym none) tt) none
 
     rotation_awaits : Stands laws Proper start → Goes Proper start number start None → Goes_on laws Proper (talks.beginning trusted number old new ends session.Idle) start []
@@ -132,7 +134,8 @@ module _ (laws : LawsBelow) (Proper : Type 0) where
       subst (λ before. Goes_on laws Proper (turn trusted number act before onward) state []) (sym (at_resting holds (number - 1)))
       (turn_awaits trusted number act state stands onward
       (λ comes accepted after now later goes held told. subst (λ sessions. Goes_on laws Proper (talk steps trusted sessions) now []) (sym (set_resting holds (number - 1) after))
-      (talk_awaits steps (All-tail IsWithinLimits step steps within) (λ is. All-tail IsProperStep step steps (proper is)) trusted (with_held holds number after) now later (all_go Proper state now number holds after goes h)))
+      (talk_awaits steps (All-tail IsWithinLimits step steps within) (λ is. All-tail IsProperStep step steps (proper is))
+      trusted (with_held holds number after) now later (all_go Proper state now number holds after goes h)))
       (All-head IsWithinLimits step steps within).1 (λ is. (All-head IsProperStep step steps (proper is)).0) (held_at holds number) (hold_place Proper state number holds h))
 
 -- ---- from the beginning

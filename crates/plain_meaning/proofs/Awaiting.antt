@@ -153,7 +153,8 @@ module _ (laws : LawsBelow) (Proper : Type 0) where
     says_nothing true t h = h
     says_nothing false t h = h
 
-    hears : (aloud : Bool) (before : Session) (shown : Listing) (f : Heard → Talk) → IsHeard (λ heard left. Goes_on (f heard) now left) queue before shown → Goes_on (hearing aloud before shown f) now queue
+    hears : (aloud : Bool) (before : Session) (shown : Listing) (f : Heard → Talk)
+        → IsHeard (λ heard left. Goes_on (f heard) now left) queue before shown → Goes_on (hearing aloud before shown f) now queue
     hears true before shown f h = h
     hears false before shown f h = h
 
@@ -179,20 +180,24 @@ module _ (laws : LawsBelow) (Proper : Type 0) where
     P heard left = Goes_on (rows_on aloud k heard) now left
 
     -- what isn't read
-    rows_skip : (comes : outcomes.Outcome) → Fine comes → IsProperShown comes → (rows : List (List Atom)) → Typed columns total rows → Paired columns total rows → (count : ℕ) → total ≡ count + length rows
+    rows_skip : (comes : outcomes.Outcome) → Fine comes → IsProperShown comes → (rows : List (List Atom))
+        → Typed columns total rows → Paired columns total rows → (count : ℕ) → total ≡ count + length rows
         → Goes_on (rested aloud (k comes) (session.Skipping (types_shown columns) count)) now (queue_of columns total rows)
     rows_skip comes p values rows t c count e =
         hears now (queue_of columns total rows) aloud (session.Skipping (types_shown columns) count) nothing_shown (over_on aloud (k comes))
-        (skipped columns total (λ heard left. Goes_on (over_on aloud (k comes) heard) now left) rows t c nothing_shown count e (says_nothing now [] aloud (k comes session.Idle) (go comes p (λ is. values))))
+        (skipped columns total (λ heard left. Goes_on (over_on aloud (k comes) heard) now left) rows t c
+        nothing_shown count e (says_nothing now [] aloud (k comes session.Idle) (go comes p (λ is. values))))
 
-    on_read : (rest : List Reply) (shown : Listing) (n : ℕ) (r : Result (List Value) DriverFault) → ((values : List Value) → r ≡ Ok values → IsHeard P rest (session.Reading (types_shown columns) os n) (with_row shown values))
+    on_read : (rest : List Reply) (shown : Listing) (n : ℕ) (r : Result (List Value) DriverFault)
+        → ((values : List Value) → r ≡ Ok values → IsHeard P rest (session.Reading (types_shown columns) os n) (with_row shown values))
         → ((f : DriverFault) → P (Said (Some (outcome.Broken shown (Some f))) (session.Skipping (types_shown columns) n)) rest)
         → IsHeardBy (λ after more. IsHeard P rest after more) (λ heard. P heard rest) (heard_answer shown (row_read (types_shown columns) os n r))
     on_read rest shown n (Ok values) h g = h values refl
     on_read rest shown n (Err f) h g = g f
 
     -- all rows are heard, and then their end
-    read : (rows : List (List Atom)) → Typed columns total rows → Paired columns total rows → (Proper → All (All IsProperAtom) rows) → (shown : Listing) → (Proper → AreProperValues shown.rows) → (count : ℕ) → total ≡ count + length rows
+    read : (rows : List (List Atom)) → Typed columns total rows → Paired columns total rows
+        → (Proper → All (All IsProperAtom) rows) → (shown : Listing) → (Proper → AreProperValues shown.rows) → (count : ℕ) → total ≡ count + length rows
         → IsHeard P (queue_of columns total rows) (session.Reading (types_shown columns) os count) shown
     read [] t c atoms shown values count e =
         let same : total ≡ count = omega (arith, e) in
@@ -206,11 +211,13 @@ module _ (laws : LawsBelow) (Proper : Type 0) where
         (λ found is_read.
         read rows more c.1 (λ is. All-tail (All IsProperAtom) row rows (atoms is)) (with_row shown found)
         (λ is. All-append (All IsProper) shown.rows (found ∷ []) (values is)
-        (All-cons (All IsProper) found [] (read_values laws.seals.the_one (count + 1) 1 (types_shown columns) os row found is_read (All-head (All IsProperAtom) row rows (atoms is))) (All-nil (All IsProper))))
+        (All-cons (All IsProper) found []
+        (read_values laws.seals.the_one (count + 1) 1 (types_shown columns) os row found is_read (All-head (All IsProperAtom) row rows (atoms is))) (All-nil (All IsProper))))
         (count + 1) s)
         (λ f.
         let comes : outcomes.Outcome = outcome.Broken shown (Some f) in
-        says now (queue_of columns total rows) aloud (rested aloud (k comes) (session.Skipping (types_shown columns) (count + 1))) comes (λ is. tt) (rows_skip comes (λ is. tt) tt rows more c.1 (count + 1) s)))
+        says now (queue_of columns total rows) aloud (rested aloud (k comes) (session.Skipping (types_shown columns) (count + 1)))
+        comes (λ is. tt) (rows_skip comes (λ is. tt) tt rows more c.1 (count + 1) s)))
 
   -- whatever the result of a turn, the conversation goes on so; H holds of what its session holds
   abbrev pub Onward : (Option Pending → Type 0) → State → ℕ → turns.Onward → Type 0
@@ -248,15 +255,18 @@ module _ (laws : LawsBelow) (Proper : Type 0) where
           reading_goes trusted IsAnswer (λ t u. Goes_on t now queue) (opens now queue trusted) aloud here columns k k
           (λ os none_failed opened.
           hears now queue aloud (session.Reading (types_shown columns) os 0) (record { titles = titles_of (header here columns); rows = [] }) (rows_on aloud (λ comes. k comes accepted))
-          (read columns (length rows) aloud now (λ comes. k comes accepted) goes os rows t c (λ is. (proper is).values) (record { titles = titles_of (header here columns); rows = [] }) (λ is. All-nil (All IsProper)) 0 (whole_count rows)))
+          (read columns (length rows) aloud now (λ comes. k comes accepted) goes os rows t c (λ is. (proper is).values)
+          (record { titles = titles_of (header here columns); rows = [] }) (λ is. All-nil (All IsProper)) 0 (whole_count rows)))
           (λ f some.
           says now queue aloud (rested aloud (k (outcome.Failed f) accepted) (session.Skipping (types_shown columns) 0)) (outcome.Failed f) (λ is. tt)
           (rows_skip columns (length rows) aloud now (λ comes. k comes accepted) goes [] (outcome.Failed f) (λ is. tt) tt rows t c 0 (whole_count rows)))
 
-      one_reply : (queue : List Reply) (reply : Reply) (comes : outcomes.Outcome) → queue ≡ reply ∷ [] → hear session.Sent nothing_shown reply ≡ Got (Said (Some comes) session.Idle) → Fine comes → IsProperShown comes
+      one_reply : (queue : List Reply) (reply : Reply) (comes : outcomes.Outcome) → queue ≡ reply ∷ []
+          → hear session.Sent nothing_shown reply ≡ Got (Said (Some comes) session.Idle) → Fine comes → IsProperShown comes
           → Goes_on answering now queue
       one_reply queue reply comes e h p shown =
-          hears now queue aloud session.Sent nothing_shown (answered_on aloud trusted k) (rw (e, h) (says now [] aloud (k comes None session.Idle) comes p (onward comes None (told_none comes p shown))))
+          hears now queue aloud session.Sent nothing_shown (answered_on aloud trusted k)
+          (rw (e, h) (says now [] aloud (k comes None session.Idle) comes p (onward comes None (told_none comes p shown))))
 
       answer_awaits : (x : Result Answer SqlFault) → IfErr x IsPlainFault → IsAnswerOf any_cell x → BothAnswer (AnswersCorrespond (Related own_cell)) x x
           → (Proper → IsProperAnswer x) → Answers answering (answered here x now)
@@ -277,7 +287,8 @@ module _ (laws : LawsBelow) (Proper : Type 0) where
       types : All (λ (d : ParamDecl). IsType d.ty) (map declaration_of sent)
       values : All IsProperAtom atoms
 
-    step_awaits : (text : List ℕ) (sent : List SentParam) (meant : Meant) (atoms : List Atom) → understood here text (map declaration_of sent) ≡ Ok meant → suited meant.encs sent ≡ Ok atoms → (Proper → AreProperSent sent atoms)
+    step_awaits : (text : List ℕ) (sent : List SentParam) (meant : Meant) (atoms : List Atom)
+        → understood here text (map declaration_of sent) ≡ Ok meant → suited meant.encs sent ≡ Ok atoms → (Proper → AreProperSent sent atoms)
         → let done = transact state n (ask_of (execution meant.bound meant.encs atoms)) in
         Answers answering (answered here done.answer done.after)
     step_awaits text sent meant atoms u s sends =
@@ -298,7 +309,8 @@ module _ (laws : LawsBelow) (Proper : Type 0) where
         } in
         let admitted = laws.admitted b meant.encs bound.placed parts.infers in
         let values : AreValuesOf any_cell b.params meant.encs atoms = subst (λ tys. AreValuesOf any_cell tys meant.encs atoms) types owns.typed in
-        let pairs : RowsCorrespond (Related own_cell) (param_classes b.params meant.encs) atoms atoms = subst (λ tys. RowsCorrespond (Related own_cell) (param_classes tys meant.encs) atoms atoms) types owns.paired in
+        let pairs : RowsCorrespond (Related own_cell) (param_classes b.params meant.encs) atoms atoms = subst
+        (λ tys. RowsCorrespond (Related own_cell) (param_classes tys meant.encs) atoms atoms) types owns.paired in
         let e : Execution = record { bound = b; encs = meant.encs; params = atoms } in
         let may = may_ask any_cell (world_of state n).world b.statement e (record { bound = on; typed = admitted; values = values }) in
         let alike_asked = asks_alike (Related own_cell) b.statement e e (record { bound = refl; encs = refl; params = pairs }) in
@@ -307,7 +319,9 @@ module _ (laws : LawsBelow) (Proper : Type 0) where
         let done = transact state n (ask_of e) in
         let stays : Proper → Leaves IsProperStore done = λ is. stays_proper laws state n text declarations meant atoms (stands.proper is) (sends is).types (sends is).values u in
         let after : Stands done.after = record { own = record { typed = kept.0; paired = sim.stores }; proper = λ is. (stays is).state } in
-        answer_awaits done.after (λ comes accepted told. go comes accepted None done.after after (goes_by Proper state n e (store_begun any_cell state stands.own.typed)) none told) done.answer (transact_plain state n (ask_of e)) kept.1 sim.answers
+        answer_awaits done.after
+        (λ comes accepted told. go comes accepted None done.after after (goes_by Proper state n e (store_begun any_cell state stands.own.typed)) none told)
+        done.answer (transact_plain state n (ask_of e)) kept.1 sim.answers
         (λ is. (stays is).answer)
 
     -- what is sent suits what it means
@@ -318,7 +332,8 @@ module _ (laws : LawsBelow) (Proper : Type 0) where
       suits : suited meant.encs sent ≡ Ok atoms
       proper : AreProperSent sent atoms
 
-    suits_await : (text : List ℕ) (sent : List SentParam) (meant : Meant) → (Proper → IsSuited text sent) → understood here text (map declaration_of sent) ≡ Ok meant → (r : Result (List Atom) SqlFault) → suited meant.encs sent ≡ r
+    suits_await : (text : List ℕ) (sent : List SentParam) (meant : Meant) → (Proper → IsSuited text sent)
+        → understood here text (map declaration_of sent) ≡ Ok meant → (r : Result (List Atom) SqlFault) → suited meant.encs sent ≡ r
         → Answers answering (executed state n (r >>= λ atoms. Ok (meant, atoms)))
     suits_await text sent meant f u (Ok atoms) s = step_awaits text sent meant atoms u s (λ is. so (f is))
       where
@@ -375,7 +390,8 @@ module _ (laws : LawsBelow) (Proper : Type 0) where
 
     -- ---- a batch is described
 
-    module _ (batch : Batch) (params : HasParams batch) (proper : Proper → HasProperParams batch) (ready : Pending → Talk) (ready_awaits : (p : Pending) → HoldsBatch Proper here p → Goes_on (ready p) state []) where
+    module _ (batch : Batch) (params : HasParams batch) (proper : Proper → HasProperParams batch) (ready : Pending → Talk)
+        (ready_awaits : (p : Pending) → HoldsBatch Proper here p → Goes_on (ready p) state []) where
       readied_awaits : (d : Description) (encs : List (Option Enc)) → HoldsBatch Proper here (record { batch = batch; version = d.version; keys = d.keys; encs = encs }) → (o : Option (List ℕ))
           → let t = conversation.readied batch d encs o in
           Goes_on (described_on aloud ready k (Said (described_outcome t.answer) t.after)) state []

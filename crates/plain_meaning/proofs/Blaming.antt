@@ -56,7 +56,8 @@ clash_of : (comes : Outcome) (at : ℕ) → comes ≡ outcome.Refused (fault.Enc
 clash_of comes at e = rw e tt
 
 -- ROLLBACK has one
-rolls_back_means : (catalog : Catalog) → let m : Meant = record { bound = record { params = []; columns = []; statement = bound.Control control.Rollback }; encs = [] } in understood catalog rolls_back.text [] ≡ Ok m
+rolls_back_means : (catalog : Catalog)
+    → let m : Meant = record { bound = record { params = []; columns = []; statement = bound.Control control.Rollback }; encs = [] } in understood catalog rolls_back.text [] ≡ Ok m
 unfolding understood statement_in tree_of bind check_of inferred_encs least has_typing clash_behind rules encode
 rolls_back_means catalog = refl
 
@@ -147,7 +148,8 @@ module _ (keys : KeyMap) (trusted : List (List ℕ)) (number : ℕ) (old new : L
       (λ batch sends is_sent may t w next now.
       let c = run batch now in
       let comes = (w c.accepted (told_of c.comes) None c.state).comes in
-      let h : Blamed (move_behind sends batch now) c.state comes = next c.accepted (told_of c.comes) (record { types = λ is. absurd is; rows = λ is. absurd is; fine = any_told (told_of c.comes) }) c.state in
+      let h : Blamed (move_behind sends batch now) c.state comes = next c.accepted (told_of c.comes)
+      (record { types = λ is. absurd is; rows = λ is. absurd is; fine = any_told (told_of c.comes) }) c.state in
       subst (λ held. Blames sends batch now (w c.accepted (told_of c.comes) held c.state).comes) (sym (whole_holds_none keys trusted number batch now))
       (record { is_sent = is_sent; ends = ends_so sends c.accepted (told_of c.comes) c.state comes h; clash = clash_so sends batch now comes is_sent h }))
       state in

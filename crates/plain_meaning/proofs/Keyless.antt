@@ -78,14 +78,17 @@ definition_binds catalog (written.ReplaceTable old new) h =
     then_ok IsReplacement (table_for catalog old) _ (λ replaced. then_ok IsReplacement (table_for catalog new) _ (λ by. replacement_binds old new (bytes_eq old new)))
 definition_binds catalog d h = absurd h
 
-made_binds : (r : Result BoundDefinition SqlFault) (f : BoundDefinition → Bound) → ((d : BoundDefinition) → (f d).statement ≡ bound.Definition d) → IfOk r IsReplacement → BindsNoKey (r >>= λ d. Ok (f d))
+made_binds : (r : Result BoundDefinition SqlFault) (f : BoundDefinition → Bound)
+    → ((d : BoundDefinition) → (f d).statement ≡ bound.Definition d) → IfOk r IsReplacement → BindsNoKey (r >>= λ d. Ok (f d))
 made_binds (Ok d) f is h = let e = is d in rw e h
 made_binds (Err e) f is h = tt
 
 resolution_binds : (catalog : Catalog) (s : Statement) (ds : List ParamDecl) → WritesNoKey s → BindsNoKey (resolution catalog s ds)
-resolution_binds catalog (tree.Definition d) ds h = made_binds (bind_definition catalog d) (λ made. bound_over ds (new_sites made) (bound.Definition made)) (λ made. refl) (definition_binds catalog d h)
+resolution_binds catalog (tree.Definition d) ds h = made_binds (bind_definition catalog d)
+    (λ made. bound_over ds (new_sites made) (bound.Definition made)) (λ made. refl) (definition_binds catalog d h)
 resolution_binds catalog (tree.Insert table columns rows) ds h = then_ok IsKeyless (table_for catalog table) _ (λ def. then_ok IsKeyless (bind_insert ds def table columns rows) _ (λ i. tt))
-resolution_binds catalog (tree.Update table assignments filter) ds h = then_ok IsKeyless (table_for catalog table) _ (λ def. then_ok IsKeyless (bind_update ds def table assignments filter) _ (λ u. tt))
+resolution_binds catalog (tree.Update table assignments filter) ds h = then_ok IsKeyless (table_for catalog table)
+    _ (λ def. then_ok IsKeyless (bind_update ds def table assignments filter) _ (λ u. tt))
 resolution_binds catalog (tree.Delete table filter) ds h = then_ok IsKeyless (table_for catalog table) _ (λ def. then_ok IsKeyless (bind_delete ds def table filter) _ (λ d. tt))
 resolution_binds catalog (tree.Select query) ds h = then_ok IsKeyless (sources_for catalog query) _ (λ sources. then_ok IsKeyless (bind_query ds sources query) _ (λ q. tt))
 resolution_binds catalog (tree.Control control) ds h = tt
@@ -99,7 +102,8 @@ unfolding bind
 bound_so catalog s ds h = checked_binds (resolution catalog s ds) (resolution_binds catalog s ds h)
 
 -- what such a text means
-pub means_no_key : (catalog : Catalog) (text : List ℕ) (declarations : List ParamDecl) (meant : Meant) → TellsNoKey text → understood catalog text declarations ≡ Ok meant → KeepsKeys meant.bound.statement
+pub means_no_key : (catalog : Catalog) (text : List ℕ) (declarations : List ParamDecl) (meant : Meant)
+    → TellsNoKey text → understood catalog text declarations ≡ Ok meant → KeepsKeys meant.bound.statement
 means_no_key catalog text declarations meant tells e =
     let p = parts_of catalog text declarations meant e in
     let reads = p.reads in

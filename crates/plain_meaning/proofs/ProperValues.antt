@@ -61,7 +61,8 @@ module _ (the_one : ValueIsTheOne) where
   placed row at (Ok w) v e = let is : w ≡ v = cc in ap Ok is
   placed row at (Err why) v e = absurd cc
 
-  then_values : (first : Result Value DriverFault) (rest : Result (List Value) DriverFault) (values : List Value) → ((v : Value) → first ≡ Ok v → IsProper v) → ((more : List Value) → rest ≡ Ok more → All IsProper more)
+  then_values : (first : Result Value DriverFault) (rest : Result (List Value) DriverFault) (values : List Value)
+      → ((v : Value) → first ≡ Ok v → IsProper v) → ((more : List Value) → rest ≡ Ok more → All IsProper more)
       → (first >>= λ v. rest >>= λ more. Ok (v ∷ more)) ≡ Ok values → All IsProper values
   then_values (Err f) rest values h k e = absurd cc
   then_values (Ok v) (Err f) values h k e = absurd cc
@@ -70,7 +71,8 @@ module _ (the_one : ValueIsTheOne) where
   nothing_read : (values : List Value) → let r : Result (List Value) DriverFault = Ok [] in r ≡ Ok values → All IsProper values
   nothing_read values e = let is : [] ≡ values = cc in subst (All IsProper) is (All-nil IsProper)
 
-  pub read_values : (row at : ℕ) (columns : List ColumnType) (keys : List (Option Keys)) (atoms : List Atom) (values : List Value) → read_atoms row at columns keys atoms ≡ Ok values → All IsProperAtom atoms → All IsProper values
+  pub read_values : (row at : ℕ) (columns : List ColumnType) (keys : List (Option Keys)) (atoms : List Atom) (values : List Value)
+      → read_atoms row at columns keys atoms ≡ Ok values → All IsProperAtom atoms → All IsProper values
   read_values row at [] keys atoms values e h = nothing_read values e
   read_values row at (c ∷ cs) [] atoms values e h = nothing_read values e
   read_values row at (c ∷ cs) (k ∷ ks) [] values e h = nothing_read values e

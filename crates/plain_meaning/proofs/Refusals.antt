@@ -44,7 +44,28 @@ use Rattle.column_rotate.specs.Rotating.{fault_as, told_of}
 use Rattle.column_rotate.specs.declared.sent.Sent.{Sent}
 use Rattle.plain_meaning.specs.Clashes.{IsRunIn, IsSentIn, behind_one, first_of_all}
 use Rattle.plain_meaning.specs.PlainOutcomes.{IsPlainFailure}
-use Rattle.plain_meaning.specs.Batches.{Came, came, declarations_of, unopened_or, why_unopened, titled, shown, encs_shown, answered, stepped, executed_with, execution_of, pending, unless_open, readied, described, begun, begins, runs_whole, waits}
+use Rattle.plain_meaning.specs.Batches.{
+  Came,
+  came,
+  declarations_of,
+  unopened_or,
+  why_unopened,
+  titled,
+  shown,
+  encs_shown,
+  answered,
+  stepped,
+  executed_with,
+  execution_of,
+  pending,
+  unless_open,
+  readied,
+  described,
+  begun,
+  begins,
+  runs_whole,
+  waits,
+}
 use Rattle.plain_meaning.specs.Reference.{means}
 use Rattle.plain_meaning.specs.Rotations.{beginning}
 use Rattle.plain_meaning.proofs.Rotating.{IsFineTold, all_of_it}
@@ -75,8 +96,10 @@ opened_fails keys trusted m = values_fail keys m (filter (λ (value : KeyValue).
 unopened_fails : (keys : KeyMap) (trusted : List (List ℕ)) (metas : List KeyMeta) (encs : List Enc) → Fails (why_unopened keys trusted metas encs)
 unopened_fails keys trusted metas [] = tt
 unopened_fails keys trusted metas (enc.Plain ∷ encs) = unopened_fails keys trusted metas encs
-unopened_fails keys trusted metas (enc.Det id ∷ encs) = first_fails (open_trusted keys trusted (meta_of metas id)) (why_unopened keys trusted metas encs) (opened_fails keys trusted (meta_of metas id)) (unopened_fails keys trusted metas encs)
-unopened_fails keys trusted metas (enc.Rnd id ∷ encs) = first_fails (open_trusted keys trusted (meta_of metas id)) (why_unopened keys trusted metas encs) (opened_fails keys trusted (meta_of metas id)) (unopened_fails keys trusted metas encs)
+unopened_fails keys trusted metas (enc.Det id ∷ encs) = first_fails (open_trusted keys trusted (meta_of metas id))
+    (why_unopened keys trusted metas encs) (opened_fails keys trusted (meta_of metas id)) (unopened_fails keys trusted metas encs)
+unopened_fails keys trusted metas (enc.Rnd id ∷ encs) = first_fails (open_trusted keys trusted (meta_of metas id))
+    (why_unopened keys trusted metas encs) (opened_fails keys trusted (meta_of metas id)) (unopened_fails keys trusted metas encs)
 
 -- ---- a session that holds nothing holds nothing behind a whole batch
 
@@ -177,7 +200,8 @@ module _ (P : SqlFault → Type 0) (ordinary : (f : SqlFault) → IsOrdinaryFaul
     readied_within : (ready : Pending → Came) (p : Pending) → Within (ready p) → Within (readied state ready p)
     readied_within ready p h = unless_within (first_open p.batch.forced p.batch.params p.encs) (ready p) h
 
-    module _ (batch : Batch) (h : why_unfit batch ≡ None → Understood batch) (ready : Pending → Came) (ready_within : (d : Description) → why_unfit batch ≡ None → Within (ready (pending batch d))) where
+    module _ (batch : Batch) (h : why_unfit batch ≡ None → Understood batch) (ready : Pending → Came)
+        (ready_within : (d : Description) → why_unfit batch ≡ None → Within (ready (pending batch d))) where
       described_within : why_unfit batch ≡ None → (r : Result Meant SqlFault) → IfErr r P → Within (described state batch ready (r >>= λ meant. Ok (description here (declarations_of batch) meant)))
       described_within fit (Ok meant) k = ready_within (description here (declarations_of batch) meant) fit
       described_within fit (Err f) k = k
@@ -202,7 +226,8 @@ module _ (P : SqlFault → Type 0) (ordinary : (f : SqlFault) → IsOrdinaryFaul
         begins_within keys trusted state number batch h (readied state (execution_of keys trusted state number))
         (λ d fit. readied_within keys trusted state number (execution_of keys trusted state number) (pending batch d) (execution_within keys trusted state number (pending batch d) (h fit))) held
 
-    module _ (old new : List ℕ) (start : State) (h : (batch : Batch) (now : State) (sends : Sent) → IsSentIn keys trusted number old new start sends batch now → why_unfit batch ≡ None → UnderstoodIn now batch) where
+    module _ (old new : List ℕ) (start : State)
+        (h : (batch : Batch) (now : State) (sends : Sent) → IsSentIn keys trusted number old new start sends batch now → why_unfit batch ≡ None → UnderstoodIn now batch) where
       abbrev Fine : Fault → Type 0
       Fine f = IsWithin P (fault_as f)
 
@@ -243,7 +268,8 @@ module _ (P : SqlFault → Type 0) (ordinary : (f : SqlFault) → IsOrdinaryFaul
       → Within (means keys trusted number act held state)
   means_within keys trusted number (Whole batch) held state h = whole_within keys trusted number batch state (λ fit. h batch state (refl, refl)) held
   means_within keys trusted number (Half batch) held state h =
-      begins_within keys trusted state number batch (λ fit. h batch state (refl, refl)) (readied state (waits state)) (λ d fit. readied_within keys trusted state number (waits state) (pending batch d) tt) held
+      begins_within keys trusted state number batch (λ fit. h batch state (refl, refl)) (readied state (waits state))
+      (λ d fit. readied_within keys trusted state number (waits state) (pending batch d) tt) held
   means_within keys trusted number Execute (Some p) state h = execution_within keys trusted state number p (h p.batch state (refl, refl))
   means_within keys trusted number Execute None state h = tt
   means_within keys trusted number (Rotate old new) None state h = rotation_within keys trusted number old new state (λ batch now sends reached fit. h batch now (sends, reached, fit))

@@ -103,7 +103,8 @@ module _ (Proper : Type 0) where
   without_params : (batch : Batch) → batch.params ≡ [] → TellsNoKey batch.text → MayRun batch
   without_params batch none tells = record { params = rw none (omega arith, refl); proper = λ is. rw none (All-nil IsProperParam); keyless = tells }
 
-  may_put : (table : List ℕ) (columns : List SentColumn) (row : List Value) → length columns ≤ 64 → (Proper → All (λ (c : SentColumn). IsType c.ty) columns) → (Proper → All IsProper row) → MayRun (puts table columns row)
+  may_put : (table : List ℕ) (columns : List SentColumn) (row : List Value) → length columns ≤ 64
+      → (Proper → All (λ (c : SentColumn). IsType c.ty) columns) → (Proper → All IsProper row) → MayRun (puts table columns row)
   may_put table columns row few types values = record {
     params = (let l = params_long 1 columns row in omega (arith, l, few), names_differ 1 columns row (omega (arith, few)));
     proper = λ is. params_proper 1 columns row (types is) (values is);
@@ -158,10 +159,12 @@ module _ (trusted : List (List ℕ)) (number : ℕ) (old new : List ℕ) (k : ta
     (finishes : (count : ℕ) → Node (Finishes count) (λ after. k (outcome.Rotated count) after) (λ held state. came (outcome.Rotated count) held state))
     (fails : (f : Fault) → IsFine f → Node (Fails f) (λ after. k (fault_as f) after) (λ held state. came (fault_as f) held state))
     (runs : (batch : Batch) (sends : Sent) → IsSentAs sends batch → MayRun Proper batch → (t : Accepted → Outcome → Session → Talk) (w : Accepted → Outcome → Option Pending → State → Came)
-    → ((columns : Accepted) (comes : Outcome) → IsTold Proper IsFine columns comes → Node (move_of old new sends columns comes) (λ after. t columns comes after) (λ held state. w columns comes held state))
+    → ((columns : Accepted) (comes : Outcome) → IsTold Proper IsFine columns comes
+    → Node (move_of old new sends columns comes) (λ after. t columns comes after) (λ held state. w columns comes held state))
     → Node (Sends batch sends) (λ before. talks.runs trusted number old new k batch before t) (λ held state. plain.runs keys trusted number old new batch held state w)) where
   -- a refusal goes one way, anything else the other
-  goes : (sends : Sent) (tf : Fault → Session → Talk) (tk : Outcome → Session → Talk) (wf : Fault → Option Pending → State → Came) (wk : Outcome → Option Pending → State → Came) (columns : Accepted) (comes : Outcome)
+  goes : (sends : Sent) (tf : Fault → Session → Talk) (tk : Outcome → Session → Talk) (wf : Fault → Option Pending → State → Came)
+      (wk : Outcome → Option Pending → State → Came) (columns : Accepted) (comes : Outcome)
       → IsTold Proper IsFine columns comes
       → ((f : Fault) → IsFine f → Node (refused_move sends f) (λ after. tf f after) (λ held state. wf f held state))
       → Node (accepted_move old new sends columns (rows_told comes)) (λ after. tk comes after) (λ held state. wk comes held state)
@@ -191,47 +194,60 @@ module _ (trusted : List (List ℕ)) (number : ℕ) (old new : List ℕ) (k : ta
 
   rolls : (f : Fault) → IsFine f → Node (back f) (λ before. tb f before) (λ held state. wb f held state)
   rolls f h =
-      runs rolls_back (sent.RollBack f) refl (without_params Proper rolls_back refl rolls_back_tells) (λ columns comes after. tf f after) (λ columns comes held state. wf f held state) (λ columns comes t. failed_back f h columns comes)
+      runs rolls_back (sent.RollBack f) refl (without_params Proper rolls_back refl rolls_back_tells)
+      (λ columns comes after. tf f after) (λ columns comes held state. wf f held state) (λ columns comes t. failed_back f h columns comes)
 
-  commit : (all : ℕ) → Node (Sends commits (sent.Commit all)) (λ before. talks.committing trusted number old new k all before) (λ held state. plain.committing keys trusted number old new all held state)
+  commit : (all : ℕ)
+      → Node (Sends commits (sent.Commit all)) (λ before. talks.committing trusted number old new k all before) (λ held state. plain.committing keys trusted number old new all held state)
   commit all =
-      runs commits (sent.Commit all) tt (without_params Proper commits refl commits_tells) (λ columns. talks.unless_refused tf (λ comes after. k (outcome.Rotated all) after)) (λ columns. plain.unless_refused wf (λ comes held state. came (outcome.Rotated all) held state))
+      runs commits (sent.Commit all) tt (without_params Proper commits refl commits_tells)
+      (λ columns. talks.unless_refused tf (λ comes after. k (outcome.Rotated all) after)) (λ columns. plain.unless_refused wf (λ comes held state. came (outcome.Rotated all) held state))
       (λ columns comes t. goes (sent.Commit all) tf (λ comes after. k (outcome.Rotated all) after) wf (λ comes held state. came (outcome.Rotated all) held state) columns comes t fails (finishes all))
 
-  replace : (all : ℕ) → Node (Sends (replaces old new) (sent.Replace all)) (λ before. talks.replacing trusted number old new k all before) (λ held state. plain.replacing keys trusted number old new all held state)
+  replace : (all : ℕ)
+      → Node (Sends (replaces old new) (sent.Replace all)) (λ before. talks.replacing trusted number old new k all before) (λ held state. plain.replacing keys trusted number old new all held state)
   replace all =
       let tk : Outcome → Session → Talk = λ comes after. talks.committing trusted number old new k all after in
       let wk : Outcome → Option Pending → State → Came = λ comes held state. plain.committing keys trusted number old new all held state in
-      runs (replaces old new) (sent.Replace all) tt (without_params Proper (replaces old new) refl (replaces_tell old new)) (λ columns. talks.unless_refused tb tk) (λ columns. plain.unless_refused wb wk)
+      runs (replaces old new) (sent.Replace all) tt (without_params Proper (replaces old new) refl (replaces_tell old new))
+      (λ columns. talks.unless_refused tb tk) (λ columns. plain.unless_refused wb wk)
       (λ columns comes t. goes (sent.Replace all) tb tk wb wk columns comes t rolls (commit all))
 
   put_each : (columns : List SentColumn) (all : ℕ) (rows : List (List Value)) → length columns ≤ 64 → (Proper → All (λ (c : SentColumn). IsType c.ty) columns) → (Proper → AreProperValues rows)
-      → Node (putting old new columns all rows) (λ before. talks.putting_each trusted number old new k columns all rows before) (λ held state. plain.putting_each keys trusted number old new columns all rows held state)
+      → Node (putting old new columns all rows) (λ before. talks.putting_each trusted number old new k columns all rows before)
+      (λ held state. plain.putting_each keys trusted number old new columns all rows held state)
   put_each columns all [] few types values = replace all
   put_each columns all (row ∷ rows) few types values =
       let tk : Outcome → Session → Talk = λ comes after. talks.putting_each trusted number old new k columns all rows after in
       let wk : Outcome → Option Pending → State → Came = λ comes held state. plain.putting_each keys trusted number old new columns all rows held state in
       let rest = put_each columns all rows few types (λ is. All-tail (All IsProper) row rows (values is)) in
-      runs (puts new columns row) (sent.Put columns all rows) tt (may_put Proper new columns row few types (λ is. All-head (All IsProper) row rows (values is))) (λ others. talks.unless_refused tb tk) (λ others. plain.unless_refused wb wk)
+      runs (puts new columns row) (sent.Put columns all rows) tt
+      (may_put Proper new columns row few types (λ is. All-head (All IsProper) row rows (values is))) (λ others. talks.unless_refused tb tk) (λ others. plain.unless_refused wb wk)
       (λ others comes t. goes (sent.Put columns all rows) tb tk wb wk others comes t rolls rest)
 
   compare : (news : Accepted) (empty : Bool) (olds : Accepted) (rows : List (List Value)) → (Proper → AreTyped olds) → (Proper → AreProperValues rows)
-      → Node (compared old new news empty olds rows) (λ before. talks.comparing trusted number old new k news empty olds rows before) (λ held state. plain.comparing keys trusted number old new news empty olds rows held state)
+      → Node (compared old new news empty olds rows) (λ before. talks.comparing trusted number old new k news empty olds rows before)
+      (λ held state. plain.comparing keys trusted number old new news empty olds rows held state)
   compare news empty olds rows types values = by (are_alike olds news) refl (not empty)
     where
       by : (a : Bool) → are_alike olds news ≡ a → (b : Bool)
           → Node (if not a then back (OfDriver (NotAlike new)) else if b then back (OfDriver (NotEmpty new)) else putting old new (columns_in olds) (length rows) rows)
-          (λ before. if not a then tb (OfDriver (NotAlike new)) before else if b then tb (OfDriver (NotEmpty new)) before else talks.putting_each trusted number old new k (columns_in olds) (length rows) rows before)
-          (λ held state. if not a then wb (OfDriver (NotAlike new)) held state else if b then wb (OfDriver (NotEmpty new)) held state else plain.putting_each keys trusted number old new (columns_in olds) (length rows) rows held state)
+          (λ before. if not a then tb (OfDriver (NotAlike new)) before else if b then tb (OfDriver (NotEmpty new))
+          before else talks.putting_each trusted number old new k (columns_in olds) (length rows) rows before)
+          (λ held state. if not a then wb (OfDriver (NotAlike new)) held state else if b then wb (OfDriver (NotEmpty new))
+          held state else plain.putting_each keys trusted number old new (columns_in olds) (length rows) rows held state)
       by false e b = rolls (OfDriver (NotAlike new)) not_alike
       by true e true = rolls (OfDriver (NotEmpty new)) not_empty
       by true e false = put_each (columns_in olds) (length rows) rows (few_in olds news e) (λ is. types_in olds (types is)) values
 
-  read_old : (news : Accepted) (empty : Bool) → Node (Sends (reads_all old) (sent.ReadOld news empty)) (λ before. talks.reading_old trusted number old new k news empty before) (λ held state. plain.reading_old keys trusted number old new news empty held state)
+  read_old : (news : Accepted) (empty : Bool)
+      → Node (Sends (reads_all old) (sent.ReadOld news empty)) (λ before. talks.reading_old trusted number old new k news empty before)
+      (λ held state. plain.reading_old keys trusted number old new news empty held state)
   read_old news empty =
       let tk : Accepted → Outcome → Session → Talk = λ olds comes after. talks.comparing trusted number old new k news empty olds (rows_told comes) after in
       let wk : Accepted → Outcome → Option Pending → State → Came = λ olds comes held state. plain.comparing keys trusted number old new news empty olds (rows_told comes) held state in
-      runs (reads_all old) (sent.ReadOld news empty) tt (without_params Proper (reads_all old) refl (reads_tell old)) (λ olds. talks.unless_refused tb (tk olds)) (λ olds. plain.unless_refused wb (wk olds))
+      runs (reads_all old) (sent.ReadOld news empty) tt (without_params Proper (reads_all old) refl (reads_tell old))
+      (λ olds. talks.unless_refused tb (tk olds)) (λ olds. plain.unless_refused wb (wk olds))
       (λ olds comes t. goes (sent.ReadOld news empty) tb (tk olds) wb (wk olds) olds comes t rolls (compare news empty olds (rows_told comes) t.types t.rows))
 
   read_new : Node (Sends (reads_all new) sent.ReadNew) (λ before. talks.reading_new trusted number old new k before) (λ held state. plain.reading_new keys trusted number old new held state)

@@ -37,7 +37,24 @@ use Rattle.plain_meaning.specs.Batches.{Came, came, declarations_of, runs_whole,
 use Rattle.plain_meaning.specs.Rotations as plain
 use Rattle.plain_meaning.specs.Reference.{means, nothing_held, held_at, with_held, reference}
 use Rattle.plain_meaning.proofs.Agreement.{GoesOn, IsMeant, begins_agrees, executing_agrees, printed, prints, running_agrees}
-use Rattle.plain_meaning.proofs.Between.{StandsFor, Always, HoldsIn, AllHold, Goes, seen_fits, all_go, hold_place, all_held, empty_stands, goes_then, stays_so, resting, all_resting, at_resting, set_resting}
+use Rattle.plain_meaning.proofs.Between.{
+  StandsFor,
+  Always,
+  HoldsIn,
+  AllHold,
+  Goes,
+  seen_fits,
+  all_go,
+  hold_place,
+  all_held,
+  empty_stands,
+  goes_then,
+  stays_so,
+  resting,
+  all_resting,
+  at_resting,
+  set_resting,
+}
 use Rattle.plain_meaning.proofs.Keyless.{fits_behind, means_no_key}
 use Rattle.plain_meaning.proofs.Rotating.{Any, IsSentAs, IsTold, MayRun, all_of_it, any_told, rows_of_shown}
 use Rattle.plain_meaning.proofs.Sound.{ComesTo, IsProperHeld, IsSound, Leaves, asked_by, empty_is_sound, execution_comes, half_comes, stays_sound, whole_comes}
@@ -130,7 +147,8 @@ module _ (laws : LawsBelow) (keys : KeyMap) (trusted : List (List ℕ)) (key_for
       holds : let c = w columns (told_of comes) after state in Holding c.held c.state
 
     runs_agree : (batch : Batch) (sends : Sent) → IsSentAs sends batch → MayRun Always batch → (t : Accepted → Outcome → Session → Talk) (w : Accepted → Outcome → Option Pending → State → Came)
-        → ((columns : Accepted) (comes : Outcome) → IsTold Always Any columns comes → Agree (move_of old new sends columns comes) (λ after. t columns comes after) (λ held state. w columns comes held state))
+        → ((columns : Accepted) (comes : Outcome) → IsTold Always Any columns comes
+        → Agree (move_of old new sends columns comes) (λ after. t columns comes after) (λ held state. w columns comes held state))
         → Agree (Sends batch sends) (λ before. talks.runs trusted n old new ends batch before t) (λ held state. plain.runs keys trusted n old new batch held state w)
     runs_agree batch sends is_sent may t w next held now beside st goes none well h =
         let c = runs_whole keys trusted n batch held beside in
@@ -144,7 +162,8 @@ module _ (laws : LawsBelow) (keys : KeyMap) (trusted : List (List ℕ)) (key_for
         batch may.params (may.proper tt) held (subst (λ held. HoldsIn Always now.shared (transaction_at now n) held) (sym none) tt) behind
 
     -- over the server the rotation comes to what it means over plain values
-    rotation_agrees : (beside : State) → StandsFor keys key_for start beside → Goes Always start n start None → IsWell beside → (let c = plain.beginning keys trusted n old new None beside in Holding c.held c.state)
+    rotation_agrees : (beside : State) → StandsFor keys key_for start beside → Goes Always start n start None
+        → IsWell beside → (let c = plain.beginning keys trusted n old new None beside in Holding c.held c.state)
         → IsMeant laws keys trusted key_for start [] (talks.beginning trusted n old new ends session.Idle) (let c = plain.beginning keys trusted n old new None beside in c.comes ∷ rest c.held c.state)
     rotation_agrees beside st goes well h =
         all_of_it trusted n old new ends keys Always Any tt tt Agree (λ count. ends_agree (outcome.Rotated count) (Finishes count)) (λ f any. ends_agree (fault_as f) (Fails f)) runs_agree
@@ -152,15 +171,19 @@ module _ (laws : LawsBelow) (keys : KeyMap) (trusted : List (List ℕ)) (key_for
 
   -- ---- a turn, whatever its outcome was
 
-  turn_agrees : (number : ℕ) (act : Act) (state plainly : State) (well : IsWell plainly) (fits : Fits keys key_for (catalog_of state number)) (st : StandsFor keys key_for state plainly) (k : Session → Talk) (rest : Option Pending → State → List outcomes.Outcome)
+  turn_agrees : (number : ℕ) (act : Act) (state plainly : State) (well : IsWell plainly)
+      (fits : Fits keys key_for (catalog_of state number)) (st : StandsFor keys key_for state plainly) (k : Session → Talk) (rest : Option Pending → State → List outcomes.Outcome)
       (Holding : Option Pending → State → Type 0) (go : GoesOn laws keys trusted key_for state number (after_all k) (λ comes columns. rest) (λ comes columns. Holding))
       → OfBatch HasParams act → OfBatch HasProperParams act → (before : Option Pending) → HoldsIn Always state.shared (transaction_at state number) before
-      → let c = means keys trusted number act before plainly in Holding c.held c.state → IsMeant laws keys trusted key_for state [] (turn trusted number act (resting before) k) (c.comes ∷ rest c.held c.state)
+      → let c = means keys trusted number act before plainly in Holding c.held c.state
+      → IsMeant laws keys trusted key_for state [] (turn trusted number act (resting before) k) (c.comes ∷ rest c.held c.state)
   turn_agrees number (acts.Whole batch) state plainly well fits st k rest Holding go within proper before h =
       running_agrees laws keys trusted key_for state plainly number fits st true (after_all k) (λ comes columns. rest) (λ comes columns. Holding) go batch within proper before h
   turn_agrees number (acts.Half batch) state plainly well fits st k rest Holding go within proper before h =
-      begins_agrees laws keys trusted key_for state plainly number fits st true (after_all k) (λ comes columns. rest) (λ comes columns. Holding) go batch within proper (λ p. Prints (outcome.Described (described_params p.keys (uses_of p))) (k (session.Pending p))) (waits plainly)
-      (λ p held v. prints laws keys trusted key_for state plainly number fits st true (after_all k) (λ comes columns. rest) (λ comes columns. Holding) go (outcome.Described (described_params p.keys (uses_of p))) (Some p) held) before h
+      begins_agrees laws keys trusted key_for state plainly number fits st true (after_all k) (λ comes columns. rest)
+      (λ comes columns. Holding) go batch within proper (λ p. Prints (outcome.Described (described_params p.keys (uses_of p))) (k (session.Pending p))) (waits plainly)
+      (λ p held v. prints laws keys trusted key_for state plainly number fits st true (after_all k)
+      (λ comes columns. rest) (λ comes columns. Holding) go (outcome.Described (described_params p.keys (uses_of p))) (Some p) held) before h
   turn_agrees number acts.Execute state plainly well fits st k rest Holding go within proper (Some p) h =
       executing_agrees laws keys trusted key_for state plainly number fits st true (after_all k) (λ comes columns. rest) (λ comes columns. Holding) go p h
   turn_agrees number acts.Execute state plainly well fits st k rest Holding go within proper None h =
@@ -188,7 +211,8 @@ module _ (laws : LawsBelow) (keys : KeyMap) (key_for : ℕ → List ℕ) where
       → IsMeant laws keys trusted key_for state [] (talk steps trusted (all_resting holds)) (reference keys steps trusted holds plainly)
   talk_agrees [] within proper trusted holds state plainly st h sound proper_held f = λ taken left a. refl
   talk_agrees (steps_of.Trust path ∷ steps) within proper trusted holds state plainly st h sound proper_held f =
-      talk_agrees steps (All-tail IsWithinLimits (steps_of.Trust path) steps within) (All-tail IsProperStep (steps_of.Trust path) steps proper) (trusted ++ path ∷ []) holds state plainly st h sound proper_held f
+      talk_agrees steps (All-tail IsWithinLimits (steps_of.Trust path) steps within)
+      (All-tail IsProperStep (steps_of.Trust path) steps proper) (trusted ++ path ∷ []) holds state plainly st h sound proper_held f
   talk_agrees (steps_of.Turn number act ∷ steps) within proper trusted holds state plainly st h sound proper_held f =
       let step = steps_of.Turn number act in
       let onward : Session → Talk = λ after. talk steps trusted (with_session (all_resting holds) number after) in
@@ -197,9 +221,12 @@ module _ (laws : LawsBelow) (keys : KeyMap) (key_for : ℕ → List ℕ) where
       let proper_act : OfBatch HasProperParams act = (All-head IsProperStep step steps proper).0 in
       let after_sound = means_sound laws keys trusted number act (held_at holds number) plainly proper_act sound (held_proper holds number proper_held) in
       let fits = seen_fits keys key_for state plainly number (subst (Fits keys key_for) st.stores.shared.worlds.catalog f.0) st in
-      subst (λ before. IsMeant laws keys trusted key_for state [] (turn trusted number act before onward) (let c = means keys trusted number act (held_at holds number) plainly in c.comes ∷ rest c.held c.state)) (sym (at_resting holds (number - 1)))
-      (turn_agrees laws keys trusted key_for number act state plainly (record { sound = sound; fits = f.0 }) fits st onward rest (λ after now. IsSound now × IsProperHeld after × FitThroughout keys key_for steps trusted (with_held holds number after) now)
-      (λ comes columns after now beside stands goes further. subst (λ sessions. IsMeant laws keys trusted key_for now [] (talk steps trusted sessions) (rest after beside)) (sym (set_resting holds (number - 1) after))
+      subst (λ before. IsMeant laws keys trusted key_for state [] (turn trusted number act before onward)
+      (let c = means keys trusted number act (held_at holds number) plainly in c.comes ∷ rest c.held c.state)) (sym (at_resting holds (number - 1)))
+      (turn_agrees laws keys trusted key_for number act state plainly (record { sound = sound; fits = f.0 })
+      fits st onward rest (λ after now. IsSound now × IsProperHeld after × FitThroughout keys key_for steps trusted (with_held holds number after) now)
+      (λ comes columns after now beside stands goes further. subst
+      (λ sessions. IsMeant laws keys trusted key_for now [] (talk steps trusted sessions) (rest after beside)) (sym (set_resting holds (number - 1) after))
       (talk_agrees steps (All-tail IsWithinLimits step steps within) (All-tail IsProperStep step steps proper) trusted (with_held holds number after) now beside stands
       (all_go Always state now number holds after goes h) further.0 (set_proper holds number after proper_held further.1) further.2))
       (All-head IsWithinLimits step steps within).1 proper_act (held_at holds number) (hold_place Always state number holds h) (after_sound.0, after_sound.1, f.1))
@@ -208,4 +235,5 @@ module _ (laws : LawsBelow) (keys : KeyMap) (key_for : ℕ → List ℕ) where
 
 pub served_is_plain : LawsBelow → ServedIsPlain
 served_is_plain laws keys steps within proper alike entropy bytes =
-    talk_agrees laws keys alike.0 steps within proper [] nothing_held empty_state empty_state (empty_stands keys alike.0 laws.catalogs) (all_held Always) empty_is_sound (none_held 64) alike.1 0 entropy bytes
+    talk_agrees laws keys alike.0 steps within proper [] nothing_held empty_state empty_state
+    (empty_stands keys alike.0 laws.catalogs) (all_held Always) empty_is_sound (none_held 64) alike.1 0 entropy bytes

@@ -108,7 +108,8 @@ pub record Leaves (W : State → Type 0) (done : Transacted) : Type 0 where
   pub answer : IsProperAnswer done.answer
 
 -- what a text means is asked with proper values
-pub stays_proper : LawsBelow → (state : State) (n : ℕ) (text : List ℕ) (declarations : List ParamDecl) (meant : Meant) (atoms : List Atom) → IsProperStore state → All (λ (d : ParamDecl). IsType d.ty) declarations
+pub stays_proper : LawsBelow → (state : State) (n : ℕ) (text : List ℕ) (declarations : List ParamDecl) (meant : Meant) (atoms : List Atom)
+    → IsProperStore state → All (λ (d : ParamDecl). IsType d.ty) declarations
     → All IsProperAtom atoms → understood (catalog_of state n) text declarations ≡ Ok meant → Leaves IsProperStore (transact state n (ask_of (execution meant.bound meant.encs atoms)))
 stays_proper laws state n text declarations meant atoms h typed values u =
     let e = execution meant.bound meant.encs atoms in
@@ -120,11 +121,13 @@ stays_proper laws state n text declarations meant atoms h typed values u =
 abbrev pub asked_by : Batch → Meant → Execution
 asked_by batch meant = execution meant.bound meant.encs (map (λ p. plain_atom p.value) batch.params)
 
-pub stays_sound : LawsBelow → (state : State) (n : ℕ) (batch : Batch) (meant : Meant) → IsSound state → HasProperParams batch → understood (catalog_of state n) batch.text (declarations_of batch) ≡ Ok meant
+pub stays_sound : LawsBelow → (state : State) (n : ℕ) (batch : Batch) (meant : Meant) → IsSound state
+    → HasProperParams batch → understood (catalog_of state n) batch.text (declarations_of batch) ≡ Ok meant
     → Leaves IsSound (transact state n (ask_of (asked_by batch meant)))
 stays_sound laws state n batch meant h proper u =
     let e = asked_by batch meant in
-    let s = stays_proper laws state n batch.text (declarations_of batch) meant (map (λ p. plain_atom p.value) batch.params) h.proper (params_typed batch.params proper) (params_plain batch.params proper) u in
+    let s = stays_proper laws state n batch.text (declarations_of batch) meant (map (λ p. plain_atom p.value) batch.params)
+    h.proper (params_typed batch.params proper) (params_plain batch.params proper) u in
     record { state = record { proper = s.state; begun = transact_begun state n (ask_of e) h.begun }; answer = s.answer }
 
 -- ---- a batch
@@ -147,7 +150,8 @@ sent_types columns h = All-map (λ (c : SentColumn). IsType c.ty) sent_column co
 rows_proper : (rows : List (List Atom)) → All (All IsProperAtom) rows → AreProperValues (map (map plain.value_of) rows)
 rows_proper rows h =
     All-map (All IsProper) (map plain.value_of) rows
-    (All-weaker (All IsProperAtom) (λ row. All IsProper (map plain.value_of row)) (λ row k. All-map IsProper plain.value_of row (All-weaker IsProperAtom (λ a. IsProper (plain.value_of a)) proper_value row k)) rows h)
+    (All-weaker (All IsProperAtom) (λ row. All IsProper (map plain.value_of row))
+    (λ row k. All-map IsProper plain.value_of row (All-weaker IsProperAtom (λ a. IsProper (plain.value_of a)) proper_value row k)) rows h)
 
 shown_proper : (listing : Listing) (o : Option DriverFault) → AreProperValues listing.rows → IsProperShown (plain.shown listing o)
 shown_proper listing None h = h
@@ -172,7 +176,8 @@ module _ (keys : KeyMap) (trusted : List (List ℕ)) (n : ℕ) (W : State → Ty
     failed_comes f held k = record { state = h; held = k; types = tt; shown = tt }
 
     -- where its statement leaves such a state
-    module _ (batch : Batch) (leaves : (meant : Meant) → understood (catalog_of state n) batch.text (declarations_of batch) ≡ Ok meant → Leaves W (transact state n (ask_of (asked_by batch meant)))) where
+    module _ (batch : Batch)
+        (leaves : (meant : Meant) → understood (catalog_of state n) batch.text (declarations_of batch) ≡ Ok meant → Leaves W (transact state n (ask_of (asked_by batch meant)))) where
       stepped_comes : (r : Result Meant SqlFault) → understood (catalog_of state n) batch.text (declarations_of batch) ≡ r → Comes (plain.stepped keys trusted state n batch r)
       stepped_comes (Ok meant) e =
           let l = leaves meant e in
@@ -198,7 +203,8 @@ module _ (keys : KeyMap) (trusted : List (List ℕ)) (n : ℕ) (W : State → Ty
       unless_comes (Some name) c k = failed_comes _ None none
       unless_comes None c k = k
 
-      described_comes : (r : Result Meant SqlFault) → Comes (plain.described state batch (plain.readied state ready) (r >>= λ meant. Ok (description (catalog_of state n) (declarations_of batch) meant)))
+      described_comes : (r : Result Meant SqlFault)
+          → Comes (plain.described state batch (plain.readied state ready) (r >>= λ meant. Ok (description (catalog_of state n) (declarations_of batch) meant)))
       described_comes (Ok meant) =
           let p = plain.pending batch (description (catalog_of state n) (declarations_of batch) meant) in
           unless_comes (first_open batch.forced batch.params p.encs) (ready p) (go p refl)

@@ -100,7 +100,8 @@ module _ (laws : LawsBelow) where
   keys_told keys key_for here fits p d = subst (OpenAs keys key_for) (sym d.metas) (told_here keys key_for here fits (encs_alone d.meant))
 
   -- a batch that is described as its statement is understood
-  pub is_held : (Proper : Type 0) (here : Catalog) (batch : Batch) → HasParams batch → (Proper → HasProperParams batch) → why_unfit batch ≡ None → (meant : Meant) → understood here batch.text (declarations_of batch) ≡ Ok meant
+  pub is_held : (Proper : Type 0) (here : Catalog) (batch : Batch) → HasParams batch → (Proper → HasProperParams batch)
+      → why_unfit batch ≡ None → (meant : Meant) → understood here batch.text (declarations_of batch) ≡ Ok meant
       → (encs_of batch.params (description here (declarations_of batch) meant).params ≡ Some (told_among (is_used meant.bound) 0 meant.encs))
       × HoldsBatch Proper here (record { batch = batch; version = here.version; keys = (description here (declarations_of batch) meant).keys; encs = told_among (is_used meant.bound) 0 meant.encs })
   is_held Proper here batch params proper fit meant e =

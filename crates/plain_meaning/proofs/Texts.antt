@@ -105,7 +105,8 @@ insert_reads ts = whole_so (parse.body (insert_token ∷ ts)) (made_so make.inse
 insert_tells : (rest : List ℕ) → TellsNoKey (codes "INSERT INTO " ++ rest)
 unfolding statement_in encode
 insert_tells rest =
-    begins_so (λ ts. insert_token ∷ ts) insert_reads (nat_lt most_statement_bytes (length (codes "INSERT INTO " ++ encode_utf8_all rest))) (tokens_from 1 5 (codes "NSERT INTO " ++ encode_utf8_all rest))
+    begins_so (λ ts. insert_token ∷ ts) insert_reads (nat_lt most_statement_bytes (length (codes "INSERT INTO " ++ encode_utf8_all rest)))
+    (tokens_from 1 5 (codes "NSERT INTO " ++ encode_utf8_all rest))
 
 pub puts_tell : (table : List ℕ) (columns : List SentColumn) → TellsNoKey (insert_text table columns)
 puts_tell table columns = insert_tells (in_brackets table ++ codes " (" ++ names columns ++ codes ") VALUES (" ++ placeholders columns ++ codes ")")
@@ -118,7 +119,9 @@ select_token = record { at = 0; lexeme = lexeme.Keyword keyword.Select }
 -- what stands behind SELECT
 abbrev behind_select : Reading (Option ℕ × (Option ℕ × (Items × make.Tail)))
 behind_select =
-    made make.behind (both (parse.word keyword.Select) (both (optional (terminal.Word keyword.Distinct ∷ []) (parse.word keyword.Distinct)) (both (optional (terminal.Word keyword.Top ∷ []) parse.top) (both parse.items parse.tail))))
+    made make.behind
+    (both (parse.word keyword.Select)
+    (both (optional (terminal.Word keyword.Distinct ∷ []) (parse.word keyword.Distinct)) (both (optional (terminal.Word keyword.Top ∷ []) parse.top) (both parse.items parse.tail))))
 
 select_so : (q : Query) (b : Bool) → IfSome (if b then Some (tree.Select q) else None) WritesNoKey
 select_so q true = tt
@@ -133,7 +136,8 @@ select_reads ts =
 select_tells : (rest : List ℕ) → TellsNoKey (codes "SELECT * FROM " ++ rest)
 unfolding statement_in encode
 select_tells rest =
-    begins_so (λ ts. select_token ∷ ts) select_reads (nat_lt most_statement_bytes (length (codes "SELECT * FROM " ++ encode_utf8_all rest))) (tokens_from 1 5 (codes "ELECT * FROM " ++ encode_utf8_all rest))
+    begins_so (λ ts. select_token ∷ ts) select_reads (nat_lt most_statement_bytes (length (codes "SELECT * FROM " ++ encode_utf8_all rest)))
+    (tokens_from 1 5 (codes "ELECT * FROM " ++ encode_utf8_all rest))
 
 pub reads_tell : (table : List ℕ) → TellsNoKey (reads_all table).text
 reads_tell table = select_tells (in_brackets table)

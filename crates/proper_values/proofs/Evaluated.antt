@@ -1,5 +1,36 @@
 -- What is computed of proper values is proper.
-use Rattle.std.proofs.Common.{◌≡◌, ◌≤◌, ℕ, ℤ, zero, suc, ◌+◌, pos, negsuc, ◌&&◌, List, [], ◌∷◌, refl, sym, subst, arith, Option, Some, None, Result, Ok, Err, Bool, true, false, cond, FitsSigned, w64, unwrap_or}
+use Rattle.std.proofs.Common.{
+  ◌≡◌,
+  ◌≤◌,
+  ℕ,
+  ℤ,
+  zero,
+  suc,
+  ◌+◌,
+  pos,
+  negsuc,
+  ◌&&◌,
+  List,
+  [],
+  ◌∷◌,
+  refl,
+  sym,
+  subst,
+  arith,
+  Option,
+  Some,
+  None,
+  Result,
+  Ok,
+  Err,
+  Bool,
+  true,
+  false,
+  cond,
+  FitsSigned,
+  w64,
+  unwrap_or,
+}
 use Rattle.std.specs.Prelude.{◌+ℤ◌, ◌-ℤ◌, neg_ℤ, ◌==◌, int_le, IfSome}
 use Rattle.std.specs.List.{All, find}
 use Rattle.std.specs.Option.{option_map}

@@ -17,7 +17,21 @@ use Rattle.ae_base.specs.declared.values.Value.{Value}
 use Rattle.ae_base.specs.declared.values.Value.TheVariants as value
 use Rattle.sql_tree.specs.Literals.{literal_type}
 use Rattle.sql_tree.specs.Operands as operands
-use Rattle.sql_tree.specs.Bound.{BoundOperand, BoundCondition, BoundRow, BoundInsert, BoundAssignment, BoundUpdate, BoundDelete, BoundJoin, BoundItemValue, BoundItem, BoundQuery, BoundStatement, Bound}
+use Rattle.sql_tree.specs.Bound.{
+  BoundOperand,
+  BoundCondition,
+  BoundRow,
+  BoundInsert,
+  BoundAssignment,
+  BoundUpdate,
+  BoundDelete,
+  BoundJoin,
+  BoundItemValue,
+  BoundItem,
+  BoundQuery,
+  BoundStatement,
+  Bound,
+}
 use Rattle.sql_tree.specs.Bound as bound
 use Rattle.sql_tree.specs.declared.bound.BoundDefinition.{BoundDefinition}
 use Rattle.sql_tree.specs.declared.bound.ColumnSite.{ColumnSite}

@@ -13,7 +13,29 @@ use Rattle.engine.specs.Step as step
 use Rattle.engine.specs.Step.{Answer}
 use Rattle.engine.specs.Worlds.{World, place_of, rows_of}
 use Rattle.transactions.specs.Counted.{Counted, CountedOutcome, Execution, changed_by, counts_behind, is_at_last_count, counted, counted_step, raised, raised_at, raised_all, alone}
-use Rattle.transactions.specs.Stores.{Transaction, Store, Ask, Begins, Commits, RollsBack, Executes, Transacted, begun_over, transaction_at, with_transaction, is_used, stepped_in, why_not, merged, over, taken_over, committed, executed_in, transacted, transact}
+use Rattle.transactions.specs.Stores.{
+  Transaction,
+  Store,
+  Ask,
+  Begins,
+  Commits,
+  RollsBack,
+  Executes,
+  Transacted,
+  begun_over,
+  transaction_at,
+  with_transaction,
+  is_used,
+  stepped_in,
+  why_not,
+  merged,
+  over,
+  taken_over,
+  committed,
+  executed_in,
+  transacted,
+  transact,
+}
 use Rattle.transactions.proofs.Interface.{all_at, all_set}
 use Rattle.proper_values.specs.Proper.{AreProperRows, IsProperWorld, IsProperExecution, IsProperAsk, IsProperAnswer}
 use Rattle.proper_values.specs.Laws.{ProperValuesStay}

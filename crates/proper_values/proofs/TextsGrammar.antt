@@ -1,5 +1,40 @@
 -- What the grammar makes of proper tokens is proper.
-use Rattle.std.proofs.Common.{◌≡◌, ◌≢◌, ℕ, zero, suc, ◌≤◌, Bool, true, false, ◌&&◌, cond, List, [], ◌∷◌, ◌++◌, length, Option, Some, None, inl, inr, refl, ap, subst, arith, nat_lt, nat_le, ◌==◌, codes, leb-true, ltb-false, pos, FitsSigned, w64}
+use Rattle.std.proofs.Common.{
+  ◌≡◌,
+  ◌≢◌,
+  ℕ,
+  zero,
+  suc,
+  ◌≤◌,
+  Bool,
+  true,
+  false,
+  ◌&&◌,
+  cond,
+  List,
+  [],
+  ◌∷◌,
+  ◌++◌,
+  length,
+  Option,
+  Some,
+  None,
+  inl,
+  inr,
+  refl,
+  ap,
+  subst,
+  arith,
+  nat_lt,
+  nat_le,
+  ◌==◌,
+  codes,
+  leb-true,
+  ltb-false,
+  pos,
+  FitsSigned,
+  w64,
+}
 use Rattle.std.specs.Prelude.{IfSome}
 use Rattle.std.specs.List.{All}
 use Rattle.std.proofs.lemmas.Bool.{and_parts, eqb-false}
@@ -30,7 +65,50 @@ use Rattle.sql_tree.specs.Statements as tree
 use Rattle.sql_tree.specs.Tokens.{wide}
 use Rattle.sql_grammar.specs.declared.parts.TablePart.{TablePart}
 use Rattle.sql_grammar.specs.declared.parts.TablePart.TheVariants as part
-use Rattle.sql_grammar.specs.Grammar.{Word, Sign, Name, Number, InParens, Listed, Nowhere, SpellsColumnRef, SpellsColumnOrLeaf, SpellsPrimary, SpellsSigned, SpellsSum, SpellsOperandIn, SpellsOperand, SpellsType, SpellsEncryption, SpellsNullity, SpellsColumn, SpellsUnique, SpellsPart, SpellsParts, SpellsCreateTable, SpellsCreate, SpellsAlter, SpellsDrop, SpellsRow, SpellsInsert, SpellsFilter, SpellsAssignment, SpellsUpdate, SpellsDelete, SpellsAlias, SpellsItemValue, SpellsItem, SpellsItems, SpellsTop, SpellsTail, SpellsSelect, SpellsControl, SpellsBody, Spells, Reads}
+use Rattle.sql_grammar.specs.Grammar.{
+  Word,
+  Sign,
+  Name,
+  Number,
+  InParens,
+  Listed,
+  Nowhere,
+  SpellsColumnRef,
+  SpellsColumnOrLeaf,
+  SpellsPrimary,
+  SpellsSigned,
+  SpellsSum,
+  SpellsOperandIn,
+  SpellsOperand,
+  SpellsType,
+  SpellsEncryption,
+  SpellsNullity,
+  SpellsColumn,
+  SpellsUnique,
+  SpellsPart,
+  SpellsParts,
+  SpellsCreateTable,
+  SpellsCreate,
+  SpellsAlter,
+  SpellsDrop,
+  SpellsRow,
+  SpellsInsert,
+  SpellsFilter,
+  SpellsAssignment,
+  SpellsUpdate,
+  SpellsDelete,
+  SpellsAlias,
+  SpellsItemValue,
+  SpellsItem,
+  SpellsItems,
+  SpellsTop,
+  SpellsTail,
+  SpellsSelect,
+  SpellsControl,
+  SpellsBody,
+  Spells,
+  Reads,
+}
 use Rattle.sql_grammar.specs.Spelling.{Spelling, One, Both, Made, Either, Optional, Many}
 use Rattle.sql_grammar.specs.Readers.{is_keyword}
 use Rattle.sql_grammar.specs.Making as make

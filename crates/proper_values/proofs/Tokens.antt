@@ -1,5 +1,43 @@
 -- The tokens of a text are proper: their texts and names are Unicode scalar values, their binaries bytes, and a name has 1 to 128 characters.
-use Rattle.std.proofs.Common.{◌≡◌, ℕ, zero, suc, ◌+◌, ◌-◌, ◌*◌, ◌%◌, ◌==◌, ◌<◌, ◌&&◌, ◌||◌, Bool, true, false, cond, List, [], ◌∷◌, length, drop, slice_index, Option, Some, None, Result, Ok, Err, refl, sym, ap, subst, arith, nat_lt, nat_le, ltb-true, leb-true}
+use Rattle.std.proofs.Common.{
+  ◌≡◌,
+  ℕ,
+  zero,
+  suc,
+  ◌+◌,
+  ◌-◌,
+  ◌*◌,
+  ◌%◌,
+  ◌==◌,
+  ◌<◌,
+  ◌&&◌,
+  ◌||◌,
+  Bool,
+  true,
+  false,
+  cond,
+  List,
+  [],
+  ◌∷◌,
+  length,
+  drop,
+  slice_index,
+  Option,
+  Some,
+  None,
+  Result,
+  Ok,
+  Err,
+  refl,
+  sym,
+  ap,
+  subst,
+  arith,
+  nat_lt,
+  nat_le,
+  ltb-true,
+  leb-true,
+}
 use Rattle.std.specs.Prelude.{IsTrue}
 use Rattle.std.specs.List.{All, take_while}
 use Rattle.std.specs.Option.{option_map, option_and_then}
@@ -20,7 +58,33 @@ use Rattle.sql_tree.specs.declared.lexemes.Symbol.TheVariants as symbol
 use Rattle.sql_tree.specs.declared.lexemes.Lexeme.{Lexeme}
 use Rattle.sql_tree.specs.declared.lexemes.Lexeme.TheVariants as lexeme
 use Rattle.sql_tree.specs.declared.lexemes.Token.{Token}
-use Rattle.sql_tree.specs.Tokens.{Front, begins_word, is_digit, value_of_digits, binary_of, bracketed_lexeme, first_wide, front, is_name, is_word_byte, in_capitals, keyword_or, keywords, named, named_in, number_front, passed_over, quoted, symbol_front, text_lexeme, then_tokens, tokens_from, tokens_of, wide, word_lexeme}
+use Rattle.sql_tree.specs.Tokens.{
+  Front,
+  begins_word,
+  is_digit,
+  value_of_digits,
+  binary_of,
+  bracketed_lexeme,
+  first_wide,
+  front,
+  is_name,
+  is_word_byte,
+  in_capitals,
+  keyword_or,
+  keywords,
+  named,
+  named_in,
+  number_front,
+  passed_over,
+  quoted,
+  symbol_front,
+  text_lexeme,
+  then_tokens,
+  tokens_from,
+  tokens_of,
+  wide,
+  word_lexeme,
+}
 use Rattle.proper_values.specs.Proper.{IsIdentifier}
 
 abbrev pub IsProperLexeme : Lexeme → Type 0

@@ -35,7 +35,8 @@ module _ (R : Pairing) (r : IsOneToOne R) (cs : List Class) where
   distinct_alike None fs gs n h = h
   distinct_alike (Some at) fs gs n h = firsts_alike R r cs (n refl) [] [] fs gs tt h
 
-  pub answered_alike : (q : BoundQuery) (fs gs : List Found) → (IsSome q.distinct → All IsNotRandomized cs) → AllZip (FoundCorresponds R cs) fs gs → AllZip (RowsCorrespond R cs) (answer_rows q fs) (answer_rows q gs)
+  pub answered_alike : (q : BoundQuery) (fs gs : List Found) → (IsSome q.distinct → All IsNotRandomized cs)
+      → AllZip (FoundCorresponds R cs) fs gs → AllZip (RowsCorrespond R cs) (answer_rows q fs) (answer_rows q gs)
   answered_alike q fs gs n h =
       let kept = distinct_alike q.distinct fs gs n h in
       let order = sorted_alike R r cs q.order_by (distinct_if q.distinct fs) (distinct_if q.distinct gs) kept in
@@ -52,7 +53,8 @@ pub record AreShownSoFar {K : Type 0} (found past left : List (code.Found K)) (r
   pub count : n ≡ length left
   pub made : rows ≡ map shown_of past
 
-pub shown_more : {K : Type 0} (found past left : List (code.Found K)) (rows : List (List Atom)) (n : ℕ) (x : code.Found K) (rest : List (code.Found K)) (less : ℕ) → AreShownSoFar found past left rows n → left ≡ x ∷ rest → less ≡ length rest
+pub shown_more : {K : Type 0} (found past left : List (code.Found K)) (rows : List (List Atom)) (n : ℕ) (x : code.Found K) (rest : List (code.Found K)) (less : ℕ)
+    → AreShownSoFar found past left rows n → left ≡ x ∷ rest → less ≡ length rest
     → AreShownSoFar found (past ++ x ∷ []) rest (rows ++ x.shown ∷ []) less
 shown_more found past left rows n x rest less s e m = record {
   all = append_assoc past (x ∷ []) rest ∙ ap (λ l. past ++ l) (sym e) ∙ s.all;
@@ -77,11 +79,14 @@ topped-map f (Some (suc n)) [] = refl
 topped-map f (Some (suc n)) (x ∷ xs) = ap (λ l. f x ∷ l) (topped-map f (Some n) xs)
 
 pub answered_so : {K : Type 0} (q : BoundQuery) (keys : List BoundOrderKey) (given kept sorted top : List (code.Found K)) (rows : List (List Atom)) → keys ≡ q.order_by
-    → map (found_by q.order_by) kept ≡ distinct_if q.distinct (map (found_by q.order_by) given) → map (found_by keys) sorted ≡ in_order keys (map (found_by keys) kept) → top ≡ top_of q.top sorted → rows ≡ map shown_of top
+    → map (found_by q.order_by) kept ≡ distinct_if q.distinct (map (found_by q.order_by) given)
+    → map (found_by keys) sorted ≡ in_order keys (map (found_by keys) kept) → top ≡ top_of q.top sorted → rows ≡ map shown_of top
     → rows ≡ answer_rows q (map (found_by q.order_by) given)
 answered_so {K} q keys given kept sorted top rows same d o t r =
-    let order : map (found_by {K = K} q.order_by) sorted ≡ in_order q.order_by (map (found_by q.order_by) kept) = subst (λ ks. map (found_by {K = K} ks) sorted ≡ in_order ks (map (found_by ks) kept)) same o in
-    r ∙ ap (map shown_of) t ∙ shown-seen q.order_by (top_of q.top sorted) ∙ ap (map (λ (f : Found). f.shown)) (topped-map (found_by {K = K} q.order_by) q.top sorted ∙ ap (top_of q.top) (order ∙ ap (in_order q.order_by) d))
+    let order : map (found_by {K = K} q.order_by) sorted ≡ in_order q.order_by (map (found_by q.order_by) kept)
+    = subst (λ ks. map (found_by {K = K} ks) sorted ≡ in_order ks (map (found_by ks) kept)) same o in
+    r ∙ ap (map shown_of) t ∙ shown-seen q.order_by (top_of q.top sorted) ∙ ap (map (λ (f : Found). f.shown))
+    (topped-map (found_by {K = K} q.order_by) q.top sorted ∙ ap (top_of q.top) (order ∙ ap (in_order q.order_by) d))
 
 -- ---- rows that are shown as they come
 

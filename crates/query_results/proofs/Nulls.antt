@@ -32,17 +32,22 @@ module _ (row other params : List Atom) (same : (place : ℕ) → atom_at row pl
     eval_same (operands.Column at p) = ap Ok (same p)
     eval_same (operands.Minus at x) = ap (λ r. r >>= minus) (eval_same x)
     eval_same (operands.Sum first terms) =
-        both_same (eval row params first) (eval other params first) (λ sum. eval_terms row params (number_or_null sum) terms) (λ sum. eval_terms other params (number_or_null sum) terms) (eval_same first)
+        both_same (eval row params first) (eval other params first) (λ sum. eval_terms row params (number_or_null sum) terms)
+        (λ sum. eval_terms other params (number_or_null sum) terms) (eval_same first)
         (λ sum. terms_same terms (number_or_null sum))
 
     terms_same : (terms : operands.Terms ℕ ℕ) (sum : Atom) → eval_terms row params sum terms ≡ eval_terms other params sum terms
     terms_same operands.NoMore sum = refl
     terms_same (operands.PlusThen at x more) sum =
-        both_same (eval row params x) (eval other params x) (λ term. sum_with (λ a b. a +ℤ b) sum term >>= λ next. eval_terms row params next more) (λ term. sum_with (λ a b. a +ℤ b) sum term >>= λ next. eval_terms other params next more) (eval_same x)
-        (λ term. both_same (sum_with (λ a b. a +ℤ b) sum term) (sum_with (λ a b. a +ℤ b) sum term) (λ next. eval_terms row params next more) (λ next. eval_terms other params next more) refl (λ next. terms_same more next))
+        both_same (eval row params x) (eval other params x) (λ term. sum_with (λ a b. a +ℤ b) sum term >>= λ next. eval_terms row params next more)
+        (λ term. sum_with (λ a b. a +ℤ b) sum term >>= λ next. eval_terms other params next more) (eval_same x)
+        (λ term. both_same (sum_with (λ a b. a +ℤ b) sum term) (sum_with (λ a b. a +ℤ b) sum term)
+        (λ next. eval_terms row params next more) (λ next. eval_terms other params next more) refl (λ next. terms_same more next))
     terms_same (operands.MinusThen at x more) sum =
-        both_same (eval row params x) (eval other params x) (λ term. sum_with (λ a b. a -ℤ b) sum term >>= λ next. eval_terms row params next more) (λ term. sum_with (λ a b. a -ℤ b) sum term >>= λ next. eval_terms other params next more) (eval_same x)
-        (λ term. both_same (sum_with (λ a b. a -ℤ b) sum term) (sum_with (λ a b. a -ℤ b) sum term) (λ next. eval_terms row params next more) (λ next. eval_terms other params next more) refl (λ next. terms_same more next))
+        both_same (eval row params x) (eval other params x) (λ term. sum_with (λ a b. a -ℤ b) sum term >>= λ next. eval_terms row params next more)
+        (λ term. sum_with (λ a b. a -ℤ b) sum term >>= λ next. eval_terms other params next more) (eval_same x)
+        (λ term. both_same (sum_with (λ a b. a -ℤ b) sum term) (sum_with (λ a b. a -ℤ b) sum term)
+        (λ next. eval_terms row params next more) (λ next. eval_terms other params next more) refl (λ next. terms_same more next))
 
   item_same : (count : ℕ) (v : BoundItemValue) → item_of params count row v ≡ item_of params count other v
   item_same count (bound.Value x) = ap or_overflow (eval_same x)
@@ -51,7 +56,8 @@ module _ (row other params : List Atom) (same : (place : ℕ) → atom_at row pl
   items_same : (count : ℕ) (items : List BoundItem) → items_of params count row items ≡ items_of params count other items
   items_same count [] = refl
   items_same count (item ∷ items) =
-      both_same (item_of params count row item.value) (item_of params count other item.value) (λ atom. items_of params count row items >>= λ rest. Ok (atom ∷ rest)) (λ atom. items_of params count other items >>= λ rest. Ok (atom ∷ rest))
+      both_same (item_of params count row item.value) (item_of params count other item.value)
+      (λ atom. items_of params count row items >>= λ rest. Ok (atom ∷ rest)) (λ atom. items_of params count other items >>= λ rest. Ok (atom ∷ rest))
       (item_same count item.value) (λ atom. ap (λ r. r >>= λ rest. Ok (atom ∷ rest)) (items_same count items))
 
   keys_same : (keys : List BoundOrderKey) → keys_of keys row ≡ keys_of keys other

@@ -18,7 +18,25 @@ use Rattle.transactions.specs.Journal as journal
 use Rattle.transactions.specs.Journal.{is_lasting}
 use Rattle.transactions.specs.Serial as serial
 use Rattle.transactions.specs.Serial.{Deed, deed}
-use Rattle.transactions.specs.Stores.{Ask, Begins, Commits, RollsBack, Executes, Transaction, Transacted, refused, ask_by, transaction_at, with_transaction, seen_by, stepped_in, conflict, why_not, committed, transacted}
+use Rattle.transactions.specs.Stores.{
+  Ask,
+  Begins,
+  Commits,
+  RollsBack,
+  Executes,
+  Transaction,
+  Transacted,
+  refused,
+  ask_by,
+  transaction_at,
+  with_transaction,
+  seen_by,
+  stepped_in,
+  conflict,
+  why_not,
+  committed,
+  transacted,
+}
 use Rattle.transactions.proofs.Interface.{IsKeptSo, changes_show_no_rows}
 use Rattle.wire_messages.specs.declared.requests.Request.{Request}
 use Rattle.statement_analysis.specs.declared.sorts.Sort.{Sort}
@@ -34,7 +52,8 @@ use Rattle.recording.proofs.Steps.{IsStep, kept_so, left_as_before, ends_refused
 unmoved : (shared : Counted) (t : Transaction) → why_not shared t ≡ None → shared.world.catalog.version ≡ t.version
 unmoved shared t free = by (shared.world.catalog.version == t.version) refl free
   where
-    by : (b : Bool) → (shared.world.catalog.version == t.version) ≡ b → (if b then conflict shared t.used else Some (fault.Moved (record { seen = t.version; now = shared.world.catalog.version }))) ≡ None
+    by : (b : Bool) → (shared.world.catalog.version == t.version) ≡ b
+        → (if b then conflict shared t.used else Some (fault.Moved (record { seen = t.version; now = shared.world.catalog.version }))) ≡ None
         → shared.world.catalog.version ≡ t.version
     by true v free = eqb-true shared.world.catalog.version t.version v
     by false v free = absurd cc
@@ -52,7 +71,8 @@ module _ (s : State) (session : ℕ) (request : Request) (held : List Request) (
     pub kept : IsKeptSo s.shared (x o ask).after.shared (journal.kept_of o session ask (x o ask).answer log)
 
   abbrev pub Goal : Sort → Option Transaction → Ask → Type 0
-  Goal q o ask = IsStep s session (x o ask) (serial.recorded o ask (x o ask).answer log).log (kept_so q held request (seen_by s.shared o).world.catalog session (x o ask)) (journal.kept_of o session ask (x o ask).answer log)
+  Goal q o ask = IsStep s session (x o ask) (serial.recorded o ask (x o ask).answer log).log
+      (kept_so q held request (seen_by s.shared o).world.catalog session (x o ask)) (journal.kept_of o session ask (x o ask).answer log)
 
   begin_step : (o : Option Transaction) → IsAsked o Begins → Goal sort.Begins o Begins
   begin_step None h = begins s session request held h.asks
@@ -67,12 +87,15 @@ module _ (s : State) (session : ℕ) (request : Request) (held : List Request) (
   commit_step (Some t) h = by (why_not s.shared t) refl h.kept
     where
       by : (f : Option SqlFault) → why_not s.shared t ≡ f → IsKeptSo s.shared (committed s session t f).after.shared (journal.kept_of (Some t) session Commits (committed s session t f).answer log)
-          → IsStep s session (committed s session t f) (serial.recorded (Some t) Commits (committed s session t f).answer log).log (kept_so sort.Commits held request t.own.world.catalog session (committed s session t f)) (journal.kept_of (Some t) session Commits (committed s session t f).answer log)
+          → IsStep s session (committed s session t f) (serial.recorded (Some t) Commits (committed s session t f).answer log).log
+          (kept_so sort.Commits held request t.own.world.catalog session (committed s session t f)) (journal.kept_of (Some t) session Commits (committed s session t f).answer log)
       by None free w =
-          commits s session request held t log (committed s session t None).after (subst (λ n. session - 1 < n) h.long (there_within s.sessions (session - 1) t h.is)) refl (unmoved s.shared t free) h.holds h.asks w
+          commits s session request held t log (committed s session t None).after
+          (subst (λ n. session - 1 < n) h.long (there_within s.sessions (session - 1) t h.is)) refl (unmoved s.shared t free) h.holds h.asks w
       by (Some f) free w = ends_refused s session request held f []
 
-  no_rows : (o : Option Transaction) → transaction_at s session ≡ o → (is_defining e.bound.statement || is_some (target e.bound.statement)) ≡ true → (columns : List ResultColumn) (rows : List (List Atom))
+  no_rows : (o : Option Transaction) → transaction_at s session ≡ o → (is_defining e.bound.statement || is_some (target e.bound.statement)) ≡ true
+      → (columns : List ResultColumn) (rows : List (List Atom))
       → (x o (Executes e)).answer ≡ Ok (Rows columns rows) → ⊥
   no_rows o is changes columns rows h = changes_show_no_rows s session e columns rows changes (ap (λ o. (x o (Executes e)).answer) is ∙ h)
 
@@ -83,30 +106,38 @@ module _ (s : State) (session : ℕ) (request : Request) (held : List Request) (
       let y : Transacted = if b then refused s fault.InTransaction else record { answer = o.answer; after = with_transaction s session (Some (stepped_in t e o)) } in
       IsStep s session y (if b then log else log ++ deed e y.answer ∷ []) (kept_so q held request t.own.world.catalog session y) []
 
-  defines_step : (o : Option Transaction) → IsAsked o (Executes e) → is_definition e.bound.statement ≡ true → (is_defining e.bound.statement || is_some (target e.bound.statement)) ≡ true → Goal sort.Defines o (Executes e)
+  defines_step : (o : Option Transaction) → IsAsked o (Executes e) → is_definition e.bound.statement ≡ true
+      → (is_defining e.bound.statement || is_some (target e.bound.statement)) ≡ true → Goal sort.Defines o (Executes e)
   defines_step None h d changes =
       alone_lasts s session request held e (alone s.shared e).after sort.Defines (alone s.shared e).answer refl h.is h.holds h.asks changes
       (λ columns rows k. no_rows None h.is changes columns rows k) h.kept
   defines_step (Some t) h d changes = subst (In sort.Defines t) (sym d) (left_as_before s session request held fault.InTransaction (Some t) log h.is h.holds)
 
-  changes_step : (o : Option Transaction) → IsAsked o (Executes e) → is_definition e.bound.statement ≡ false → (is_defining e.bound.statement || is_some (target e.bound.statement)) ≡ true → Goal sort.Changes o (Executes e)
+  changes_step : (o : Option Transaction) → IsAsked o (Executes e) → is_definition e.bound.statement ≡ false
+      → (is_defining e.bound.statement || is_some (target e.bound.statement)) ≡ true → Goal sort.Changes o (Executes e)
   changes_step None h work changes =
       alone_lasts s session request held e (alone s.shared e).after sort.Changes (alone s.shared e).answer refl h.is h.holds h.asks changes
       (λ columns rows k. no_rows None h.is changes columns rows k) h.kept
   changes_step (Some t) h work changes =
-      subst (In sort.Changes t) (sym work) (changes_in s session request held e t log h.is h.holds work (counted_step t.own e).answer (passing_leaves t.own e) h.asks changes (λ columns rows k. no_rows (Some t) h.is changes columns rows (told t work k)))
+      subst (In sort.Changes t) (sym work)
+      (changes_in s session request held e t log h.is h.holds work (counted_step t.own e).answer
+      (passing_leaves t.own e) h.asks changes (λ columns rows k. no_rows (Some t) h.is changes columns rows (told t work k)))
     where
-      told : (t : Transaction) → is_definition e.bound.statement ≡ false → {columns : List ResultColumn} {rows : List (List Atom)} → (counted_step t.own e).answer ≡ Ok (Rows columns rows) → (x (Some t) (Executes e)).answer ≡ Ok (Rows columns rows)
+      told : (t : Transaction) → is_definition e.bound.statement ≡ false → {columns : List ResultColumn} {rows : List (List Atom)}
+          → (counted_step t.own e).answer ≡ Ok (Rows columns rows) → (x (Some t) (Executes e)).answer ≡ Ok (Rows columns rows)
       told t work k =
-          ap (λ b. let y : Transacted = if b then refused s fault.InTransaction else record { answer = (counted_step t.own e).answer; after = with_transaction s session (Some (stepped_in t e (counted_step t.own e))) } in y.answer) work ∙ k
+          ap (λ b. let y : Transacted = if b then refused s fault.InTransaction else record
+          { answer = (counted_step t.own e).answer; after = with_transaction s session (Some (stepped_in t e (counted_step t.own e))) } in y.answer) work ∙ k
 
-  reads_step : (o : Option Transaction) → IsAsked o (Executes e) → is_definition e.bound.statement ≡ false → (is_defining e.bound.statement || is_some (target e.bound.statement)) ≡ false → Goal sort.Reads o (Executes e)
+  reads_step : (o : Option Transaction) → IsAsked o (Executes e) → is_definition e.bound.statement ≡ false
+      → (is_defining e.bound.statement || is_some (target e.bound.statement)) ≡ false → Goal sort.Reads o (Executes e)
   reads_step None h work reads = alone_reads s session request held e (alone s.shared e).after (alone s.shared e).answer h.is h.holds (passes (alone s.shared e).answer) h.kept
     where
       passes : (a : Result Answer SqlFault) → is_lasting e.bound.statement a ≡ false
       passes (Ok answer) = reads
       passes (Err f) = refl
-  reads_step (Some t) h work reads = subst (In sort.Reads t) (sym work) (reads_in s session request held e t log h.is h.holds work (counted_step t.own e).answer (passing_leaves t.own e) (passes (counted_step t.own e).answer))
+  reads_step (Some t) h work reads = subst (In sort.Reads t) (sym work)
+      (reads_in s session request held e t log h.is h.holds work (counted_step t.own e).answer (passing_leaves t.own e) (passes (counted_step t.own e).answer))
     where
       passes : (a : Result Answer SqlFault) → is_lasting e.bound.statement a ≡ false
       passes (Ok answer) = reads

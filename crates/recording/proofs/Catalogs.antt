@@ -28,7 +28,8 @@ module _ (c : Counted) (e : Execution) where
 
   abbrev by_catalog : BoundDefinition → Result Catalog SqlFault → CountedOutcome
   by_catalog d r =
-      by_outcome (bound.Definition d) (outcome c.world (r >>= λ new. Ok (record { answer = Defined; world = record { catalog = new; contents = followed [] (effect_of c.world.catalog d) c.world.contents } })))
+      by_outcome (bound.Definition d)
+      (outcome c.world (r >>= λ new. Ok (record { answer = Defined; world = record { catalog = new; contents = followed [] (effect_of c.world.catalog d) c.world.contents } })))
 
   defined_left : (d : BoundDefinition) (r : Result Catalog SqlFault) → (by_catalog d r).after.world.catalog ≡ result_unwrap_or r c.world.catalog
   defined_left d (Ok new) = refl

@@ -63,7 +63,8 @@ module _ {A B : Type 0} (f : A → B) where
   set_forgotten (x ∷ held) (suc k) xs = ap (λ ys. map f x ∷ ys) (set_forgotten held k xs)
 
   -- recording commutes with it
-  pub forgets : (g : B → Request) (requests : List A) (state : State) (held : List (List A)) → forgotten (recorded (λ a. g (f a)) state held requests) ≡ recorded g state (forgotten held) (map f requests)
+  pub forgets : (g : B → Request) (requests : List A) (state : State) (held : List (List A))
+      → forgotten (recorded (λ a. g (f a)) state held requests) ≡ recorded g state (forgotten held) (map f requests)
   forgets g [] state held = refl
   forgets g (asked ∷ others) state held =
       let request = g (f asked) in

@@ -94,7 +94,8 @@ none_more : {A : Type 0} (xs : List A) → xs ++ [] ≡ xs
 none_more [] = refl
 none_more (x ∷ xs) = ap (λ ys. x ∷ ys) (none_more xs)
 
-changes_push : (catalog : Catalog) (place : ℕ) (requests : List Request) (deeds : List Deed) (request : Request) (d : Deed) → AreChanges catalog place requests deeds → IsChange (catalog_made catalog deeds) place request d
+changes_push : (catalog : Catalog) (place : ℕ) (requests : List Request) (deeds : List Deed) (request : Request) (d : Deed)
+    → AreChanges catalog place requests deeds → IsChange (catalog_made catalog deeds) place request d
     → AreChanges catalog place (requests ++ request ∷ []) (deeds ++ d ∷ [])
 changes_push catalog place [] [] request d h k = (k, tt)
 changes_push catalog place [] (x ∷ deeds) request d h k = absurd h
@@ -123,7 +124,8 @@ module _ (shared : Catalog) (t next : Transaction) (place : ℕ) (log : List Dee
       }
 
   -- by an accepted change it is held too
-  pub held_more : (request : Request) → next.own.world.catalog ≡ catalog_behind t.own.world.catalog d.execution.bound.statement → is_lasting d.execution.bound.statement d.answer ≡ true → IsChange t.own.world.catalog place request d
+  pub held_more : (request : Request) → next.own.world.catalog ≡ catalog_behind t.own.world.catalog d.execution.bound.statement
+      → is_lasting d.execution.bound.statement d.answer ≡ true → IsChange t.own.world.catalog place request d
       → IsHeld shared next place (log ++ d ∷ []) (h.begin ∷ h.rest ++ request ∷ [])
   held_more request made lasts change =
       let is : lasting (log ++ d ∷ []) ≡ lasting log ++ d ∷ [] = lasting_push log d ∙ ap (λ b. lasting log ++ (if b then d ∷ [] else [])) lasts in

@@ -11,7 +11,25 @@ use Rattle.sql_tree.specs.Sorts.{is_definition, is_defining, target}
 use Rattle.transactions.specs.Counted.{Counted, counted_step}
 use Rattle.transactions.specs.Journal.{call_of, calls_in, AreAccepted}
 use Rattle.transactions.specs.Serial.{Deed, Call, all_after}
-use Rattle.transactions.specs.Stores.{Ask, Begins, Commits, RollsBack, Executes, Transaction, Transacted, refused, transaction_at, with_transaction, seen_by, begun_over, stepped_in, why_not, committed, transacted, transact}
+use Rattle.transactions.specs.Stores.{
+  Ask,
+  Begins,
+  Commits,
+  RollsBack,
+  Executes,
+  Transaction,
+  Transacted,
+  refused,
+  transaction_at,
+  with_transaction,
+  seen_by,
+  begun_over,
+  stepped_in,
+  why_not,
+  committed,
+  transacted,
+  transact,
+}
 use Rattle.transactions.proofs.Interface.{IsKeptSo, changes_show_no_rows, idle, length_nobody, none_at}
 use Rattle.wire_messages.specs.Exchanges.{Served}
 use Rattle.wire_messages.specs.declared.requests.Request.{Request}
@@ -85,7 +103,8 @@ no_rows s session RollsBack columns rows n h = by (transaction_at s session) h
     by (Some t) h = cc
 no_rows s session (Executes e) columns rows n h = changes_show_no_rows s session e columns rows n h
 
-pub done_answer : (catalog : Catalog) (a : Result Answer SqlFault) (new : State) → ((columns : List ResultColumn) (rows : List (List Atom)) → a ≡ Ok (Rows columns rows) → ⊥) → IsOk a → is_done (answered catalog a new).replies ≡ true
+pub done_answer : (catalog : Catalog) (a : Result Answer SqlFault) (new : State)
+    → ((columns : List ResultColumn) (rows : List (List Atom)) → a ≡ Ok (Rows columns rows) → ⊥) → IsOk a → is_done (answered catalog a new).replies ≡ true
 done_answer catalog (Ok (Rows columns rows)) new rowless h = absurd (rowless columns rows refl)
 done_answer catalog (Ok (Changed count)) new rowless h = refl
 done_answer catalog (Ok Defined) new rowless h = refl
@@ -108,19 +127,22 @@ served_so : (s : State) (request : Request) (ask : Ask) → called s request ≡
 served_so s (Describe session text declarations) ask h = absurd cc
 served_so s (Execute session version text params) ask h = by (prepared (catalog_of s session) version text params) h
   where
-    by : (p : Result (Meant × List Atom) SqlFault) → asked session p ≡ call_of session ask ∷ [] → executed s session p ≡ answered (catalog_of s session) (transact s session ask).answer (transact s session ask).after
+    by : (p : Result (Meant × List Atom) SqlFault) → asked session p ≡ call_of session ask ∷ []
+        → executed s session p ≡ answered (catalog_of s session) (transact s session ask).answer (transact s session ask).after
     by (Ok ready) h =
         let is : ask_of ready ≡ ask = ap (ask_in ask) h in
         ap (λ a. answered (catalog_of s session) (transact s session a).answer (transact s session a).after) is
     by (Err f) h = absurd cc
 
-pub asks_done : (s : State) (c : Call) (request : Request) → Asks s c request → IsOk (transact s c.session c.ask).answer → (is_done (serve s request).replies ≡ true) × ((serve s request).after ≡ (transact s c.session c.ask).after)
+pub asks_done : (s : State) (c : Call) (request : Request) → Asks s c request → IsOk (transact s c.session c.ask).answer
+    → (is_done (serve s request).replies ≡ true) × ((serve s request).after ≡ (transact s c.session c.ask).after)
 asks_done s c request h ok =
     let session = session_of request in
     let same = transact_same s session c.session c.ask h.lies in
     let is = served_so s request c.ask h.asks in
     let t = transact s session c.ask in (
-      ap (λ (x : Served State). is_done x.replies) is ∙ done_answer (catalog_of s session) t.answer t.after (λ columns rows k. no_rows s session c.ask columns rows h.shows k) (subst (λ (x : Transacted). IsOk x.answer) (sym same) ok),
+      ap (λ (x : Served State). is_done x.replies) is ∙ done_answer (catalog_of s session) t.answer t.after
+          (λ columns rows k. no_rows s session c.ask columns rows h.shows k) (subst (λ (x : Transacted). IsOk x.answer) (sym same) ok),
       ap (λ (x : Served State). x.after) is ∙ answered_after (catalog_of s session) t.answer t.after ∙ ap (λ (x : Transacted). x.after) same,
     )
 
@@ -176,17 +198,20 @@ nothing_goes shared now kept = record { served = tt; after = kept.after; calls =
 idle_catalog : (shared : Counted) (session : ℕ) → catalog_of (idle shared) session ≡ shared.world.catalog
 idle_catalog shared session = ap (λ o. (seen_by shared o).world.catalog) (none_at 64 (session - 1))
 
-asks_over : (s : State) (session : ℕ) (catalog : Catalog) (ask : Ask) (request : Request) → catalog_of s session ≡ catalog → AsksSo catalog (session - 1) ask request → ShowsNoRows ask → Asks s (call_of session ask) request
+asks_over : (s : State) (session : ℕ) (catalog : Catalog) (ask : Ask) (request : Request) → catalog_of s session ≡ catalog
+    → AsksSo catalog (session - 1) ask request → ShowsNoRows ask → Asks s (call_of session ask) request
 asks_over s session catalog ask request is h n = record {
   asks = called_is s request ∙ ap (λ c. called_at c request) (catalog_same s (session_of request) session h.lies ∙ is) ∙ h.asks;
   lies = h.lies;
   shows = n;
 }
 
-pub one_makes : (shared : Counted) (session : ℕ) (ask : Ask) (request : Request) → AsksSo shared.world.catalog (session - 1) ask request → ShowsNoRows ask → Makes (idle shared) (request ∷ []) (call_of session ask ∷ [])
+pub one_makes : (shared : Counted) (session : ℕ) (ask : Ask) (request : Request) → AsksSo shared.world.catalog (session - 1) ask request
+    → ShowsNoRows ask → Makes (idle shared) (request ∷ []) (call_of session ask ∷ [])
 one_makes shared session ask request h n = (asks_over (idle shared) session shared.world.catalog ask request (idle_catalog shared session) h n, tt)
 
-rest_makes : (rest : List Request) (deeds : List Deed) (s : State) (session : ℕ) (t : Transaction) (commit : Request) → transaction_at s session ≡ Some t → AreChanges t.own.world.catalog (session - 1) rest deeds
+rest_makes : (rest : List Request) (deeds : List Deed) (s : State) (session : ℕ) (t : Transaction) (commit : Request)
+    → transaction_at s session ≡ Some t → AreChanges t.own.world.catalog (session - 1) rest deeds
     → AsksSo (catalog_made t.own.world.catalog deeds) (session - 1) Commits commit → Makes s (rest ++ commit ∷ []) (calls_in session deeds ++ call_of session Commits ∷ [])
 rest_makes [] [] s session t commit is h k = (asks_over s session t.own.world.catalog Commits commit (ap (λ o. (seen_by s.shared o).world.catalog) is) k tt, tt)
 rest_makes [] (d ∷ deeds) s session t commit is h k = absurd h
@@ -206,7 +231,8 @@ rest_makes (r ∷ rest) (d ∷ deeds) s session t commit is h k =
     )
 
 -- BEGIN, changes, and COMMIT; the session is one of 64
-pub whole_makes : (shared : Counted) (session : ℕ) (begin : Request) (rest : List Request) (deeds : List Deed) (commit : Request) → session - 1 < 64 → AsksSo shared.world.catalog (session - 1) Begins begin
+pub whole_makes : (shared : Counted) (session : ℕ) (begin : Request) (rest : List Request) (deeds : List Deed) (commit : Request)
+    → session - 1 < 64 → AsksSo shared.world.catalog (session - 1) Begins begin
     → AreChanges shared.world.catalog (session - 1) rest deeds → AsksSo (catalog_made shared.world.catalog deeds) (session - 1) Commits commit
     → Makes (idle shared) (begin ∷ rest ++ commit ∷ []) (call_of session Begins ∷ calls_in session deeds ++ call_of session Commits ∷ [])
 whole_makes shared session begin rest deeds commit lt b h k =

@@ -61,7 +61,8 @@ module _ {A : Type 0} (P : A → Type 0) where
       by false = where_of_them (has_transaction served.after session) held h
 
   module _ (request_of : A → Request) where
-    recorded_from : (requests : List A) (state : State) (held : List (List A)) → All AllOf held → All (λ asked. IsExecute (request_of asked) → P asked) requests → All AllOf (recorded request_of state held requests)
+    recorded_from : (requests : List A) (state : State) (held : List (List A)) → All AllOf held
+        → All (λ asked. IsExecute (request_of asked) → P asked) requests → All AllOf (recorded request_of state held requests)
     recorded_from [] state held h p = All-nil AllOf
     recorded_from (asked ∷ others) state held h p =
         let request = request_of asked in

@@ -59,11 +59,13 @@ module _ (s : State) (logs : List (List Deed)) (held : List (List Request)) (h :
   refused_so : (session : ℕ) → Went s logs session held [] s (kept_where (has_transaction s session) (held_at held session))
   refused_so session = subst (Went s logs session held [] s) (by (transaction_at s session) (h.slots (session - 1))) (unchanged session)
     where
-      by : (o : Option Transaction) → Holds s.shared.world.catalog (session - 1) o (log_at logs session) (held_at held session) → kept [] (held_at held session) ≡ kept_where (is_some o) (held_at held session)
+      by : (o : Option Transaction) → Holds s.shared.world.catalog (session - 1) o (log_at logs session) (held_at held session)
+          → kept [] (held_at held session) ≡ kept_where (is_some o) (held_at held session)
       by None e = ap (kept []) e
       by (Some t) e = refl
 
-  stepped_so : (session : ℕ) (ask : Ask) (k : Kept Request) → MayAsk any_cell (world_of s session).world ask → IsStep s session (transact s session ask) (record_of s (call_of session ask) logs).log k (kept_in (transaction_at s session) session ask (transact s session ask).answer (log_at logs session))
+  stepped_so : (session : ℕ) (ask : Ask) (k : Kept Request) → MayAsk any_cell (world_of s session).world ask
+      → IsStep s session (transact s session ask) (record_of s (call_of session ask) logs).log k (kept_in (transaction_at s session) session ask (transact s session ask).answer (log_at logs session))
       → Went s logs session held (call_of session ask ∷ []) (transact s session ask).after k
   stepped_so session ask k may step =
       let on = logged_on any_cell s logs session ask store may h.long h.logged in
@@ -98,10 +100,13 @@ module _ (s : State) (logs : List (List Deed)) (held : List (List Request)) (h :
     ready_kept ready e =
         let t = transact s session (ask_of ready) in
         let served = answered (catalog_of s session) t.answer t.after in
-        ap (λ q. if is_done served.replies then kept_of q (held_at held session) request else kept_where (has_transaction t.after session) (held_at held session)) (sym (prepared_sort (catalog_of s session) version text params ready e))
-        ∙ ap (λ (x : State). if is_done served.replies then kept_of (sort_of text) (held_at held session) request else kept_where (has_transaction x session) (held_at held session)) (sym (answered_after (catalog_of s session) t.answer t.after))
+        ap (λ q. if is_done served.replies then kept_of q (held_at held session) request else kept_where (has_transaction t.after session) (held_at held session))
+        (sym (prepared_sort (catalog_of s session) version text params ready e))
+        ∙ ap (λ (x : State). if is_done served.replies then kept_of (sort_of text) (held_at held session) request
+        else kept_where (has_transaction x session) (held_at held session)) (sym (answered_after (catalog_of s session) t.answer t.after))
 
-    ready_went : (ready : Meant × List Atom) → prepared (catalog_of s session) version text params ≡ Ok ready → Went s logs session held (asked session (Ok ready)) (executed s session (Ok ready)).after (kept_by request request (executed s session (Ok ready)) (held_at held session))
+    ready_went : (ready : Meant × List Atom) → prepared (catalog_of s session) version text params ≡ Ok ready
+        → Went s logs session held (asked session (Ok ready)) (executed s session (Ok ready)).after (kept_by request request (executed s session (Ok ready)) (held_at held session))
     ready_went ready e =
         let x = execution ready.0.bound ready.0.encs ready.1 in
         let t = transact s session (ask_of ready) in
@@ -114,14 +119,18 @@ module _ (s : State) (logs : List (List Deed)) (held : List (List Request)) (h :
           asks = record { asks = ap (asked session) e; lies = refl };
           kept = on.kept;
         }) in
-        subst (λ (after : State). Went s logs session held (asked session (Ok ready)) after (kept_by request request (executed s session (Ok ready)) (held_at held session))) (sym (answered_after (catalog_of s session) t.answer t.after))
-        (subst (Went s logs session held (asked session (Ok ready)) t.after) (ready_kept ready e) (stepped_so session (ask_of ready) (kept_so (sort_bound ready.0.bound.statement) (held_at held session) request (catalog_of s session) session t) may step))
+        subst (λ (after : State). Went s logs session held (asked session (Ok ready)) after
+        (kept_by request request (executed s session (Ok ready)) (held_at held session))) (sym (answered_after (catalog_of s session) t.answer t.after))
+        (subst (Went s logs session held (asked session (Ok ready)) t.after) (ready_kept ready e)
+        (stepped_so session (ask_of ready) (kept_so (sort_bound ready.0.bound.statement) (held_at held session) request (catalog_of s session) session t) may step))
 
-    execute_went : (p : Result (Meant × List Atom) SqlFault) → prepared (catalog_of s session) version text params ≡ p → Went s logs session held (asked session p) (executed s session p).after (kept_by request request (executed s session p) (held_at held session))
+    execute_went : (p : Result (Meant × List Atom) SqlFault) → prepared (catalog_of s session) version text params ≡ p
+        → Went s logs session held (asked session p) (executed s session p).after (kept_by request request (executed s session p) (held_at held session))
     execute_went (Ok ready) e = ready_went ready e
     execute_went (Err f) e = refused_so session
 
-  pub went : (request : Request) → AreAllowed any_cell s (called s request) → Went s logs (session_of request) held (called s request) (serve s request).after (kept_by request request (serve s request) (held_at held (session_of request)))
+  pub went : (request : Request) → AreAllowed any_cell s (called s request)
+      → Went s logs (session_of request) held (called s request) (serve s request).after (kept_by request request (serve s request) (held_at held (session_of request)))
   went (Describe session text declarations) allowed =
       subst (λ (after : State). Went s logs session held [] after (kept [] (held_at held session))) (sym (described_after s (describe (catalog_of s session) text declarations))) (unchanged session)
   went (Execute session version text params) allowed = execute_went session version text params allowed (prepared (catalog_of s session) version text params) refl
@@ -174,7 +183,8 @@ all_went law (request ∷ requests) s logs held store h =
       left = more.left;
       so = more.so;
       goes = subst (Goes s.shared (after_requests after requests).shared (requests_recorded s held (request ∷ requests))) (sym (w.first (calls_of after requests)))
-          (goes_append s.shared after.shared (after_requests after requests).shared one.records (requests_recorded after (with_held held (session_of request) one.held) requests) w.kept (journal after w.logs (calls_of after requests)) w.goes more.goes);
+          (goes_append s.shared after.shared (after_requests after requests).shared one.records
+          (requests_recorded after (with_held held (session_of request) one.held) requests) w.kept (journal after w.logs (calls_of after requests)) w.goes more.goes);
     }
 
 -- nothing is held at first
@@ -184,7 +194,8 @@ nothing_so s none = record {
   long = ap (λ xs. length xs) none.none ∙ length_nobody 64;
   logs_long = nothing_long {A = List Deed} 64 [];
   held_long = nothing_long {A = List Request} 64 [];
-  slots = λ k. subst (λ o. Holds s.shared.world.catalog k o (slice_index_or no_logs k []) (slice_index_or nothing_held k [])) (sym (ap (λ xs. slice_index_or xs k None) none.none ∙ none_at 64 k)) (nothing_at {A = List Request} 64 k []);
+  slots = λ k. subst (λ o. Holds s.shared.world.catalog k o (slice_index_or no_logs k []) (slice_index_or nothing_held k []))
+      (sym (ap (λ xs. slice_index_or xs k None) none.none ∙ none_at 64 k)) (nothing_at {A = List Request} 64 k []);
 }
 
 pub replayed : RequestsMayBeAsked → (s : State) (requests : List Request) → IsStore any_cell s → HasNoTransactions s → IsReplayed s requests

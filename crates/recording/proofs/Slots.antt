@@ -6,7 +6,8 @@ use Rattle.std.specs.Prelude.{slice_set, slice_index_or, replicate}
 abbrev pub AllAt : {A B C : Type 0} → (ℕ → A → B → C → Type 0) → A → B → C → List A → List B → List C → Type 0
 AllAt R a b c xs ys zs = (k : ℕ) → R k (slice_index_or xs k a) (slice_index_or ys k b) (slice_index_or zs k c)
 
-pub set_all : {A B C : Type 0} (R : ℕ → A → B → C → Type 0) (a : A) (b : B) (c : C) (xs : List A) (ys : List B) (zs : List C) (j : ℕ) (x : A) (y : B) (z : C) → length xs ≡ length ys → length xs ≡ length zs → AllAt R a b c xs ys zs
+pub set_all : {A B C : Type 0} (R : ℕ → A → B → C → Type 0) (a : A) (b : B) (c : C) (xs : List A) (ys : List B) (zs : List C) (j : ℕ) (x : A) (y : B) (z : C)
+    → length xs ≡ length ys → length xs ≡ length zs → AllAt R a b c xs ys zs
     → R j x y z → AllAt R a b c (slice_set xs j x) (slice_set ys j y) (slice_set zs j z)
 set_all R a b c [] [] [] j x y z m n old new k = old k
 set_all R a b c [] [] (w ∷ zs) j x y z m n old new k = absurd (omega arith)

@@ -42,7 +42,8 @@ module _ (s : State) (session : ℕ) (request : Request) (held : List Request) w
   stays = record { served = tt; after = refl; calls = refl }
 
   -- the state is as before
-  pub left_as_before : (f : SqlFault) (o : Option Transaction) (log : List Deed) → transaction_at s session ≡ o → Holds s.shared.world.catalog place o log held → IsStep s session (refused s f) log (kept_where (has_transaction s session) held) []
+  pub left_as_before : (f : SqlFault) (o : Option Transaction) (log : List Deed) → transaction_at s session ≡ o
+      → Holds s.shared.world.catalog place o log held → IsStep s session (refused s f) log (kept_where (has_transaction s session) held) []
   left_as_before f o log is h = subst (λ x. IsStep s session (refused s f) log (kept_where (is_some x) held) []) (sym is) (by o is h)
     where
       by : (o : Option Transaction) → transaction_at s session ≡ o → Holds s.shared.world.catalog place o log held → IsStep s session (refused s f) log (kept_where (is_some o) held) []
@@ -61,12 +62,29 @@ module _ (s : State) (session : ℕ) (request : Request) (held : List Request) w
   pub rolled_back : (log : List Deed) → IsStep s session (record { answer = Ok Defined; after = dropped }) log (kept [] []) []
   rolled_back log = record { slot = None; sessions = refl; holds = refl; goes = stays }
 
-  pub begins : AsksSo s.shared.world.catalog place Begins request → IsStep s session (record { answer = Ok Defined; after = with_transaction s session (Some (begun_over s.shared)) }) [] (kept [] (request ∷ [])) []
-  begins h = record { slot = Some (begun_over s.shared); sessions = refl; holds = record { base = s.shared.world.catalog; version = refl; later = same_later s.shared.world.catalog; begin = request; rest = []; is = refl; begins = h; each = tt; own = refl }; goes = stays }
+  pub begins : AsksSo s.shared.world.catalog place Begins request
+      → IsStep s session (record { answer = Ok Defined; after = with_transaction s session (Some (begun_over s.shared)) }) [] (kept [] (request ∷ [])) []
+  begins h = record {
+    slot = Some (begun_over s.shared);
+    sessions = refl;
+    holds = record {
+      base = s.shared.world.catalog;
+      version = refl;
+      later = same_later s.shared.world.catalog;
+      begin = request;
+      rest = [];
+      is = refl;
+      begins = h;
+      each = tt;
+      own = refl;
+    };
+    goes = stays;
+  }
 
   -- ---- a COMMIT that is accepted
 
-  pub commits : (t : Transaction) (log : List Deed) (now : State) → session - 1 < 64 → now.sessions ≡ slice_set s.sessions place None → s.shared.world.catalog.version ≡ t.version → IsHeld s.shared.world.catalog t place log held
+  pub commits : (t : Transaction) (log : List Deed) (now : State) → session - 1 < 64 → now.sessions ≡ slice_set s.sessions place None
+      → s.shared.world.catalog.version ≡ t.version → IsHeld s.shared.world.catalog t place log held
       → AsksSo t.own.world.catalog place Commits request → IsKeptSo s.shared now.shared (whole session (lasting log))
       → IsStep s session (record { answer = Ok Defined; after = now }) [] (kept_of sort.Commits held request) (whole session (lasting log))
   commits t log now lt is unmoved h k w =
@@ -75,7 +93,8 @@ module _ (s : State) (session : ℕ) (request : Request) (held : List Request) w
       (by h.rest (lasting log) (subst (λ c. AsksSo c place Begins h.begin) (sym same) h.begins) (subst (λ c. AreChanges c place h.rest (lasting log)) (sym same) h.each)
       (subst (λ c. AsksSo c place Commits request) (h.own ∙ ap (λ c. catalog_made c (lasting log)) (sym same)) k) w)
     where
-      by : (rest : List Request) (deeds : List Deed) → AsksSo s.shared.world.catalog place Begins h.begin → AreChanges s.shared.world.catalog place rest deeds → AsksSo (catalog_made s.shared.world.catalog deeds) place Commits request
+      by : (rest : List Request) (deeds : List Deed) → AsksSo s.shared.world.catalog place Begins h.begin
+          → AreChanges s.shared.world.catalog place rest deeds → AsksSo (catalog_made s.shared.world.catalog deeds) place Commits request
           → IsKeptSo s.shared now.shared (whole session deeds) → IsStep s session (record { answer = Ok Defined; after = now }) [] (kept_of sort.Commits (h.begin ∷ rest) request) (whole session deeds)
       by [] [] b e k w = record { slot = None; sessions = is; holds = refl; goes = nothing_goes s.shared now.shared w }
       by [] (d ∷ deeds) b e k w = absurd e
@@ -98,25 +117,31 @@ module _ (s : State) (session : ℕ) (request : Request) (held : List Request) w
     abbrev entries : Bool → List (List serial.Call)
     entries lasts = if lasts then (call_of session (Executes e) ∷ []) ∷ [] else []
 
-    pub alone_lasts : (q : Sort) (a : Result Answer SqlFault) → kept_of q [] request ≡ kept ((request ∷ []) ∷ []) [] → transaction_at s session ≡ None → held ≡ [] → AsksSo s.shared.world.catalog place (Executes e) request
+    pub alone_lasts : (q : Sort) (a : Result Answer SqlFault) → kept_of q [] request ≡ kept ((request ∷ []) ∷ []) []
+        → transaction_at s session ≡ None → held ≡ [] → AsksSo s.shared.world.catalog place (Executes e) request
         → (is_defining e.bound.statement || is_some (target e.bound.statement)) ≡ true → ((columns : List ResultColumn) (rows : List (List Atom)) → a ≡ Ok (Rows columns rows) → ⊥)
-        → IsKeptSo s.shared now (entries (is_lasting e.bound.statement a)) → IsStep s session (answers a) [] (kept_so q held request s.shared.world.catalog session (answers a)) (entries (is_lasting e.bound.statement a))
-    alone_lasts q a one is empty h changes rowless w = subst (λ rs. IsStep s session (answers a) [] (kept_so q rs request s.shared.world.catalog session (answers a)) (entries (is_lasting e.bound.statement a))) (sym empty) (by a rowless w)
+        → IsKeptSo s.shared now (entries (is_lasting e.bound.statement a))
+        → IsStep s session (answers a) [] (kept_so q held request s.shared.world.catalog session (answers a)) (entries (is_lasting e.bound.statement a))
+    alone_lasts q a one is empty h changes rowless w = subst
+        (λ rs. IsStep s session (answers a) [] (kept_so q rs request s.shared.world.catalog session (answers a)) (entries (is_lasting e.bound.statement a))) (sym empty) (by a rowless w)
       where
         same : s.sessions ≡ slice_set s.sessions place None
         same = set_back s.sessions place None ∙ ap (slice_set s.sessions place) is
 
-        accepted : (answer : Answer) → IsKeptSo s.shared now (entries (is_defining e.bound.statement || is_some (target e.bound.statement))) → IsStep s session (answers (Ok answer)) [] (kept_of q [] request) (entries (is_defining e.bound.statement || is_some (target e.bound.statement)))
+        accepted : (answer : Answer) → IsKeptSo s.shared now (entries (is_defining e.bound.statement || is_some (target e.bound.statement)))
+            → IsStep s session (answers (Ok answer)) [] (kept_of q [] request) (entries (is_defining e.bound.statement || is_some (target e.bound.statement)))
         accepted answer w =
             subst (λ k. IsStep s session (answers (Ok answer)) [] k (entries (is_defining e.bound.statement || is_some (target e.bound.statement)))) (sym one)
             (subst (λ b. IsStep s session (answers (Ok answer)) [] (kept ((request ∷ []) ∷ []) []) (entries b)) (sym changes) (record {
               slot = None;
               sessions = same;
               holds = refl;
-              goes = record_goes s.shared now (request ∷ []) (call_of session (Executes e) ∷ []) (one_makes s.shared session (Executes e) request h changes) (subst (λ b. IsKeptSo s.shared now (entries b)) changes w);
+              goes = record_goes s.shared now (request ∷ []) (call_of session (Executes e) ∷ [])
+                  (one_makes s.shared session (Executes e) request h changes) (subst (λ b. IsKeptSo s.shared now (entries b)) changes w);
             }))
 
-        by : (a : Result Answer SqlFault) → ((columns : List ResultColumn) (rows : List (List Atom)) → a ≡ Ok (Rows columns rows) → ⊥) → IsKeptSo s.shared now (entries (is_lasting e.bound.statement a))
+        by : (a : Result Answer SqlFault) → ((columns : List ResultColumn) (rows : List (List Atom)) → a ≡ Ok (Rows columns rows) → ⊥)
+            → IsKeptSo s.shared now (entries (is_lasting e.bound.statement a))
             → IsStep s session (answers a) [] (kept_so q [] request s.shared.world.catalog session (answers a)) (entries (is_lasting e.bound.statement a))
         by (Ok (Rows columns rows)) rowless w = absurd (rowless columns rows refl)
         by (Ok (Changed count)) rowless w = accepted (Changed count) w
@@ -125,11 +150,13 @@ module _ (s : State) (session : ℕ) (request : Request) (held : List Request) w
             subst (λ o. IsStep s session (answers (Err f)) [] (kept_where (is_some o) []) []) (sym is)
             (record { slot = None; sessions = same; holds = refl; goes = nothing_goes s.shared now w })
 
-    pub alone_reads : (a : Result Answer SqlFault) → transaction_at s session ≡ None → held ≡ [] → is_lasting e.bound.statement a ≡ false → IsKeptSo s.shared now (entries (is_lasting e.bound.statement a))
+    pub alone_reads : (a : Result Answer SqlFault) → transaction_at s session ≡ None → held ≡ []
+        → is_lasting e.bound.statement a ≡ false → IsKeptSo s.shared now (entries (is_lasting e.bound.statement a))
         → IsStep s session (answers a) [] (kept_so sort.Reads held request s.shared.world.catalog session (answers a)) (entries (is_lasting e.bound.statement a))
     alone_reads a is empty passes w =
         subst (λ b. IsStep s session (answers a) [] (kept_so sort.Reads held request s.shared.world.catalog session (answers a)) (entries b)) (sym passes)
-        (subst (λ rs. IsStep s session (answers a) [] (kept_so sort.Reads rs request s.shared.world.catalog session (answers a)) []) (sym empty) (by (is_done (answered s.shared.world.catalog a (record s { shared = now })).replies)))
+        (subst (λ rs. IsStep s session (answers a) [] (kept_so sort.Reads rs request s.shared.world.catalog session (answers a)) [])
+        (sym empty) (by (is_done (answered s.shared.world.catalog a (record s { shared = now })).replies)))
       where
         step : IsStep s session (answers a) [] (kept [] []) []
         step = record {
@@ -145,7 +172,8 @@ module _ (s : State) (session : ℕ) (request : Request) (held : List Request) w
 
   -- ---- a statement in a transaction
 
-  module _ (e : Execution) (t : Transaction) (log : List Deed) (is : transaction_at s session ≡ Some t) (h : IsHeld s.shared.world.catalog t place log held) (work : is_definition e.bound.statement ≡ false) where
+  module _ (e : Execution) (t : Transaction) (log : List Deed) (is : transaction_at s session ≡ Some t)
+      (h : IsHeld s.shared.world.catalog t place log held) (work : is_definition e.bound.statement ≡ false) where
     abbrev next : Transaction
     next = stepped_in t e (counted_step t.own e)
 
@@ -166,10 +194,12 @@ module _ (s : State) (session : ℕ) (request : Request) (held : List Request) w
     still : (a : Result Answer SqlFault) → LeavesOwn a → is_lasting e.bound.statement a ≡ false → IsStep s session (tells a) (log ++ deed e a ∷ []) (kept [] held) []
     still a leaves passes = record { slot = Some next; sessions = refl; holds = held_still s.shared.world.catalog t next place log held h refl (deed e a) (leaves passes) passes; goes = stays }
 
-    still_open : (a : Result Answer SqlFault) → LeavesOwn a → is_lasting e.bound.statement a ≡ false → IsStep s session (tells a) (log ++ deed e a ∷ []) (kept_where (has_transaction goes_to session) held) []
+    still_open : (a : Result Answer SqlFault) → LeavesOwn a → is_lasting e.bound.statement a ≡ false
+        → IsStep s session (tells a) (log ++ deed e a ∷ []) (kept_where (has_transaction goes_to session) held) []
     still_open a leaves passes = subst (λ o. IsStep s session (tells a) (log ++ deed e a ∷ []) (kept_where (is_some o) held) []) (sym there) (still a leaves passes)
 
-    pub reads_in : (a : Result Answer SqlFault) → LeavesOwn a → is_lasting e.bound.statement a ≡ false → IsStep s session (tells a) (log ++ deed e a ∷ []) (kept_so sort.Reads held request t.own.world.catalog session (tells a)) []
+    pub reads_in : (a : Result Answer SqlFault) → LeavesOwn a → is_lasting e.bound.statement a ≡ false
+        → IsStep s session (tells a) (log ++ deed e a ∷ []) (kept_so sort.Reads held request t.own.world.catalog session (tells a)) []
     reads_in a leaves passes = by (is_done (answered t.own.world.catalog a goes_to).replies)
       where
         by : (b : Bool) → IsStep s session (tells a) (log ++ deed e a ∷ []) (if b then kept [] held else kept_where (has_transaction goes_to session) held) []
@@ -177,7 +207,8 @@ module _ (s : State) (session : ℕ) (request : Request) (held : List Request) w
         by false = still_open a leaves passes
 
     pub changes_in : (a : Result Answer SqlFault) → LeavesOwn a → AsksSo t.own.world.catalog place (Executes e) request → (is_defining e.bound.statement || is_some (target e.bound.statement)) ≡ true
-        → ((columns : List ResultColumn) (rows : List (List Atom)) → a ≡ Ok (Rows columns rows) → ⊥) → IsStep s session (tells a) (log ++ deed e a ∷ []) (kept_so sort.Changes held request t.own.world.catalog session (tells a)) []
+        → ((columns : List ResultColumn) (rows : List (List Atom)) → a ≡ Ok (Rows columns rows) → ⊥)
+        → IsStep s session (tells a) (log ++ deed e a ∷ []) (kept_so sort.Changes held request t.own.world.catalog session (tells a)) []
     changes_in a leaves k changes rowless = by a leaves rowless
       where
         accepted : (answer : Answer) → IsStep s session (tells (Ok answer)) (log ++ deed e (Ok answer) ∷ []) (kept_of sort.Changes held request) []

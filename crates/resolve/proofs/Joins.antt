@@ -13,7 +13,8 @@ use Rattle.expression_binding.specs.Seen.{source_seen}
 use Rattle.resolve.specs.Seen.{joined_seen}
 use Rattle.expression_binding.proofs.Interface.{onto, onto_push}
 
-pub joins_more : (declarations : List ParamDecl) (whole : Result (List BoundJoin) SqlFault) (before scope : Scope) (made : List code_join.BoundJoin) (one : code_join.BoundJoin) (joins : List code.Joined) (i : ℕ) (join : code.Joined)
+pub joins_more : (declarations : List ParamDecl) (whole : Result (List BoundJoin) SqlFault) (before scope : Scope)
+    (made : List code_join.BoundJoin) (one : code_join.BoundJoin) (joins : List code.Joined) (i : ℕ) (join : code.Joined)
     → i < length joins → join ≡ get_or joins i join → whole ≡ onto (map join_of made) (bind_joins declarations before (map joined_seen (drop i joins)))
     → scope ≡ with_source before (source_seen join.source) → bind_join scope declarations (joined_seen join) ≡ Ok (join_of one)
     → whole ≡ onto (map join_of (made ++ one ∷ [])) (bind_joins declarations scope (map joined_seen (drop (i + 1) joins)))

@@ -12,7 +12,25 @@ use Rattle.sql_tree.specs.Operands as operands
 use Rattle.sql_tree.specs.Conditions.{Condition}
 use Rattle.sql_tree.specs.Statements as tree
 use Rattle.sql_tree.specs.Bound as bound
-use Rattle.sql_tree.specs.Uses.{uses_in_filter, uses_in_row, uses_in_assignment, uses_in_value, uses_in_item, uses_in_join, uses_in_statement, renamed_operand, renamed_condition, renamed_filter, renamed_row, renamed_assignment, renamed_value, renamed_item, renamed_join, renamed_query, renamed_statement}
+use Rattle.sql_tree.specs.Uses.{
+  uses_in_filter,
+  uses_in_row,
+  uses_in_assignment,
+  uses_in_value,
+  uses_in_item,
+  uses_in_join,
+  uses_in_statement,
+  renamed_operand,
+  renamed_condition,
+  renamed_filter,
+  renamed_row,
+  renamed_assignment,
+  renamed_value,
+  renamed_item,
+  renamed_join,
+  renamed_query,
+  renamed_statement,
+}
 use Rattle.catalog.specs.Catalogs.{Catalog}
 use Rattle.expression_binding.specs.Walks.{each_from}
 use Rattle.expression_binding.specs.Scopes.{Scope, ScopeColumn, nothing_in_scope, scope_of, with_source, named_place}
@@ -33,7 +51,8 @@ use Rattle.resolve.proofs.QueryParts.{made, ordered, grouped, filtered, joined, 
 row_kept : (ds es : List ParamDecl) (f : ℕ → ℕ) (o : tree.ValueRow) (b : bound.BoundRow) → bind_row ds o ≡ Ok b → Keeps ds es f (λ p. uses_in_row p b) → bind_row es o ≡ Ok (renamed_row f b)
 row_kept ds es f o b e =
     one_part (bind_operands nothing_in_scope ds o.values) (λ vs. record { at = o.at; values = vs }) b (λ z. Keeps ds es f (λ p. uses_in_row p z) → bind_row es o ≡ Ok (renamed_row f z)) e
-    (λ vs ev k. one_ok (bind_operands nothing_in_scope es o.values) (map (renamed_operand f) vs) (λ y. Ok (record { at = o.at; values = y })) _ (operands_kept nothing_in_scope ds es f o.values vs ev k) refl)
+    (λ vs ev k. one_ok (bind_operands nothing_in_scope es o.values) (map (renamed_operand f) vs)
+    (λ y. Ok (record { at = o.at; values = y })) _ (operands_kept nothing_in_scope ds es f o.values vs ev k) refl)
 
 insert_kept : (ds es : List ParamDecl) (f : ℕ → ℕ) (def : TableDef) (table : List ℕ) (names : Option (List (List ℕ))) (rows : List tree.ValueRow) (b : bound.BoundInsert)
     → bind_insert ds def table names rows ≡ Ok b → Keeps ds es f (λ p. list_any (uses_in_row p) b.rows)
@@ -59,8 +78,10 @@ update_kept ds es f def table all filter b e =
     two_parts (each_from (nth_assignment ds def (table_scope table def) all) 0 all) (bind_filter (table_scope table def) ds filter) (λ a c. record { table = table; assignments = a; filter = c }) b
     (λ z. Keeps ds es f (λ p. list_any (uses_in_assignment p) z.assignments || uses_in_filter p z.filter)
     → bind_update es def table all filter ≡ Ok (record { table = z.table; assignments = map (renamed_assignment f) z.assignments; filter = renamed_filter f z.filter })) e
-    (λ a c ea ec k. two_ok (each_from (nth_assignment es def (table_scope table def) all) 0 all) (bind_filter (table_scope table def) es filter) (λ a c. record { table = table; assignments = a; filter = c }) (map (renamed_assignment f) a) (renamed_filter f c)
-    (each_from_kept ds es f (nth_assignment ds def (table_scope table def) all) (nth_assignment es def (table_scope table def) all) uses_in_assignment (renamed_assignment f) (λ i x y. assignment_kept ds es f def (table_scope table def) _ x y) all 0 a ea
+    (λ a c ea ec k. two_ok (each_from (nth_assignment es def (table_scope table def) all) 0 all)
+    (bind_filter (table_scope table def) es filter) (λ a c. record { table = table; assignments = a; filter = c }) (map (renamed_assignment f) a) (renamed_filter f c)
+    (each_from_kept ds es f (nth_assignment ds def (table_scope table def) all) (nth_assignment es def (table_scope table def) all)
+    uses_in_assignment (renamed_assignment f) (λ i x y. assignment_kept ds es f def (table_scope table def) _ x y) all 0 a ea
     (left (λ p. list_any (uses_in_assignment p) a) (λ p. uses_in_filter p c) k))
     (filter_kept (table_scope table def) ds es f filter c ec (right (λ p. list_any (uses_in_assignment p) a) (λ p. uses_in_filter p c) k)))
 
@@ -69,7 +90,8 @@ delete_kept : (ds es : List ParamDecl) (f : ℕ → ℕ) (def : TableDef) (table
 delete_kept ds es f def table filter b e =
     one_part (bind_filter (table_scope table def) ds filter) (λ c. record { table = table; filter = c }) b
     (λ z. Keeps ds es f (λ p. uses_in_filter p z.filter) → bind_delete es def table filter ≡ Ok (record { table = z.table; filter = renamed_filter f z.filter })) e
-    (λ c ec k. one_ok (bind_filter (table_scope table def) es filter) (renamed_filter f c) (λ c. Ok (record { table = table; filter = c })) _ (filter_kept (table_scope table def) ds es f filter c ec k) refl)
+    (λ c ec k. one_ok (bind_filter (table_scope table def) es filter) (renamed_filter f c)
+    (λ c. Ok (record { table = table; filter = c })) _ (filter_kept (table_scope table def) ds es f filter c ec k) refl)
 
 -- ---- queries
 
@@ -93,10 +115,12 @@ starred_kept f at (c ∷ cs) i = ap (λ z. record { title = c.column.name; value
 
 items_kept : (s : Scope) (ds es : List ParamDecl) (f : ℕ → ℕ) (o : tree.Items) (b : List bound.BoundItem) → bind_items s ds o ≡ Ok b → Keeps ds es f (λ p. list_any (uses_in_item p) b)
     → bind_items s es o ≡ Ok (map (renamed_item f) b)
-items_kept s ds es f (tree.Star at) b e k = let i : star_items at 0 s.columns ≡ b = cc in subst (λ z. bind_items s es (tree.Star at) ≡ Ok (map (renamed_item f) z)) i (ap Ok (sym (starred_kept f at s.columns 0)))
+items_kept s ds es f (tree.Star at) b e k = let i : star_items at 0 s.columns ≡ b = cc in subst
+    (λ z. bind_items s es (tree.Star at) ≡ Ok (map (renamed_item f) z)) i (ap Ok (sym (starred_kept f at s.columns 0)))
 items_kept s ds es f (tree.Listed items) b e k = each_kept ds es f (bind_item s ds) (bind_item s es) uses_in_item (renamed_item f) (λ x y. item_kept s ds es f x y) items b e k
 
-join_kept : (s : Scope) (ds es : List ParamDecl) (f : ℕ → ℕ) (o : Joined) (b : bound.BoundJoin) → bind_join s ds o ≡ Ok b → Keeps ds es f (λ p. uses_in_join p b) → bind_join s es o ≡ Ok (renamed_join f b)
+join_kept : (s : Scope) (ds es : List ParamDecl) (f : ℕ → ℕ) (o : Joined) (b : bound.BoundJoin) → bind_join s ds o ≡ Ok b
+    → Keeps ds es f (λ p. uses_in_join p b) → bind_join s es o ≡ Ok (renamed_join f b)
 join_kept s ds es f o b e =
     one_part (bind_condition s ds o.on) _ b (λ z. Keeps ds es f (λ p. uses_in_join p z) → bind_join s es o ≡ Ok (renamed_join f z)) e
     (λ c ec k. one_ok (bind_condition s es o.on) (renamed_condition f c) _ _ (condition_kept s ds es f o.on c ec k) refl)
@@ -105,16 +129,20 @@ joins_kept : (ds es : List ParamDecl) (f : ℕ → ℕ) (joins : List Joined) (s
     → bind_joins es s joins ≡ Ok (map (renamed_join f) b)
 joins_kept ds es f [] s b e = let i : [] ≡ b = cc in subst (λ z. Keeps ds es f (λ p. list_any (uses_in_join p) z) → bind_joins es s [] ≡ Ok (map (renamed_join f) z)) i (λ k. refl)
 joins_kept ds es f (j ∷ js) s b e =
-    two_parts (bind_join (with_source s j.source) ds j) (bind_joins ds (with_source s j.source) js) ◌∷◌ b (λ z. Keeps ds es f (λ p. list_any (uses_in_join p) z) → bind_joins es s (j ∷ js) ≡ Ok (map (renamed_join f) z)) e
+    two_parts (bind_join (with_source s j.source) ds j) (bind_joins ds (with_source s j.source) js) ◌∷◌ b
+    (λ z. Keeps ds es f (λ p. list_any (uses_in_join p) z) → bind_joins es s (j ∷ js) ≡ Ok (map (renamed_join f) z)) e
     (λ a m ea em k. two_ok (bind_join (with_source s j.source) es j) (bind_joins es (with_source s j.source) js) ◌∷◌ (renamed_join f a) (map (renamed_join f) m)
-    (join_kept (with_source s j.source) ds es f j a ea (left (λ p. uses_in_join p a) (λ p. list_any (uses_in_join p) m) k)) (joins_kept ds es f js (with_source s j.source) m em (right (λ p. uses_in_join p a) (λ p. list_any (uses_in_join p) m) k)))
+    (join_kept (with_source s j.source) ds es f j a ea (left (λ p. uses_in_join p a) (λ p. list_any (uses_in_join p) m) k))
+    (joins_kept ds es f js (with_source s j.source) m em (right (λ p. uses_in_join p a) (λ p. list_any (uses_in_join p) m) k)))
 
 abbrev KeptQuery : List ParamDecl → List ParamDecl → (ℕ → ℕ) → Sources → tree.Query → bound.BoundQuery → Type 0
 KeptQuery ds es f sources q z =
     Keeps ds es f (λ p. list_any (uses_in_item p) z.items || (list_any (uses_in_join p) z.joins || uses_in_filter p z.filter)) → bind_query es sources q ≡ Ok (renamed_query f z)
 
-parts_kept : (ds es : List ParamDecl) (f : ℕ → ℕ) (sources : Sources) (q : tree.Query) (items : List bound.BoundItem) (joins : List bound.BoundJoin) (filter : Option (Condition ℕ ℕ)) (group : List PlaceAt) (order : List BoundOrderKey)
-    → bind_items (scope_of (all_sources sources)) ds q.items ≡ Ok items → bind_joins ds (scope_of (sources.from ∷ [])) sources.joins ≡ Ok joins → bind_filter (scope_of (all_sources sources)) ds q.filter ≡ Ok filter
+parts_kept : (ds es : List ParamDecl) (f : ℕ → ℕ) (sources : Sources) (q : tree.Query) (items : List bound.BoundItem)
+    (joins : List bound.BoundJoin) (filter : Option (Condition ℕ ℕ)) (group : List PlaceAt) (order : List BoundOrderKey)
+    → bind_items (scope_of (all_sources sources)) ds q.items ≡ Ok items → bind_joins ds (scope_of (sources.from ∷ [])) sources.joins ≡ Ok joins
+    → bind_filter (scope_of (all_sources sources)) ds q.filter ≡ Ok filter
     → each (bind_column_at (scope_of (all_sources sources))) q.group_by ≡ Ok group → each (bind_key (scope_of (all_sources sources))) q.order_by ≡ Ok order
     → KeptQuery ds es f sources q (made q sources items joins filter group order)
 parts_kept ds es f sources q items joins filter group order ei ej ec eg eo k =

@@ -77,7 +77,8 @@ module _ (used : ℕ → Bool) where
       position_among p xs (suc first) j s (subst (λ z. position_from p z xs ≡ Some (suc first + j)) next (h ∙ ap Some (sym there))) (ap used there ∙ u))
     where
       rest : (t b : Bool) → p x ≡ false → ((s : ℕ) → position_from p s (used_among used (suc first) xs) ≡ Some (s + place_among used (suc first) j))
-          → position_from p start (cond b (x ∷ used_among used (suc first) xs) (used_among used (suc first) xs)) ≡ Some (start + cond b (suc (place_among used (suc first) j)) (place_among used (suc first) j))
+          → position_from p start (cond b (x ∷ used_among used (suc first) xs) (used_among used (suc first) xs))
+          ≡ Some (start + cond b (suc (place_among used (suc first) j)) (place_among used (suc first) j))
       rest t true h more =
           let one : (start + 1) + place_among used (suc first) j ≡ start + suc (place_among used (suc first) j) = omega arith in
           ap (λ b. cond b (Some start) (position_from p (start + 1) (used_among used (suc first) xs))) h ∙ more (start + 1) ∙ ap Some one

@@ -40,13 +40,15 @@ joined ds q sources items = bind_joins ds (scope_of (sources.from ∷ [])) sourc
 abbrev both : List PlaceAt → List BoundOrderKey → List PlaceAt × List BoundOrderKey
 both group order = (group, order)
 
-order_alike : (q : tree.Query) (sources : Sources) (items : List bound.BoundItem) (joins : List bound.BoundJoin) (filter : Option (Condition ℕ ℕ)) (group : Result (List PlaceAt) SqlFault) (order : Result (List BoundOrderKey) SqlFault)
+order_alike : (q : tree.Query) (sources : Sources) (items : List bound.BoundItem) (joins : List bound.BoundJoin)
+    (filter : Option (Condition ℕ ℕ)) (group : Result (List PlaceAt) SqlFault) (order : Result (List BoundOrderKey) SqlFault)
     → ((group >>= λ g. order >>= λ o. Ok (both g o)) >>= λ z. Ok (made q sources items joins filter z.0 z.1)) ≡ (group >>= λ g. order >>= λ o. Ok (made q sources items joins filter g o))
 order_alike q sources items joins filter (Err e) order = refl
 order_alike q sources items joins filter (Ok g) (Err e) = refl
 order_alike q sources items joins filter (Ok g) (Ok o) = refl
 
-parts_alike : (q : tree.Query) (sources : Sources) (items : Result (List bound.BoundItem) SqlFault) (joins : Result (List bound.BoundJoin) SqlFault) (filter : Result (Option (Condition ℕ ℕ)) SqlFault) (group : Result (List PlaceAt) SqlFault) (order : Result (List BoundOrderKey) SqlFault)
+parts_alike : (q : tree.Query) (sources : Sources) (items : Result (List bound.BoundItem) SqlFault)
+    (joins : Result (List bound.BoundJoin) SqlFault) (filter : Result (Option (Condition ℕ ℕ)) SqlFault) (group : Result (List PlaceAt) SqlFault) (order : Result (List BoundOrderKey) SqlFault)
     → (items >>= λ i. joins >>= λ j. filter >>= λ f. (group >>= λ g. order >>= λ o. Ok (both g o)) >>= λ z. Ok (made q sources i j f z.0 z.1))
     ≡ (items >>= λ i. joins >>= λ j. filter >>= λ f. group >>= λ g. order >>= λ o. Ok (made q sources i j f g o))
 parts_alike q sources (Err e) joins filter group order = refl

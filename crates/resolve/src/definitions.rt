@@ -5,7 +5,31 @@ ghost use Rattle.std.specs.List.{flat_map, list_any};
 ghost use Rattle.std.specs.Str.{bytes_eq};
 ghost use Rattle.ae_base.specs.Results.{each, Answers};
 ghost use Rattle.expression_binding.specs.Walks.{each_from};
-ghost use Rattle.resolve.specs.Definitions.{alone, bind_column, bind_definition, column_behind, key_column_behind, bind_key_column, bind_table, bind_unique, enc_for, enc_of, key_for, key_path, listed_name, master_for, bind_key_value, bind_second_value, bind_key_values, name_of, new_name, place_of_key, places_of_list, word_keys, wrapped_key};
+ghost use Rattle.resolve.specs.Definitions.{
+  alone,
+  bind_column,
+  bind_definition,
+  column_behind,
+  key_column_behind,
+  bind_key_column,
+  bind_table,
+  bind_unique,
+  enc_for,
+  enc_of,
+  key_for,
+  key_path,
+  listed_name,
+  master_for,
+  bind_key_value,
+  bind_second_value,
+  bind_key_values,
+  name_of,
+  new_name,
+  place_of_key,
+  places_of_list,
+  word_keys,
+  wrapped_key,
+};
 
 use crate::sources::table_for;
 use ae_base::blobs::Blob;

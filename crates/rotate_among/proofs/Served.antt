@@ -41,11 +41,13 @@ served_leaves (Printed comes ∷ events) b v h = served_leaves events b v h
 abbrev Leads : Beside → Passed Beside → Type 0
 Leads b p = p.state.state ≡ behind_all b (requests_in p.exchanges)
 
-leads_on : (b : Beside) (entropy : List ℕ) (onward : Heard → ℕ → List Reply → Passed Beside) → ((heard : Heard) (n : ℕ) (left : List Reply) → Leads b (onward heard n left)) → (l : Listened) → Leads b (passed_on onward entropy b l)
+leads_on : (b : Beside) (entropy : List ℕ) (onward : Heard → ℕ → List Reply → Passed Beside)
+    → ((heard : Heard) (n : ℕ) (left : List Reply) → Leads b (onward heard n left)) → (l : Listened) → Leads b (passed_on onward entropy b l)
 leads_on b entropy onward h (Caught heard n left) = h heard n left
 leads_on b entropy onward h (Lost comes n) = refl
 
-leads_by : (b : Beside) (entropy : List ℕ) (onward : List ℕ → List ℕ → Passed Beside) → ((bytes left : List ℕ) → Leads b (onward bytes left)) → (short : Bool) → Leads b (passed_by onward entropy b short)
+leads_by : (b : Beside) (entropy : List ℕ) (onward : List ℕ → List ℕ → Passed Beside)
+    → ((bytes left : List ℕ) → Leads b (onward bytes left)) → (short : Bool) → Leads b (passed_by onward entropy b short)
 leads_by b entropy onward h true = refl
 leads_by b entropy onward h false = h (take 16 entropy) (drop 16 entropy)
 
@@ -58,7 +60,8 @@ over_leaves keys (Asks request t) taken entropy b queue =
 over_leaves keys (Hears session shown f) taken entropy b queue =
     leads_on b entropy (λ heard n left. over serve_beside keys (f heard) n entropy b left) (λ heard n left. over_leaves keys (f heard) n entropy b left) (listen broken queue session shown taken)
 over_leaves keys (Notes session shown f) taken entropy b queue =
-    leads_on b entropy (λ heard n left. over serve_beside keys (f heard) n entropy b left) (λ heard n left. over_leaves keys (f heard) n entropy b left) (listen nothing_broken queue session shown taken)
+    leads_on b entropy (λ heard n left. over serve_beside keys (f heard) n entropy b left)
+    (λ heard n left. over_leaves keys (f heard) n entropy b left) (listen nothing_broken queue session shown taken)
 over_leaves keys (Draws f) taken entropy b queue =
     leads_by b entropy (λ bytes left. over serve_beside keys (f bytes) taken left b queue) (λ bytes left. over_leaves keys (f bytes) taken left b queue) (nat_lt (length entropy) 16)
 over_leaves keys (Opens meta f) taken entropy b queue = over_leaves keys (f (open_key keys meta)) taken entropy b queue

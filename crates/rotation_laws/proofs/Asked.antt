@@ -51,7 +51,8 @@ executed_by m sent e (Ok atoms) free q h =
     let same : execution m.bound m.encs atoms ≡ e = cc in
     record { atoms = atoms; suits = q; is = sym same }
 
-executed : (catalog : Catalog) (batch : Batch) (d : Deed) (m : Meant) (deed : IsDeedOf catalog batch d) → understood catalog batch.text (declared batch) ≡ Ok m → ((e : Execution) → ask_by m.bound.statement e ≡ Executes e)
+executed : (catalog : Catalog) (batch : Batch) (d : Deed) (m : Meant) (deed : IsDeedOf catalog batch d)
+    → understood catalog batch.text (declared batch) ≡ Ok m → ((e : Execution) → ask_by m.bound.statement e ≡ Executes e)
     → IsExecuted m deed.sent d.execution
 executed catalog batch d m deed means free =
     let same : asked_by catalog batch deed.sent ≡ ((suited m.encs deed.sent >>= λ atoms. Ok (m, atoms)) >>= λ ready. Ok (ask_of ready)) =
@@ -88,7 +89,8 @@ read_deed catalog table def width rows d r wide h =
       answer = h.answer;
     }
 
-put_deed : (catalog : Catalog) (table : List ℕ) (def : TableDef) (columns : List SentColumn) (row : List Value) (d : Deed) (p : IsPut catalog table def columns row) → IsRowPut catalog table columns row d → HasPut table (length columns) d
+put_deed : (catalog : Catalog) (table : List ℕ) (def : TableDef) (columns : List SentColumn) (row : List Value) (d : Deed) (p : IsPut catalog table def columns row)
+    → IsRowPut catalog table columns row d → HasPut table (length columns) d
 put_deed catalog table def columns row d p h =
     let e = executed catalog (puts table columns row) d p.meant h.deed p.means (λ e. ap (λ s. ask_by s e) p.is) in
     let sent : length h.deed.sent ≡ length columns =
@@ -123,7 +125,8 @@ module _ (grammar : TreeIsTheGrammars) (catalog : Catalog) (old new : List ℕ) 
       let p = put grammar catalog new b.into columns row b.new_named b.columns_named b.new_there b.new_columns names_apart b.some b.few h.0.wide in
       All-cons (HasPut new (length columns)) d deeds (put_deed catalog new b.into columns row d p h.0) (puts_deeds rows deeds h.1)
 
-  reads : (table : List ℕ) (def : TableDef) (rows : List (List Atom)) (d : Deed) → table_named catalog table ≡ Some def → AreColumnsOf columns def → IsIdentifier table → IsRead catalog table rows d → HasRead table (length columns) rows d
+  reads : (table : List ℕ) (def : TableDef) (rows : List (List Atom)) (d : Deed) → table_named catalog table ≡ Some def
+      → AreColumnsOf columns def → IsIdentifier table → IsRead catalog table rows d → HasRead table (length columns) rows d
   reads table def rows d there of named h =
       let wide = columns_wide columns def of in
       read_deed catalog table def (length columns) rows d (read_whole catalog table def named there (omega (arith, wide, b.some)) (omega (arith, wide, b.few))) wide h

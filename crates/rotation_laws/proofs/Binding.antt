@@ -1,5 +1,33 @@
 -- What the statements of a rotation are bound to.
-use Rattle.std.proofs.Common.{◌≡◌, ◌≢◌, ◌==◌, ℕ, ◌+◌, ◌≤◌, Bool, true, false, List, [], ◌∷◌, ◌++◌, length, map, Some, Ok, refl, sym, ◌∙◌, ap, arith, flat_map, suc, append_assoc, append-nil, length-append}
+use Rattle.std.proofs.Common.{
+  ◌≡◌,
+  ◌≢◌,
+  ◌==◌,
+  ℕ,
+  ◌+◌,
+  ◌≤◌,
+  Bool,
+  true,
+  false,
+  List,
+  [],
+  ◌∷◌,
+  ◌++◌,
+  length,
+  map,
+  Some,
+  Ok,
+  refl,
+  sym,
+  ◌∙◌,
+  ap,
+  arith,
+  flat_map,
+  suc,
+  append_assoc,
+  append-nil,
+  length-append,
+}
 use Rattle.std.specs.List.{list_any}
 use Rattle.std.specs.Str.{bytes_eq}
 use Rattle.std.proofs.lemmas.Bool.{le-ltb}
@@ -38,7 +66,8 @@ pub fine : (b : Bound) → clashes b ≡ [] → ungrouped_places b ≡ [] → is
 unfolding check_of
 fine b clash group long = rw (clash, group, long) refl
 
-pub bound_fine : (catalog : Catalog) (statement : Statement) (declarations : List ParamDecl) (b : Bound) → resolution catalog statement declarations ≡ Ok b → check_of b ≡ Ok tt → bind catalog statement declarations ≡ Ok b
+pub bound_fine : (catalog : Catalog) (statement : Statement) (declarations : List ParamDecl) (b : Bound)
+    → resolution catalog statement declarations ≡ Ok b → check_of b ≡ Ok tt → bind catalog statement declarations ≡ Ok b
 unfolding bind
 bound_fine catalog statement declarations b e h = rw (e, h) refl
 
@@ -86,7 +115,8 @@ star_shown name at before (c ∷ columns) =
     let first = site_there before (site_of c) (map site_of columns) in
     let seam : before ++ site_of c ∷ map site_of columns ≡ (before ++ site_of c ∷ []) ++ map site_of columns = sym (append_assoc before (site_of c ∷ []) (map site_of columns)) in
     let long : length (before ++ site_of c ∷ []) ≡ length before + 1 = length-append before (site_of c ∷ []) in
-    ap (λ (s : ColumnSite). record { title = c.name; ty = s.ty; enc = s.enc } ∷ map (result_column (before ++ site_of c ∷ map site_of columns) [] []) (star_items at (length before + 1) (columns_under name columns))) first
+    ap (λ (s : ColumnSite). record { title = c.name; ty = s.ty; enc = s.enc } ∷ map
+    (result_column (before ++ site_of c ∷ map site_of columns) [] []) (star_items at (length before + 1) (columns_under name columns))) first
     ∙ ap (λ rest. shown_column c ∷ rest)
     (ap (λ sites. map (result_column sites [] []) (star_items at (length before + 1) (columns_under name columns))) seam
     ∙ ap (λ n. map (result_column ((before ++ site_of c ∷ []) ++ map site_of columns) [] []) (star_items at n (columns_under name columns))) (sym long)

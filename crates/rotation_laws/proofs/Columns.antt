@@ -1,5 +1,37 @@
 -- The columns and the parameters of INSERT INTO a table of listed columns, by their places.
-use Rattle.std.proofs.Common.{◌≡◌, ℕ, suc, ◌+◌, ◌^◌, ◌≤◌, ◌<◌, Bool, true, false, cond, not, List, [], ◌∷◌, ◌++◌, length, map, take, drop, Some, Ok, refl, sym, ◌∙◌, ap, subst, arith, append_assoc, length-append, lt-ltb}
+use Rattle.std.proofs.Common.{
+  ◌≡◌,
+  ℕ,
+  suc,
+  ◌+◌,
+  ◌^◌,
+  ◌≤◌,
+  ◌<◌,
+  Bool,
+  true,
+  false,
+  cond,
+  not,
+  List,
+  [],
+  ◌∷◌,
+  ◌++◌,
+  length,
+  map,
+  take,
+  drop,
+  Some,
+  Ok,
+  refl,
+  sym,
+  ◌∙◌,
+  ap,
+  subst,
+  arith,
+  append_assoc,
+  length-append,
+  lt-ltb,
+}
 use Rattle.std.specs.Bool.{one_answer}
 use Rattle.std.specs.List.{list_any, position, position_or_len}
 use Rattle.std.specs.Str.{bytes_eq}
@@ -162,11 +194,13 @@ no_earlier : (k m : ℕ) (cs : List SentColumn) → k + length cs ≤ m → m < 
 no_earlier k m [] h small = refl
 no_earlier k m (c ∷ cs) h small = rw (other_name k m (omega arith) small, no_earlier (k + 1) m cs (omega arith) small) refl
 
-found : (before : List SentColumn) (c : SentColumn) (after : List SentColumn) → length before < 1000 → param_place (declared_from 1 (before ++ c ∷ after)) (param_name (1 + length before)) ≡ Ok (length before)
+found : (before : List SentColumn) (c : SentColumn) (after : List SentColumn) → length before < 1000
+    → param_place (declared_from 1 (before ++ c ∷ after)) (param_name (1 + length before)) ≡ Ok (length before)
 found before c after few =
     let at : position (λ d. bytes_eq d.name (param_name (1 + length before))) (declared_from 1 (before ++ c ∷ after)) ≡ Some (length before) =
     ap (position (λ d. bytes_eq d.name (param_name (1 + length before)))) (declared-append 1 before (c ∷ after))
-    ∙ first_position (λ d. bytes_eq d.name (param_name (1 + length before))) (declared_from 1 before) (record { name = param_name (1 + length before); ty = c.ty }) (declared_from (1 + length before + 1) after)
+    ∙ first_position (λ d. bytes_eq d.name (param_name (1 + length before))) (declared_from 1 before)
+    (record { name = param_name (1 + length before); ty = c.ty }) (declared_from (1 + length before + 1) after)
     (no_earlier 1 (1 + length before) before (omega arith) (omega arith)) (same (param_name (1 + length before)))
     ∙ ap Some (declared-length 1 before) in
     rw at refl
@@ -177,7 +211,8 @@ pub record ValuesBound (all : List SentColumn) (place : ℕ) (rest : List SentCo
   pub put : ArePut place (upto place rest) bound
   pub wide : length bound ≡ length rest
 
-pub values_bound : (all before rest : List SentColumn) (values : List Operand) → all ≡ before ++ rest → length before + length rest ≤ 64 → AreNamed (1 + length before) rest values → ValuesBound all (length before) rest values
+pub values_bound : (all before rest : List SentColumn) (values : List Operand) → all ≡ before ++ rest
+    → length before + length rest ≤ 64 → AreNamed (1 + length before) rest values → ValuesBound all (length before) rest values
 values_bound all before [] [] e few h = record { bound = []; is = refl; put = tt; wide = refl }
 values_bound all before [] (v ∷ values) e few h = absurd h
 values_bound all before (c ∷ rest) [] e few h = absurd h

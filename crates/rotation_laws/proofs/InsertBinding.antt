@@ -1,5 +1,36 @@
 -- What INSERT INTO a table of listed columns is bound to.
-use Rattle.std.proofs.Common.{◌≡◌, ◌==◌, ℕ, suc, ◌+◌, ◌≤◌, nat_le, Bool, true, false, List, [], ◌∷◌, ◌++◌, length, map, Option, Some, None, Ok, refl, sym, subst, ◌∙◌, ap, arith, cond, eq-eqb, append_assoc, length-append}
+use Rattle.std.proofs.Common.{
+  ◌≡◌,
+  ◌==◌,
+  ℕ,
+  suc,
+  ◌+◌,
+  ◌≤◌,
+  nat_le,
+  Bool,
+  true,
+  false,
+  List,
+  [],
+  ◌∷◌,
+  ◌++◌,
+  length,
+  map,
+  Option,
+  Some,
+  None,
+  Ok,
+  refl,
+  sym,
+  subst,
+  ◌∙◌,
+  ap,
+  arith,
+  cond,
+  eq-eqb,
+  append_assoc,
+  length-append,
+}
 use Rattle.std.specs.List.{list_all, slice_get}
 use Rattle.std.specs.Option.{option_map}
 use Rattle.std.proofs.lemmas.Bool.{le-ltb, or_right, and_parts}
@@ -77,7 +108,8 @@ paired_fine types alike i [] [] h = refl
 paired_fine types alike i [] (v ∷ values) h = absurd h
 paired_fine types alike i (p ∷ places) [] h = absurd h
 paired_fine types alike i (p ∷ places) (v ∷ values) h =
-    let kinds : differ (column_kind types i) (option_map kind_of (slice_get types.params i)) ≡ false = ap (λ k. differ k (option_map kind_of (slice_get types.params i))) (alike i) ∙ never_differ (slice_get types.params i) in
+    let kinds : differ (column_kind types i) (option_map kind_of (slice_get types.params i)) ≡ false = ap
+    (λ k. differ k (option_map kind_of (slice_get types.params i))) (alike i) ∙ never_differ (slice_get types.params i) in
     rw (h.0, h.1.1, kinds, paired_fine types alike (i + 1) places values h.2) refl
 
 -- ---- rules
@@ -87,7 +119,8 @@ rules_few i [] values h = omega arith
 rules_few i (p ∷ places) [] h = absurd h
 rules_few i (p ∷ places) (v ∷ values) h = rw (h.1.1) (omega (arith, rules_few (i + 1) places values h.2))
 
-rules_all : (p : Rule → Bool) → ((i at : ℕ) → p (Same (Column i) (Param i) at) ≡ true) → (i : ℕ) (places : List ℕ) (values : List BoundOperand) → ArePut i places values → list_all p (value_rules places values) ≡ true
+rules_all : (p : Rule → Bool) → ((i at : ℕ) → p (Same (Column i) (Param i) at) ≡ true)
+    → (i : ℕ) (places : List ℕ) (values : List BoundOperand) → ArePut i places values → list_all p (value_rules places values) ≡ true
 rules_all p h i [] values put = refl
 rules_all p h i (n ∷ places) [] put = absurd put
 rules_all p h i (n ∷ places) (v ∷ values) put = rw (put.0, put.1.1, h i put.1.0) (rules_all p h (i + 1) places values put.2)
@@ -104,7 +137,8 @@ ordered_length : (rs : List Rule) → length (in_order rs) ≡ length rs
 ordered_length [] = refl
 ordered_length (r ∷ rs) = placed_length r (in_order rs) ∙ ap suc (ordered_length rs)
 
-placed_all_by : (p : Rule → Bool) (r next : Rule) (rs : List Rule) (b : Bool) → p r ≡ true → p next ≡ true → list_all p rs ≡ true → list_all p (placed r rs) ≡ true → list_all p (cond b (r ∷ next ∷ rs) (next ∷ placed r rs)) ≡ true
+placed_all_by : (p : Rule → Bool) (r next : Rule) (rs : List Rule) (b : Bool) → p r ≡ true → p next ≡ true
+    → list_all p rs ≡ true → list_all p (placed r rs) ≡ true → list_all p (cond b (r ∷ next ∷ rs) (next ∷ placed r rs)) ≡ true
 placed_all_by p r next rs true e f h k = rw (e, f) h
 placed_all_by p r next rs false e f h k = rw f k
 
@@ -211,7 +245,8 @@ encs_length typing place [] = refl
 encs_length typing place (ty ∷ tys) = ap suc (encs_length typing (suc place) tys)
 
 -- all rules hold in any order
-placed_parts_by : (p : Rule → Bool) (r next : Rule) (rs : List Rule) (b : Bool) → (list_all p (placed r rs) ≡ true → (p r ≡ true) × (list_all p rs ≡ true)) → list_all p (cond b (r ∷ next ∷ rs) (next ∷ placed r rs)) ≡ true
+placed_parts_by : (p : Rule → Bool) (r next : Rule) (rs : List Rule) (b : Bool)
+    → (list_all p (placed r rs) ≡ true → (p r ≡ true) × (list_all p rs ≡ true)) → list_all p (cond b (r ∷ next ∷ rs) (next ∷ placed r rs)) ≡ true
     → (p r ≡ true) × (list_all p (next ∷ rs) ≡ true)
 placed_parts_by p r next rs true h k = and_parts (p r) (list_all p (next ∷ rs)) k
 placed_parts_by p r next rs false h k =
@@ -233,8 +268,10 @@ enc_there : (before rest : List ColumnDef) (c : ColumnDef) → enc_at (map site_
 enc_there [] rest c = refl
 enc_there (b ∷ before) rest c = enc_there before rest c
 
-encs_each : (defs : List ColumnDef) (tys : List Ty) (typing : Typing) → Agrees (map site_of defs) typing → (before rest : List ColumnDef) → defs ≡ before ++ rest → (places : List ℕ) (values : List BoundOperand) → ArePut (length before) places values
-    → length places ≡ length rest → (own : List Ty) → length own ≡ length rest → list_all (holds tys (map site_of defs) typing) (value_rules places values) ≡ true → encs_from typing (length before) own ≡ map (λ column. column.enc) rest
+encs_each : (defs : List ColumnDef) (tys : List Ty) (typing : Typing) → Agrees (map site_of defs) typing
+    → (before rest : List ColumnDef) → defs ≡ before ++ rest → (places : List ℕ) (values : List BoundOperand) → ArePut (length before) places values
+    → length places ≡ length rest → (own : List Ty) → length own ≡ length rest
+    → list_all (holds tys (map site_of defs) typing) (value_rules places values) ≡ true → encs_from typing (length before) own ≡ map (λ column. column.enc) rest
 encs_each defs tys typing agrees before [] e places values put wide [] long h = refl
 encs_each defs tys typing agrees before [] e places values put wide (t ∷ own) long h = absurd (omega arith)
 encs_each defs tys typing agrees before (c ∷ rest) e places values put wide [] long h = absurd (omega arith)
@@ -244,7 +281,8 @@ encs_each defs tys typing agrees before (c ∷ rest) e (p ∷ places) (v ∷ val
     let i = length before in
     let rule : Rule = Same (Column i) (Param i) put.1.0 in
     let first : value_rules (p ∷ places) (v ∷ values) ≡ rule ∷ value_rules places values = rw (put.0, put.1.1) refl in
-    let q = and_parts (holds tys (map site_of defs) typing rule) (list_all (holds tys (map site_of defs) typing) (value_rules places values)) (ap (list_all (holds tys (map site_of defs) typing)) (sym first) ∙ h) in
+    let q = and_parts (holds tys (map site_of defs) typing rule) (list_all (holds tys (map site_of defs) typing) (value_rules places values))
+    (ap (list_all (holds tys (map site_of defs) typing)) (sym first) ∙ h) in
     let same = and_parts (enc_eq (typing (Column i)) (typing (Param i))) _ q.0 in
     let column : typing (Column i) ≡ c.enc = agrees (Column i) (enc_at (map site_of defs) i) refl ∙ ap (λ ds. enc_at (map site_of ds) i) e ∙ enc_there before rest c in
     let one : typing (Param i) ≡ c.enc = sym ((enc_eq-Decides (typing (Column i)) (typing (Param i))).0 same.0) ∙ column in
@@ -253,7 +291,8 @@ encs_each defs tys typing agrees before (c ∷ rest) e (p ∷ places) (v ∷ val
     ap (λ e. e ∷ encs_from typing (suc i) own) one
     ∙ ap (λ es. c.enc ∷ es)
     (ap (λ n. encs_from typing n own) (sym far)
-    ∙ encs_each defs tys typing agrees (before ++ c ∷ []) rest (e ∙ sym (append_assoc before (c ∷ []) rest)) places values (subst (λ n. ArePut n places values) (sym far_too) put.2) (omega arith) own (omega arith) q.1)
+    ∙ encs_each defs tys typing agrees (before ++ c ∷ []) rest (e ∙ sym (append_assoc before (c ∷ []) rest))
+    places values (subst (λ n. ArePut n places values) (sym far_too) put.2) (omega arith) own (omega arith) q.1)
 
 pub record PutBound (catalog : Catalog) (table : List ℕ) (def : TableDef) (columns : List SentColumn) (at : ℕ) (values : List Operand) : Type 0 where
   pub bound : Bound

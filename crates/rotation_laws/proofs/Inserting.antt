@@ -1,5 +1,34 @@
 -- The tokens of INSERT INTO a table of listed columns.
-use Rattle.std.proofs.Common.{◌≡◌, ℕ, suc, ◌+◌, ◌*◌, ◌%◌, ◌^◌, ◌≤◌, ◌<◌, true, false, List, [], ◌∷◌, ◌++◌, length, take_while, Some, refl, ◌∙◌, ap, arith, append_assoc, encode_utf8_all, codes, length-append, lt-ltb, le-leb}
+use Rattle.std.proofs.Common.{
+  ◌≡◌,
+  ℕ,
+  suc,
+  ◌+◌,
+  ◌*◌,
+  ◌%◌,
+  ◌^◌,
+  ◌≤◌,
+  ◌<◌,
+  true,
+  false,
+  List,
+  [],
+  ◌∷◌,
+  ◌++◌,
+  length,
+  take_while,
+  Some,
+  refl,
+  ◌∙◌,
+  ap,
+  arith,
+  append_assoc,
+  encode_utf8_all,
+  codes,
+  length-append,
+  lt-ltb,
+  le-leb,
+}
 use Rattle.std.specs.Fmt.{decimal}
 use Rattle.std.specs.List.{list_all}
 use Rattle.std.proofs.lemmas.Bool.{and_parts}
@@ -64,7 +93,8 @@ names_encoded : (c : SentColumn) (cs : List SentColumn) (rest : List ℕ) → en
 names_encoded c cs rest =
     ap encode_utf8_all (append_assoc (in_brackets c.title) (more_names cs) rest) ∙ bracketed c.title (more_names cs ++ rest) ∙ ap (name_bytes c.title) (more_names_encoded cs rest)
 
-placeholders_encoded : (c : SentColumn) (cs : List SentColumn) (rest : List ℕ) → 2 + length cs < 2 ^ 64 → encode_utf8_all (placeholders (c ∷ cs) ++ rest) ≡ param_bytes 1 (more_param_bytes 2 cs (encode_utf8_all rest))
+placeholders_encoded : (c : SentColumn) (cs : List SentColumn) (rest : List ℕ) → 2 + length cs < 2 ^ 64
+    → encode_utf8_all (placeholders (c ∷ cs) ++ rest) ≡ param_bytes 1 (more_param_bytes 2 cs (encode_utf8_all rest))
 unfolding encode
 placeholders_encoded c cs rest h =
     ap (λ bytes. 64 ∷ 99 ∷ encode_utf8_all bytes) (append_assoc (decimal 1) (more_placeholders 2 cs) rest)
@@ -139,7 +169,8 @@ names_end : (cs : List SentColumn) (rest : List ℕ) → opens_closing rest ≡ 
 names_end [] rest h = h
 names_end (c ∷ cs) rest h = refl
 
-lexed_more_names : {rest : List ℕ} {ls : List Lexeme} (cs : List SentColumn) → AreIdentifiers cs → opens_closing rest ≡ false → Lexed rest ls → Lexed (more_name_bytes cs rest) (more_name_lexemes cs ls)
+lexed_more_names : {rest : List ℕ} {ls : List Lexeme} (cs : List SentColumn) → AreIdentifiers cs
+    → opens_closing rest ≡ false → Lexed rest ls → Lexed (more_name_bytes cs rest) (more_name_lexemes cs ls)
 lexed_more_names [] h e l = l
 lexed_more_names {rest = rest} (c ∷ cs) h e l =
     lexed_token 0 refl refl refl (lexed_blank (lexed_name c.title h.0.named h.0.scalars (names_end cs rest e) (lexed_more_names cs h.1 e l)))
@@ -180,7 +211,8 @@ params_end : (n : ℕ) (cs : List SentColumn) (rest : List ℕ) → IsWordEnd re
 params_end n [] rest h = h
 params_end n (c ∷ cs) rest h = refl
 
-lexed_more_params : {rest : List ℕ} {ls : List Lexeme} (n : ℕ) (cs : List SentColumn) → n + length cs ≤ 100 → IsWordEnd rest → Lexed rest ls → Lexed (more_param_bytes n cs rest) (more_param_lexemes n cs ls)
+lexed_more_params : {rest : List ℕ} {ls : List Lexeme} (n : ℕ) (cs : List SentColumn) → n + length cs ≤ 100
+    → IsWordEnd rest → Lexed rest ls → Lexed (more_param_bytes n cs rest) (more_param_lexemes n cs ls)
 lexed_more_params n [] h e l = l
 lexed_more_params {rest = rest} n (c ∷ cs) h e l =
     lexed_token 0 refl refl refl (lexed_blank (lexed_param n (omega arith) (params_end (n + 1) cs rest e) (lexed_more_params (n + 1) cs (omega arith) e l)))
@@ -192,7 +224,8 @@ lexed_values cs few =
     lexed_token 0 refl refl refl (lexed_blank (lexed_token 5 refl refl refl (lexed_blank (lexed_token 0 refl refl refl
     (lexed_param 1 (omega arith) (params_end 2 cs (codes ")") refl) (lexed_more_params 2 cs (omega arith) refl (lexed_token 0 refl refl refl lexed_nil)))))))
 
-pub insert_lexed : (table : List ℕ) (c : SentColumn) (cs : List SentColumn) → IsIdentifier table → AreIdentifiers (c ∷ cs) → length cs ≤ 63 → Lexed (insert_bytes table c cs) (insert_lexemes table c cs)
+pub insert_lexed : (table : List ℕ) (c : SentColumn) (cs : List SentColumn) → IsIdentifier table → AreIdentifiers (c ∷ cs)
+    → length cs ≤ 63 → Lexed (insert_bytes table c cs) (insert_lexemes table c cs)
 insert_lexed table c cs h ids few =
     let values = codes ") VALUES (" ++ param_bytes 1 (more_param_bytes 2 cs (codes ")")) in
     lexed_token 5 refl refl refl (lexed_blank (lexed_token 3 refl refl refl (lexed_blank (lexed_name table h.named h.scalars refl

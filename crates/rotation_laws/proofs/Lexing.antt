@@ -1,5 +1,41 @@
 -- The lexemes of a text, wherever it begins.
-use Rattle.std.proofs.Common.{◌≡◌, ◌==◌, ℕ, zero, suc, ◌+◌, ◌*◌, ◌≤◌, Bool, true, false, cond, List, [], ◌∷◌, ◌++◌, length, drop, Option, Some, refl, sym, ◌∙◌, ap, subst, arith, append_assoc, add-zero, sub-one, encode_utf8_all, flat_map, ◌/◌, length-append, lt-ltb, le-leb}
+use Rattle.std.proofs.Common.{
+  ◌≡◌,
+  ◌==◌,
+  ℕ,
+  zero,
+  suc,
+  ◌+◌,
+  ◌*◌,
+  ◌≤◌,
+  Bool,
+  true,
+  false,
+  cond,
+  List,
+  [],
+  ◌∷◌,
+  ◌++◌,
+  length,
+  drop,
+  Option,
+  Some,
+  refl,
+  sym,
+  ◌∙◌,
+  ap,
+  subst,
+  arith,
+  append_assoc,
+  add-zero,
+  sub-one,
+  encode_utf8_all,
+  flat_map,
+  ◌/◌,
+  length-append,
+  lt-ltb,
+  le-leb,
+}
 use Rattle.std.specs.Str.{all_scalars}
 use Rattle.std.proofs.lemmas.Bool.Decides.{nat_tests}
 use Rattle.std.proofs.lemmas.Str.{encodes-append, chars-encodes, is_utf8-from_IsUtf8, length-encode, len_utf8_bounds}
@@ -93,7 +129,8 @@ high : (b : ℕ) → 128 ≤ b → (b == 93) ≡ false
 high b h = grind (arith, nat_tests)
 
 encoded_without : (c : ℕ) (x y z : Bool) → (c == 93) ≡ false
-    → HasNoBracket (cond x (c ∷ []) (cond y ((192 + c / 64) ∷ next c ∷ []) (cond z ((224 + c / 4096) ∷ next (c / 64) ∷ next c ∷ []) ((240 + c / 262144) ∷ next (c / 4096) ∷ next (c / 64) ∷ next c ∷ []))))
+    → HasNoBracket
+    (cond x (c ∷ []) (cond y ((192 + c / 64) ∷ next c ∷ []) (cond z ((224 + c / 4096) ∷ next (c / 64) ∷ next c ∷ []) ((240 + c / 262144) ∷ next (c / 4096) ∷ next (c / 64) ∷ next c ∷ []))))
 encoded_without c true y z h = (h, tt)
 encoded_without c false true z h = (high _ (omega arith), (high _ (omega arith), tt))
 encoded_without c false false true h = (high _ (omega arith), (high _ (omega arith), (high _ (omega arith), tt)))

@@ -14,7 +14,8 @@ use Rattle.rotation_laws.specs.Laws.{IsReplaced, ReadingIsWhole, ReplacingIsRepl
 use Rattle.rotation_laws.proofs.Parsing.{select_parsed, replace_parsed}
 use Rattle.rotation_laws.proofs.Binding.{meant, nothing_inferred, select_bound, select_rules, select_whole, select_shown, select_of, query_of, replace_bound, replace_rules, replace_of}
 
-pub text_bound : (catalog : Catalog) (text : List ℕ) (declarations : List ParamDecl) (statement : Statement) (b : Bound) → statement_in (encode_utf8_all text) ≡ Ok statement → bind catalog statement declarations ≡ Ok b
+pub text_bound : (catalog : Catalog) (text : List ℕ) (declarations : List ParamDecl) (statement : Statement) (b : Bound)
+    → statement_in (encode_utf8_all text) ≡ Ok statement → bind catalog statement declarations ≡ Ok b
     → binding_of catalog text declarations ≡ Ok b
 text_bound catalog text declarations statement b parse e = rw parse e
 
@@ -25,20 +26,25 @@ read_whole catalog name def named there some few =
       at = p.0;
       parses = p.1;
       meant = record { bound = select_of p.0 name def; encs = [] };
-      means = meant catalog (reads_all name).text [] _ [] (text_bound catalog (reads_all name).text [] _ _ p.1 (select_bound catalog name def p.0 there some (omega arith))) (nothing_inferred (select_of p.0 name def) refl (select_rules name def p.0));
+      means = meant catalog (reads_all name).text [] _ []
+          (text_bound catalog (reads_all name).text [] _ _ p.1 (select_bound catalog name def p.0 there some (omega arith)))
+          (nothing_inferred (select_of p.0 name def) refl (select_rules name def p.0));
       query = query_of p.0 name def;
       is = refl;
       whole = select_whole name def p.0;
       shows = select_shown name def p.0;
     }
 
-replaced_by : (catalog : Catalog) (old new : List ℕ) (found other : Option TableDef) → table_named catalog old ≡ found → table_named catalog new ≡ other → IsIdentifier old → IsIdentifier new → IsSome found → IsSome other → old ≢ new → IsReplaced catalog old new
+replaced_by : (catalog : Catalog) (old new : List ℕ) (found other : Option TableDef) → table_named catalog old ≡ found
+    → table_named catalog new ≡ other → IsIdentifier old → IsIdentifier new → IsSome found → IsSome other → old ≢ new → IsReplaced catalog old new
 replaced_by catalog old new None other e f h k a b apart = absurd (cc)
 replaced_by catalog old new (Some def) None e f h k a b apart = absurd (cc)
 replaced_by catalog old new (Some def) (Some by) e f h k a b apart = record {
   parses = replace_parsed old new h k;
   meant = record { bound = replace_of old new; encs = [] };
-  means = meant catalog (replaces old new).text [] _ [] (text_bound catalog (replaces old new).text [] _ _ (replace_parsed old new h k) (replace_bound catalog old new def by e f apart)) (nothing_inferred (replace_of old new) refl (replace_rules old new));
+  means = meant catalog (replaces old new).text [] _ []
+      (text_bound catalog (replaces old new).text [] _ _ (replace_parsed old new h k) (replace_bound catalog old new def by e f apart))
+      (nothing_inferred (replace_of old new) refl (replace_rules old new));
   is = refl;
 }
 

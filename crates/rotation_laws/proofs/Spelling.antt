@@ -190,7 +190,8 @@ values_quiet cs places =
     let q = params_quiet (lexeme.Symbol symbol.Close ∷ []) (λ p. record { wide = refl; deep = refl; long = refl }) 2 cs (λ k. places (suc (suc (suc (suc k))))) in
     record { wide = q.wide; deep = q.deep; long = q.long }
 
-accepted : (tokens : List Token) (s : Statement) → first_wide 9223372036854775807 tokens ≡ None → opens_too_deep 0 tokens ≡ false → tree_of tokens ≡ Some s → has_long tokens ≡ false → passes_a_limit s ≡ false
+accepted : (tokens : List Token) (s : Statement) → first_wide 9223372036854775807 tokens ≡ None
+    → opens_too_deep 0 tokens ≡ false → tree_of tokens ≡ Some s → has_long tokens ≡ false → passes_a_limit s ≡ false
     → parsed_tokens (Some tokens) ≡ Ok s
 accepted tokens s wide deep reads long limits = rw (wide, deep, reads, long, limits) refl
 

@@ -122,7 +122,8 @@ pub record IsPut (catalog : Catalog) (table : List ℕ) (def : TableDef) (column
 
 -- the columns are the table's in order, with names that differ
 abbrev pub PuttingIsAnInsert : Type 0
-PuttingIsAnInsert = (catalog : Catalog) (table : List ℕ) (def : TableDef) (columns : List SentColumn) (row : List Value) → IsIdentifier table → AreIdentifiers columns → table_named catalog table ≡ Some def
+PuttingIsAnInsert = (catalog : Catalog) (table : List ℕ) (def : TableDef) (columns : List SentColumn) (row : List Value)
+    → IsIdentifier table → AreIdentifiers columns → table_named catalog table ≡ Some def
     → AreColumnsOf columns def → all_differ (map (λ column. column.name) def.columns) ≡ true → 1 ≤ length columns → length columns ≤ 64 → length row ≡ length columns
     → IsPut catalog table def columns row
 

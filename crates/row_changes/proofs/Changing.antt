@@ -1,5 +1,35 @@
 -- What UPDATE and DELETE find of each row of a table, and what they write.
-use Rattle.std.proofs.Common.{◌≡◌, ℕ, zero, suc, ◌+◌, ◌<◌, List, [], ◌∷◌, ◌++◌, length, get_or, take, drop, map, refl, ap, sym, ◌∙◌, arith, length-take, Bool, true, false, cond, Option, Result, Ok, Err}
+use Rattle.std.proofs.Common.{
+  ◌≡◌,
+  ℕ,
+  zero,
+  suc,
+  ◌+◌,
+  ◌<◌,
+  List,
+  [],
+  ◌∷◌,
+  ◌++◌,
+  length,
+  get_or,
+  take,
+  drop,
+  map,
+  refl,
+  ap,
+  sym,
+  ◌∙◌,
+  arith,
+  length-take,
+  Bool,
+  true,
+  false,
+  cond,
+  Option,
+  Result,
+  Ok,
+  Err,
+}
 use Rattle.std.specs.Prelude.{count_by, filter}
 use Rattle.std.specs.List.{zip}
 use Rattle.std.proofs.lemmas.List.{take_more}
@@ -18,7 +48,8 @@ use Rattle.operators.proofs.Interface.{drop_there}
 
 -- ---- each in turn
 
-each_more : {A B E : Type 0} (f : A → Result B E) (xs : List A) (i : ℕ) (x : A) → i < length xs → x ≡ get_or xs i x → (whole : Result (List B) E) (done : List B) (y : B) → whole ≡ collected done (each f (drop i xs)) → f x ≡ Ok y
+each_more : {A B E : Type 0} (f : A → Result B E) (xs : List A) (i : ℕ) (x : A) → i < length xs → x ≡ get_or xs i x
+    → (whole : Result (List B) E) (done : List B) (y : B) → whole ≡ collected done (each f (drop i xs)) → f x ≡ Ok y
     → whole ≡ collected (done ++ y ∷ []) (each f (drop (i + 1) xs))
 each_more f xs i x lt e whole done y w h = collected_more whole done (f x) (each f (drop (i + 1) xs)) y (w ∙ ap (λ ys. collected done (each f ys)) (drop_there xs i x lt e)) h
 
@@ -30,13 +61,15 @@ paired_push f [] (b ∷ ys) x y n = absurd (omega arith)
 paired_push f (a ∷ xs) [] x y n = absurd (omega arith)
 paired_push f (a ∷ xs) (b ∷ ys) x y n = ap (λ zs. f (a, b) ∷ zs) (paired_push f xs ys x y (omega arith))
 
-paired_more : {A B C : Type 0} (f : A × B → C) (xs : List A) (ys : List B) (i : ℕ) (x : A) → i < length xs → x ≡ get_or xs i x → length ys ≡ i → (y : B) → map f (zip (take (i + 1) xs) (ys ++ y ∷ [])) ≡ map f (zip (take i xs) ys) ++ f (x, y) ∷ []
+paired_more : {A B C : Type 0} (f : A × B → C) (xs : List A) (ys : List B) (i : ℕ) (x : A) → i < length xs
+    → x ≡ get_or xs i x → length ys ≡ i → (y : B) → map f (zip (take (i + 1) xs) (ys ++ y ∷ [])) ≡ map f (zip (take i xs) ys) ++ f (x, y) ∷ []
 paired_more f xs ys i x lt e n y =
     ap (λ zs. map f (zip zs (ys ++ y ∷ []))) (take_more xs i x lt ∙ ap (λ z. take i xs ++ z ∷ []) (sym e)) ∙ paired_push f (take i xs) ys x y (omega (arith, length-take i xs))
 
 -- ---- the rows that UPDATE changes
 
-pub changes_more : (f : List Atom → Result Tested SqlFault) (rows : List (List Atom)) (i : ℕ) (row : List Atom) (whole : Result (List Tested) SqlFault) (changes : List (Option (List Atom))) (change : Option (List Atom))
+pub changes_more : (f : List Atom → Result Tested SqlFault) (rows : List (List Atom)) (i : ℕ) (row : List Atom)
+    (whole : Result (List Tested) SqlFault) (changes : List (Option (List Atom))) (change : Option (List Atom))
     → i < length rows → row ≡ get_or rows i row → length changes ≡ i → whole ≡ collected (all_changed (take i rows) changes) (each f (drop i rows)) → f row ≡ Ok (tested_with row change)
     → whole ≡ collected (all_changed (take (i + 1) rows) (changes ++ change ∷ [])) (each f (drop (i + 1) rows))
 changes_more f rows i row whole changes change lt e n w h =
@@ -85,15 +118,19 @@ read_mapped f (y ∷ xs) zero x lt e = ap f e
 read_mapped f (y ∷ xs) (suc i) x lt e = read_mapped f xs i x (omega (arith, lt)) e
 
 -- the fault of a row is the first one
-each_failed : {A B E : Type 0} (f : A → Result B E) (xs : List A) (i : ℕ) (x : A) (done : List B) → i < length xs → x ≡ get_or xs i x → each f xs ≡ collected done (each f (drop i xs)) → (e : E) → f x ≡ Err e → each f xs ≡ Err e
+each_failed : {A B E : Type 0} (f : A → Result B E) (xs : List A) (i : ℕ) (x : A) (done : List B) → i < length xs
+    → x ≡ get_or xs i x → each f xs ≡ collected done (each f (drop i xs)) → (e : E) → f x ≡ Err e → each f xs ≡ Err e
 each_failed f xs i x done lt is w e h = w ∙ ap (λ ys. collected done (each f ys)) (drop_there xs i x lt is) ∙ ap (λ r. collected done (r >>= λ y. each f (drop (i + 1) xs) >>= λ ys. Ok (y ∷ ys))) h
 
-pub change_failed : {C : Type 0} (f : List Atom → Result Tested SqlFault) (view : C → List Tested) (rows : List (List Atom)) (i : ℕ) (row : List Atom) (done : List Tested) → i < length rows → row ≡ get_or rows i row → each f rows ≡ collected done (each f (drop i rows))
+pub change_failed : {C : Type 0} (f : List Atom → Result Tested SqlFault) (view : C → List Tested)
+    (rows : List (List Atom)) (i : ℕ) (row : List Atom) (done : List Tested) → i < length rows → row ≡ get_or rows i row → each f rows ≡ collected done (each f (drop i rows))
     → (refusal : Refusal SqlFault) → {D : Type 0} → (one : D → Tested) → AnswersAs one (Err refusal) (f row) → AnswersAs view (Err refusal) (each f rows)
 change_failed f view rows i row done lt is w (Fault e) one h = each_failed f rows i row done lt is w e h
 change_failed f view rows i row done lt is w OutOfMemory one h = tt
 
-pub hit_failed : (filter : Option BoundCondition) (params : List Atom) (view : List Bool → List Tested) (rows : List (List Atom)) (i : ℕ) (row : List Atom) (done : List Tested) → i < length rows → row ≡ get_or rows i row
-    → each (row_to_delete filter params) rows ≡ collected done (each (row_to_delete filter params) (drop i rows)) → (refusal : Refusal SqlFault) → Answers (Err refusal) (selects params filter row) → AnswersAs view (Err refusal) (each (row_to_delete filter params) rows)
+pub hit_failed : (filter : Option BoundCondition) (params : List Atom) (view : List Bool → List Tested)
+    (rows : List (List Atom)) (i : ℕ) (row : List Atom) (done : List Tested) → i < length rows → row ≡ get_or rows i row
+    → each (row_to_delete filter params) rows ≡ collected done (each (row_to_delete filter params) (drop i rows))
+    → (refusal : Refusal SqlFault) → Answers (Err refusal) (selects params filter row) → AnswersAs view (Err refusal) (each (row_to_delete filter params) rows)
 hit_failed filter params view rows i row done lt is w (Fault e) h = each_failed (row_to_delete filter params) rows i row done lt is w e (ap (λ s. s >>= tested_row row) h)
 hit_failed filter params view rows i row done lt is w OutOfMemory h = tt

@@ -1,5 +1,38 @@
 -- Changes with their places, and the rows that they stand for.
-use Rattle.std.proofs.Common.{◌≡◌, ℕ, zero, suc, ◌+◌, ◌<◌, ◌≤◌, List, [], ◌∷◌, ◌++◌, length, get_or, take, drop, slice_set, append_assoc, refl, ap, sym, ◌∙◌, subst, arith, Bool, true, false, cond, Option, Some, None, Result, Ok}
+use Rattle.std.proofs.Common.{
+  ◌≡◌,
+  ℕ,
+  zero,
+  suc,
+  ◌+◌,
+  ◌<◌,
+  ◌≤◌,
+  List,
+  [],
+  ◌∷◌,
+  ◌++◌,
+  length,
+  get_or,
+  take,
+  drop,
+  slice_set,
+  append_assoc,
+  refl,
+  ap,
+  sym,
+  ◌∙◌,
+  subst,
+  arith,
+  Bool,
+  true,
+  false,
+  cond,
+  Option,
+  Some,
+  None,
+  Result,
+  Ok,
+}
 use Rattle.std.specs.Prelude.{count_by, is_some, ◌==◌}
 use Rattle.std.proofs.lemmas.List.{append-nil, take_all, drop_all}
 use Rattle.std.proofs.lemmas.List.Sums.{sum_by-cons}
@@ -54,7 +87,8 @@ spread_none p (suc n) [] r = ap (λ l. None ∷ l) (spread_none (p + 1) n [] tt)
 spread_none p (suc n) (c ∷ cs) r = by_test (c.place == p) refl (λ h. spread_none (p + 1) n cs h) (λ h. spread_none (p + 1) n (c ∷ cs) h)
   where
     by_test : (b : Bool) → (c.place == p) ≡ b → (AreRising (p + 1) (p + 1 + n) cs → spread (p + 1) (suc n) cs ≡ spread (p + 1) n cs ++ None ∷ [])
-        → (AreRising (p + 1) (p + 1 + n) (c ∷ cs) → spread (p + 1) (suc n) (c ∷ cs) ≡ spread (p + 1) n (c ∷ cs) ++ None ∷ []) → cond b (Some c.row ∷ spread (p + 1) (suc n) cs) (None ∷ spread (p + 1) (suc n) (c ∷ cs)) ≡ cond b (Some c.row ∷ spread (p + 1) n cs) (None ∷ spread (p + 1) n (c ∷ cs)) ++ None ∷ []
+        → (AreRising (p + 1) (p + 1 + n) (c ∷ cs) → spread (p + 1) (suc n) (c ∷ cs) ≡ spread (p + 1) n (c ∷ cs) ++ None ∷ [])
+        → cond b (Some c.row ∷ spread (p + 1) (suc n) cs) (None ∷ spread (p + 1) (suc n) (c ∷ cs)) ≡ cond b (Some c.row ∷ spread (p + 1) n cs) (None ∷ spread (p + 1) n (c ∷ cs)) ++ None ∷ []
     by_test true e x y = ap (λ l. Some c.row ∷ l) (x (rising_over p n c cs e r))
     by_test false e x y = ap (λ l. None ∷ l) (y (rising_later p n c cs e r))
 
@@ -74,7 +108,8 @@ spread_some p (suc n) (c ∷ cs) new e r =
   where
     by_test : (b : Bool) → (c.place == p) ≡ b → (AreRising (p + 1) (p + 1 + n) cs → spread (p + 1) (suc n) (cs ++ new ∷ []) ≡ spread (p + 1) n cs ++ Some new.row ∷ [])
         → (AreRising (p + 1) (p + 1 + n) (c ∷ cs) → spread (p + 1) (suc n) (c ∷ cs ++ new ∷ []) ≡ spread (p + 1) n (c ∷ cs) ++ Some new.row ∷ [])
-        → cond b (Some c.row ∷ spread (p + 1) (suc n) (cs ++ new ∷ [])) (None ∷ spread (p + 1) (suc n) (c ∷ cs ++ new ∷ [])) ≡ cond b (Some c.row ∷ spread (p + 1) n cs) (None ∷ spread (p + 1) n (c ∷ cs)) ++ Some new.row ∷ []
+        → cond b (Some c.row ∷ spread (p + 1) (suc n) (cs ++ new ∷ [])) (None ∷ spread (p + 1) (suc n) (c ∷ cs ++ new ∷ []))
+        ≡ cond b (Some c.row ∷ spread (p + 1) n cs) (None ∷ spread (p + 1) n (c ∷ cs)) ++ Some new.row ∷ []
     by_test true t x y = ap (λ l. Some c.row ∷ l) (x (rising_over p n c cs t r))
     by_test false t x y = ap (λ l. None ∷ l) (y (rising_later p n c cs t r))
 
@@ -92,13 +127,15 @@ pub record AreChanging (f : List Atom → Result Tested SqlFault) (rows : List (
   pub so_far : each f rows ≡ collected (all_changed (take i rows) (spread 0 i cs)) (each f (drop i rows))
   pub rising : AreRising 0 i cs
 
-module _ (f : List Atom → Result Tested SqlFault) (rows : List (List Atom)) (i : ℕ) (row : List Atom) (cs : List Changed) (lt : i < length rows) (is : row ≡ get_or rows i row) (s : AreChanging f rows i cs) where
+module _ (f : List Atom → Result Tested SqlFault) (rows : List (List Atom)) (i : ℕ) (row : List Atom)
+    (cs : List Changed) (lt : i < length rows) (is : row ≡ get_or rows i row) (s : AreChanging f rows i cs) where
   next_none : spread 0 (i + 1) cs ≡ spread 0 i cs ++ None ∷ []
   next_none = let one : i + 1 ≡ suc i = omega arith in let to : i ≡ 0 + i = omega arith in ap (λ n. spread 0 n cs) one ∙ spread_none 0 i cs (subst (λ n. AreRising 0 n cs) to s.rising)
 
   pub changing_none : f row ≡ Ok (tested_with row None) → AreChanging f rows (i + 1) cs
   changing_none h = record {
-    so_far = changes_more f rows i row (each f rows) (spread 0 i cs) None lt is (spread_long 0 i cs) s.so_far h ∙ ap (λ o. collected (all_changed (take (i + 1) rows) o) (each f (drop (i + 1) rows))) (sym next_none);
+    so_far = changes_more f rows i row (each f rows) (spread 0 i cs) None lt is (spread_long 0 i cs) s.so_far
+        h ∙ ap (λ o. collected (all_changed (take (i + 1) rows) o) (each f (drop (i + 1) rows))) (sym next_none);
     rising = rising_more 0 i (i + 1) cs (omega arith) s.rising;
   }
 
@@ -109,7 +146,8 @@ module _ (f : List Atom → Result Tested SqlFault) (rows : List (List Atom)) (i
       let at : new.place ≡ 0 + i = omega (arith, e) in
       let some = ap (λ n. spread 0 n (cs ++ new ∷ [])) one ∙ spread_some 0 i cs new at (subst (λ n. AreRising 0 n cs) to s.rising) in
       record {
-        so_far = changes_more f rows i row (each f rows) (spread 0 i cs) (Some new.row) lt is (spread_long 0 i cs) s.so_far h ∙ ap (λ o. collected (all_changed (take (i + 1) rows) o) (each f (drop (i + 1) rows))) (sym some);
+        so_far = changes_more f rows i row (each f rows) (spread 0 i cs) (Some new.row) lt is (spread_long 0 i cs)
+            s.so_far h ∙ ap (λ o. collected (all_changed (take (i + 1) rows) o) (each f (drop (i + 1) rows))) (sym some);
         rising = rising_push 0 i cs new e (omega arith) s.rising;
       }
 
@@ -117,7 +155,8 @@ module _ (f : List Atom → Result Tested SqlFault) (rows : List (List Atom)) (i
   changing_more None h = changing_none h
   changing_more (Some new) h = changing_some (record { place = i; row = new }) refl h
 
-pub changing_done : (f : List Atom → Result Tested SqlFault) (rows : List (List Atom)) (i n : ℕ) (cs : List Changed) → AreChanging f rows i cs → i ≡ n → n ≡ length rows → each f rows ≡ Ok (all_changed rows (spread 0 n cs))
+pub changing_done : (f : List Atom → Result Tested SqlFault) (rows : List (List Atom)) (i n : ℕ) (cs : List Changed)
+    → AreChanging f rows i cs → i ≡ n → n ≡ length rows → each f rows ≡ Ok (all_changed rows (spread 0 n cs))
 changing_done f rows i n cs s e l =
     let le : length rows ≤ i = omega (arith, e, l) in
     s.so_far ∙ ap (λ rs. collected (all_changed rs (spread 0 i cs)) (each f (drop i rows))) (take_all i rows le)
@@ -135,7 +174,8 @@ front_long : {A : Type 0} (front : List A) (x : A) → length (front ++ x ∷ []
 front_long [] x = refl
 front_long (f ∷ front) x = ap suc (front_long front x)
 
-written_behind : (front rows : List (List Atom)) (p : ℕ) (cs : List Changed) → p ≡ length front → AreRising p (p + length rows) cs → written (front ++ rows) cs ≡ front ++ standing rows (spread p (length rows) cs)
+written_behind : (front rows : List (List Atom)) (p : ℕ) (cs : List Changed) → p ≡ length front
+    → AreRising p (p + length rows) cs → written (front ++ rows) cs ≡ front ++ standing rows (spread p (length rows) cs)
 written_behind front [] p [] e r = refl
 written_behind front [] p (c ∷ cs) e r = absurd (omega (arith, r.0, r.1))
 written_behind front (row ∷ rows) p [] e r =
@@ -146,9 +186,11 @@ written_behind front (row ∷ rows) p (c ∷ cs) e r =
     let later : p + 1 ≡ length (front ++ row ∷ []) = omega (arith, e, front_long front row) in
     by_test (c.place == p) refl (λ h. written_behind (front ++ c.row ∷ []) rows (p + 1) cs over h) (λ h. written_behind (front ++ row ∷ []) rows (p + 1) (c ∷ cs) later h)
   where
-    by_test : (b : Bool) → (c.place == p) ≡ b → (AreRising (p + 1) (p + 1 + length rows) cs → written ((front ++ c.row ∷ []) ++ rows) cs ≡ (front ++ c.row ∷ []) ++ standing rows (spread (p + 1) (length rows) cs))
+    by_test : (b : Bool) → (c.place == p) ≡ b
+        → (AreRising (p + 1) (p + 1 + length rows) cs → written ((front ++ c.row ∷ []) ++ rows) cs ≡ (front ++ c.row ∷ []) ++ standing rows (spread (p + 1) (length rows) cs))
         → (AreRising (p + 1) (p + 1 + length rows) (c ∷ cs) → written ((front ++ row ∷ []) ++ rows) (c ∷ cs) ≡ (front ++ row ∷ []) ++ standing rows (spread (p + 1) (length rows) (c ∷ cs)))
-        → written (slice_set (front ++ row ∷ rows) c.place c.row) cs ≡ front ++ standing (row ∷ rows) (cond b (Some c.row ∷ spread (p + 1) (length rows) cs) (None ∷ spread (p + 1) (length rows) (c ∷ cs)))
+        → written (slice_set (front ++ row ∷ rows) c.place c.row) cs ≡ front ++ standing (row ∷ rows)
+        (cond b (Some c.row ∷ spread (p + 1) (length rows) cs) (None ∷ spread (p + 1) (length rows) (c ∷ cs)))
     by_test true t x y =
         let at : c.place ≡ length front = tested_same c.place p t ∙ e in
         ap (λ rs. written rs cs) (set_behind front row c.row rows c.place at) ∙ x (rising_over p (length rows) c cs t r)
@@ -178,7 +220,8 @@ spread_count p (suc n) [] r = no_hits p (suc n)
 spread_count p (suc n) (c ∷ cs) r = by_test (c.place == p) refl (λ h. spread_count (p + 1) n cs h) (λ h. spread_count (p + 1) n (c ∷ cs) h)
   where
     by_test : (b : Bool) → (c.place == p) ≡ b → (AreRising (p + 1) (p + 1 + n) cs → count_by (λ (o : Option (List Atom)). is_some o) (spread (p + 1) n cs) ≡ length cs)
-        → (AreRising (p + 1) (p + 1 + n) (c ∷ cs) → count_by (λ (o : Option (List Atom)). is_some o) (spread (p + 1) n (c ∷ cs)) ≡ suc (length cs)) → count_by (λ (c : Option (List Atom)). is_some c) (cond b (Some c.row ∷ spread (p + 1) n cs) (None ∷ spread (p + 1) n (c ∷ cs))) ≡ suc (length cs)
+        → (AreRising (p + 1) (p + 1 + n) (c ∷ cs) → count_by (λ (o : Option (List Atom)). is_some o) (spread (p + 1) n (c ∷ cs)) ≡ suc (length cs))
+        → count_by (λ (c : Option (List Atom)). is_some c) (cond b (Some c.row ∷ spread (p + 1) n cs) (None ∷ spread (p + 1) n (c ∷ cs))) ≡ suc (length cs)
     by_test true t x y =
         let rest = x (rising_over p n c cs t r) in
         let one : count_by (λ (c : Option (List Atom)). is_some c) (Some c.row ∷ spread (p + 1) n cs) ≡ 1 + count_by (λ (c : Option (List Atom)). is_some c) (spread (p + 1) n cs) =
@@ -194,7 +237,8 @@ hit_is : (row : List Atom) (change : Option (List Atom)) → (tested_with row ch
 hit_is row None = refl
 hit_is row (Some new) = refl
 
-dense_counted : (rows : List (List Atom)) (changes : List (Option (List Atom))) → length changes ≡ length rows → count_by (λ (t : Tested). t.hit) (all_changed rows changes) ≡ count_by (λ (c : Option (List Atom)). is_some c) changes
+dense_counted : (rows : List (List Atom)) (changes : List (Option (List Atom))) → length changes ≡ length rows
+    → count_by (λ (t : Tested). t.hit) (all_changed rows changes) ≡ count_by (λ (c : Option (List Atom)). is_some c) changes
 dense_counted [] [] n = refl
 dense_counted [] (c ∷ changes) n = absurd (omega arith)
 dense_counted (row ∷ rows) [] n = absurd (omega arith)

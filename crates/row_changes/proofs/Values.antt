@@ -22,7 +22,8 @@ use Rattle.operators.proofs.Interface.{map_there}
 -- ---- one value
 
 module _ (columns : List ColumnDef) (row params : List Atom) (place : ℕ) (v : BoundOperand) where
-  value_is : (column : ColumnDef) (atom : Atom) → eval row params v ≡ Ok atom → column_at columns place ≡ column → value_into columns row params place v ≡ (admitted column atom >>= λ kept. Ok (place, kept))
+  value_is : (column : ColumnDef) (atom : Atom) → eval row params v ≡ Ok atom → column_at columns place ≡ column
+      → value_into columns row params place v ≡ (admitted column atom >>= λ kept. Ok (place, kept))
   value_is column atom e c =
       ap (λ r. or_overflow r >>= λ atom. admitted (column_at columns place) atom >>= λ kept. Ok (place, kept)) e
       ∙ ap (λ x. admitted x atom >>= λ kept. Ok (place, kept)) c
@@ -61,23 +62,28 @@ below n e = grind (arith, nat_tests)
 module _ {V : Type 0} (columns : List ColumnDef) (named : List ℕ) (params : List Atom) (row_of : V → BoundRow) (count : ℕ) (all : List V) (i : ℕ) (bound : V)
     (lt : i < length all) (e : bound ≡ get_or all i bound) (whole : Result (List (List Atom)) SqlFault) (rows : List (List Atom)) where
   rows_at : (b : Bool) → nat_le 1000000 (count + length rows) ≡ b → whole ≡ collected rows (new_rows columns named params (count + length rows) (map row_of (drop i all)))
-      → whole ≡ collected rows (before (if b then Err fault.TableFull else new_row columns named params (row_of bound).values) (new_rows columns named params ((count + length rows) + 1) (map row_of (drop (i + 1) all))))
+      → whole ≡ collected rows
+      (before (if b then Err fault.TableFull else new_row columns named params (row_of bound).values) (new_rows columns named params ((count + length rows) + 1) (map row_of (drop (i + 1) all))))
   rows_at b t w =
       w ∙ ap (λ vs. collected rows (new_rows columns named params (count + length rows) vs)) (map_there row_of all i bound lt e)
-      ∙ ap (λ b. collected rows (before (if b then Err fault.TableFull else new_row columns named params (row_of bound).values) (new_rows columns named params ((count + length rows) + 1) (map row_of (drop (i + 1) all))))) t
+      ∙ ap (λ b. collected rows
+      (before (if b then Err fault.TableFull else new_row columns named params (row_of bound).values)
+      (new_rows columns named params ((count + length rows) + 1) (map row_of (drop (i + 1) all))))) t
 
   pub new_rows_more : (row : List Atom) → count + length rows < 1000000 → whole ≡ collected rows (new_rows columns named params (count + length rows) (map row_of (drop i all)))
       → new_row columns named params (row_of bound).values ≡ Ok row
       → whole ≡ collected (rows ++ row ∷ []) (new_rows columns named params (count + length (rows ++ row ∷ [])) (map row_of (drop (i + 1) all)))
   new_rows_more row room w h =
       let n : (count + length rows) + 1 ≡ count + length (rows ++ row ∷ []) = omega (arith, length-append rows (row ∷ [])) in
-      collected_more whole rows _ _ row (rows_at false (room_left (count + length rows) room) w) h ∙ ap (λ m. collected (rows ++ row ∷ []) (new_rows columns named params m (map row_of (drop (i + 1) all)))) n
+      collected_more whole rows _ _ row (rows_at false (room_left (count + length rows) room) w) h ∙ ap
+      (λ m. collected (rows ++ row ∷ []) (new_rows columns named params m (map row_of (drop (i + 1) all)))) n
 
 pub record AreNewRows (columns : List ColumnDef) (count : ℕ) (rows : List (List Atom)) : Type 0 where
   pub wide : All (λ row. length row ≡ length columns) rows
   pub most : count + length rows ≤ 1000000
 
-pub new_rows_shape : (columns : List ColumnDef) (named : List ℕ) (params : List Atom) (count : ℕ) (bound : List BoundRow) (rows : List (List Atom)) → count ≤ 1000000 → new_rows columns named params count bound ≡ Ok rows
+pub new_rows_shape : (columns : List ColumnDef) (named : List ℕ) (params : List Atom) (count : ℕ) (bound : List BoundRow) (rows : List (List Atom))
+    → count ≤ 1000000 → new_rows columns named params count bound ≡ Ok rows
     → AreNewRows columns count rows
 new_rows_shape columns named params count [] rows le e =
     let f : [] ≡ rows = cc in

@@ -57,7 +57,8 @@ pub where_hit : (p : Row → Bool) (n : ℕ) (rows : List Row) (x : ℕ) → Con
 where_hit p n [] x h = absurd (omega (arith, h.1))
 where_hit p n (row ∷ rows) x h = by_test (p row) refl (λ c. where_hit p (n + 1) rows x c) h
   where
-    by_test : (b : Bool) → p row ≡ b → (Contains (places_where p (n + 1) rows) x → IsHit p (n + 1) rows x) → Contains (cond b (n ∷ places_where p (n + 1) rows) (places_where p (n + 1) rows)) x → IsHit p n (row ∷ rows) x
+    by_test : (b : Bool) → p row ≡ b → (Contains (places_where p (n + 1) rows) x → IsHit p (n + 1) rows x)
+        → Contains (cond b (n ∷ places_where p (n + 1) rows) (places_where p (n + 1) rows)) x → IsHit p n (row ∷ rows) x
     by_test true e more (zero, lt, s) = (0, omega (arith, s), omega arith, e)
     by_test true e more (suc k, lt, s) = hit_next p n row rows x (more (k, omega (arith, lt), s))
     by_test false e more c = hit_next p n row rows x (more c)
@@ -114,7 +115,8 @@ pub where_long : (p : Row → Bool) (n : ℕ) (rows : List Row) → length (plac
 where_long p n [] = refl
 where_long p n (row ∷ rows) = by_test (p row) (where_long p (n + 1) rows)
   where
-    by_test : (b : Bool) → length (places_where p (n + 1) rows) ≡ length (filter p rows) → length (cond b (n ∷ places_where p (n + 1) rows) (places_where p (n + 1) rows)) ≡ length (cond b (row ∷ filter p rows) (filter p rows))
+    by_test : (b : Bool) → length (places_where p (n + 1) rows) ≡ length (filter p rows)
+        → length (cond b (n ∷ places_where p (n + 1) rows) (places_where p (n + 1) rows)) ≡ length (cond b (row ∷ filter p rows) (filter p rows))
     by_test true e = ap suc e
     by_test false e = e
 
@@ -155,7 +157,8 @@ module _ {V : Type 0} (lent : V → List BoundOperand) (params row : Row) (place
   abbrev each_behind : ℕ → List ℕ
   each_behind i = places_of_each params row places (map lent (drop i keys)) rows
 
-  pub each_more : (i : ℕ) (item : V) (done new found whole : List ℕ) → i < length keys → item ≡ get_or keys i item → found ≡ places_with places (key_at params row (lent item)) rows → new ≡ done ++ found
+  pub each_more : (i : ℕ) (item : V) (done new found whole : List ℕ) → i < length keys → item ≡ get_or keys i item
+      → found ≡ places_with places (key_at params row (lent item)) rows → new ≡ done ++ found
       → done ++ each_behind i ≡ whole → new ++ each_behind (i + 1) ≡ whole
   each_more i item done new found whole lt is f n w =
       ap (λ l. l ++ each_behind (i + 1)) (n ∙ ap (λ l. done ++ l) f)
@@ -186,7 +189,8 @@ where_rows p n (row ∷ rows) read h = by_test (p row) (where_rows p (n + 1) row
     first : read n ≡ row
     first = let one : n ≡ n + 0 = omega arith in ap read one ∙ h 0 (omega arith)
 
-    by_test : (b : Bool) → map read (places_where p (n + 1) rows) ≡ filter p rows → map read (cond b (n ∷ places_where p (n + 1) rows) (places_where p (n + 1) rows)) ≡ cond b (row ∷ filter p rows) (filter p rows)
+    by_test : (b : Bool) → map read (places_where p (n + 1) rows) ≡ filter p rows
+        → map read (cond b (n ∷ places_where p (n + 1) rows) (places_where p (n + 1) rows)) ≡ cond b (row ∷ filter p rows) (filter p rows)
     by_test true e = ap (λ r. r ∷ map read (places_where p (n + 1) rows)) first ∙ ap (λ l. row ∷ l) e
     by_test false e = e
 

@@ -14,12 +14,14 @@ pub flat-append : {A : Type 0} (pages more : List (Owned (List A))) → flat (pa
 flat-append pages more = ap joined (map-append (λ page. page.value) pages more) ∙ flat_map-append (λ page. page) (values pages) (values more)
 
 -- the pages so far, and one more
-pub flat_taken : {A : Type 0} (pages : List (Owned (List A))) (i : ℕ) (page : Owned (List A)) → i < length pages → page ≡ get_or pages i page → flat (take (i + 1) pages) ≡ flat (take i pages) ++ page.value
+pub flat_taken : {A : Type 0} (pages : List (Owned (List A))) (i : ℕ) (page : Owned (List A)) → i < length pages
+    → page ≡ get_or pages i page → flat (take (i + 1) pages) ≡ flat (take i pages) ++ page.value
 flat_taken pages i page lt e =
     ap flat (take_more pages i page lt ∙ ap (λ p. take i pages ++ p ∷ []) (sym e)) ∙ flat-append (take i pages) (page ∷ []) ∙ ap (λ xs. flat (take i pages) ++ xs) (append-nil page.value)
 
 -- the pages that are left
-pub flat_left : {A : Type 0} (pages : List (Owned (List A))) (i : ℕ) (page : Owned (List A)) → i < length pages → page ≡ get_or pages i page → flat (drop i pages) ≡ page.value ++ flat (drop (i + 1) pages)
+pub flat_left : {A : Type 0} (pages : List (Owned (List A))) (i : ℕ) (page : Owned (List A)) → i < length pages
+    → page ≡ get_or pages i page → flat (drop i pages) ≡ page.value ++ flat (drop (i + 1) pages)
 flat_left pages i page lt e = ap flat (drop_more pages i page lt ∙ ap (λ p. p ∷ drop (i + 1) pages) (sym e))
 
 all_left : {A : Type 0} (P : A → Type 0) (xs ys : List A) → All P (xs ++ ys) → All P xs

@@ -1,5 +1,38 @@
 -- Places that are marked, one row after another.
-use Rattle.std.proofs.Common.{◌≡◌, ℕ, zero, suc, ◌+◌, ◌-◌, ◌<◌, ◌≤◌, List, [], ◌∷◌, ◌++◌, length, get_or, take, drop, map, slice_set, refl, ap, sym, ◌∙◌, subst, append_assoc, arith, Bool, true, false, cond, inl, inr, ◌⊎◌}
+use Rattle.std.proofs.Common.{
+  ◌≡◌,
+  ℕ,
+  zero,
+  suc,
+  ◌+◌,
+  ◌-◌,
+  ◌<◌,
+  ◌≤◌,
+  List,
+  [],
+  ◌∷◌,
+  ◌++◌,
+  length,
+  get_or,
+  take,
+  drop,
+  map,
+  slice_set,
+  refl,
+  ap,
+  sym,
+  ◌∙◌,
+  subst,
+  append_assoc,
+  arith,
+  Bool,
+  true,
+  false,
+  cond,
+  inl,
+  inr,
+  ◌⊎◌,
+}
 use Rattle.std.specs.Prelude.{◌==◌, ◌&&◌, nat_le, nat_lt}
 use Rattle.std.proofs.lemmas.Bool.{leb-true, leb-false, ltb-true, ltb-false}
 use Rattle.std.proofs.lemmas.Bool.Decides.{nat_tests}
@@ -128,7 +161,8 @@ outside_past place count places e = none_past place count places (outside place 
 
 -- ---- how many rows are hit
 
-pub marked_count : {T : Type 0} (rows : List T) (place count : ℕ) (places : List ℕ) → length rows ≡ count → AreRising place (place + count) places → length (unhit rows (marked place count places)) + length places ≡ count
+pub marked_count : {T : Type 0} (rows : List T) (place count : ℕ) (places : List ℕ) → length rows ≡ count
+    → AreRising place (place + count) places → length (unhit rows (marked place count places)) + length places ≡ count
 marked_count [] place count [] n r = omega (arith, n)
 marked_count [] place count (p ∷ places) n r = absurd (omega (arith, n, r.0, r.1))
 marked_count (row ∷ rows) place zero places n r = absurd (omega (arith, n))
@@ -228,7 +262,8 @@ lent_over rows places i lent le s =
     ∙ ap (λ l. lent ++ l) (none_hit (drop s.from rows) s.from (length (drop s.from rows))) ∙ append-nil lent)
 
 -- the rows at places that rise
-pub hit_read : {T : Type 0} (rows : List T) (from : ℕ) (places : List ℕ) (d : T) → AreRising from (length rows) places → hit (drop from rows) (marked from (length (drop from rows)) places) ≡ map (λ p. get_or rows p d) places
+pub hit_read : {T : Type 0} (rows : List T) (from : ℕ) (places : List ℕ) (d : T) → AreRising from (length rows) places
+    → hit (drop from rows) (marked from (length (drop from rows)) places) ≡ map (λ p. get_or rows p d) places
 hit_read rows from [] d h = none_hit (drop from rows) from (length (drop from rows))
 hit_read {T} rows from (p ∷ places) d h =
     let k = p - from in
@@ -253,7 +288,8 @@ read_marked place (suc count) (p ∷ places) j h lt = by_test (p == place) refl 
     to : place + suc count ≡ place + 1 + count
     to = omega arith
 
-    later : (qs : List ℕ) (k : ℕ) (b : Bool) → AreRising (place + 1) (place + 1 + count) qs → k < length qs → IsRead (place + 1) count qs k → get_or (b ∷ marked (place + 1) count qs) (get_or qs k 0 - place) false ≡ true
+    later : (qs : List ℕ) (k : ℕ) (b : Bool) → AreRising (place + 1) (place + 1 + count) qs → k < length qs
+        → IsRead (place + 1) count qs k → get_or (b ∷ marked (place + 1) count qs) (get_or qs k 0 - place) false ≡ true
     later qs k b r l e =
         let least = rising_least (place + 1) (place + 1 + count) qs k 0 r l in
         let n : get_or qs k 0 - place ≡ suc (get_or qs k 0 - (place + 1)) = omega (arith, least) in

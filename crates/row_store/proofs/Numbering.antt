@@ -56,7 +56,8 @@ all_least from to (page ∷ pages) number zero h lt c =
     omega (arith, least, c.2)
 all_least from to (page ∷ pages) number (suc p) h lt c = all_least from to pages number p (rising_rest from to page (joined pages) h) (omega (arith, lt)) c
 
-before_first : (from to : ℕ) (pages : List (List ℕ)) (number p q : ℕ) → AreRising from to (joined pages) → p < q → q < length pages → 0 < length (get_or pages q []) → Contains (get_or pages p []) number → number < get_or (get_or pages q []) 0 0
+before_first : (from to : ℕ) (pages : List (List ℕ)) (number p q : ℕ) → AreRising from to (joined pages) → p < q
+    → q < length pages → 0 < length (get_or pages q []) → Contains (get_or pages p []) number → number < get_or (get_or pages q []) 0 0
 before_first from to [] number p q h less lt some c = absurd (omega (arith, lt))
 before_first from to (page ∷ pages) number zero zero h less lt some c = absurd (omega (arith, less))
 before_first from to (page ∷ pages) number zero (suc q) h less lt some c =
@@ -66,7 +67,8 @@ before_first from to (page ∷ pages) number (suc p) zero h less lt some c = abs
 before_first from to (page ∷ pages) number (suc p) (suc q) h less lt some c =
     before_first from to pages number p q (rising_rest from to page (joined pages) h) (omega (arith, less)) (omega (arith, lt)) some c
 
-behind_first : (from to : ℕ) (pages : List (List ℕ)) (number p q : ℕ) → AreRising from to (joined pages) → q ≤ p → p < length pages → 0 < length (get_or pages q []) → Contains (get_or pages p []) number → get_or (get_or pages q []) 0 0 ≤ number
+behind_first : (from to : ℕ) (pages : List (List ℕ)) (number p q : ℕ) → AreRising from to (joined pages) → q ≤ p
+    → p < length pages → 0 < length (get_or pages q []) → Contains (get_or pages p []) number → get_or (get_or pages q []) 0 0 ≤ number
 behind_first from to [] number p q h le lt some c = absurd (omega (arith, lt))
 behind_first from to ([] ∷ pages) number p zero h le lt some c = absurd (omega (arith, some))
 behind_first from to ((n ∷ page) ∷ pages) number p zero h le lt some c =
@@ -87,7 +89,8 @@ page_rising from to (p ∷ pages) (suc i) page h lt e = page_rising from to page
 
 -- ---- half of the pages at a time
 
-module _ (pages : List (List ℕ)) (number low high middle to : ℕ) (paged : IsPaged (sizes pages)) (h : AreRising 0 to (joined pages)) (above : low < middle) (below : middle < high) (within : high ≤ length pages) (s : IsInside pages number low high) where
+module _ (pages : List (List ℕ)) (number low high middle to : ℕ) (paged : IsPaged (sizes pages))
+    (h : AreRising 0 to (joined pages)) (above : low < middle) (below : middle < high) (within : high ≤ length pages) (s : IsInside pages number low high) where
   middle_filled : 0 < length (get_or pages middle [])
   middle_filled = filled pages middle paged.small paged.dense (omega (arith, above)) (omega (arith, below, within))
 

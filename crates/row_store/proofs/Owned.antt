@@ -108,7 +108,8 @@ own_same (p ∷ pages) (suc i) page new e o zero = refl
 own_same (p ∷ pages) (suc i) page new e o (suc k) = own_same pages i page new e o k
 
 -- a page that is the table's own if it was before
-pub own_kept : {A : Type 0} (pages : List (Owned A)) (i : ℕ) (page new : Owned A) → page ≡ get_or pages i page → (page.own ≡ true → new.own ≡ true) → (k : ℕ) → own_at k pages ≡ true → own_at k (slice_set pages i new) ≡ true
+pub own_kept : {A : Type 0} (pages : List (Owned A)) (i : ℕ) (page new : Owned A) → page ≡ get_or pages i page
+    → (page.own ≡ true → new.own ≡ true) → (k : ℕ) → own_at k pages ≡ true → own_at k (slice_set pages i new) ≡ true
 own_kept [] i page new e f k h = h
 own_kept (p ∷ pages) zero page new e f zero h = f (ap (λ (q : Owned _). q.own) e ∙ h)
 own_kept (p ∷ pages) zero page new e f (suc k) h = h
@@ -148,14 +149,17 @@ place_same (r ∷ pages) (n ∷ new) i (suc page) at e h =
 pub writable_here : {T : Type 0} (pages : List (Owned (List T))) (i page at : ℕ) → IsPlace (values pages) i page at → own_at page pages ≡ true → IsWritable pages i
 writable_here pages i page at p own = λ other place q. subst (λ k. own_at k pages ≡ true) (place_one (values pages) i page at other place p q) own
 
-pub writable_stays : {T : Type 0} (pages new : List (Owned (List T))) → values new ≡ values pages → ((page : ℕ) → own_at page pages ≡ true → own_at page new ≡ true) → (i : ℕ) → IsWritable pages i → IsWritable new i
+pub writable_stays : {T : Type 0} (pages new : List (Owned (List T))) → values new ≡ values pages
+    → ((page : ℕ) → own_at page pages ≡ true → own_at page new ≡ true) → (i : ℕ) → IsWritable pages i → IsWritable new i
 writable_stays pages new same kept i h = λ page at p. kept page (h page at (subst (λ vs. IsPlace vs i page at) same p))
 
-pub removable_here : {T : Type 0} (pages : List (Owned (List T))) (i page at : ℕ) → IsPlace (values pages) i page at → own_at (page - 1) pages ≡ true → own_at page pages ≡ true → own_at (page + 1) pages ≡ true → IsRemovable pages i
+pub removable_here : {T : Type 0} (pages : List (Owned (List T))) (i page at : ℕ) → IsPlace (values pages) i page at
+    → own_at (page - 1) pages ≡ true → own_at page pages ≡ true → own_at (page + 1) pages ≡ true → IsRemovable pages i
 removable_here pages i page at p before own next = λ other place q.
     subst (λ k. (own_at (k - 1) pages ≡ true) × (own_at k pages ≡ true) × (own_at (k + 1) pages ≡ true)) (place_one (values pages) i page at other place p q) (before, own, next)
 
-pub removable_stays : {T : Type 0} (pages new : List (Owned (List T))) → values new ≡ values pages → ((page : ℕ) → own_at page pages ≡ true → own_at page new ≡ true) → (i : ℕ) → IsRemovable pages i → IsRemovable new i
+pub removable_stays : {T : Type 0} (pages new : List (Owned (List T))) → values new ≡ values pages
+    → ((page : ℕ) → own_at page pages ≡ true → own_at page new ≡ true) → (i : ℕ) → IsRemovable pages i → IsRemovable new i
 removable_stays pages new same kept i h = λ page at p.
     let o = h page at (subst (λ vs. IsPlace vs i page at) same p) in
     (kept (page - 1) o.0, kept page o.1, kept (page + 1) o.2)
@@ -169,7 +173,8 @@ kept_same pages new empty capacity more e c h = record {
   room = omega (arith, h.room, c, same_length pages new e);
 }
 
-pub last_stays : {A : Type 0} (pages new : List (Owned A)) → values new ≡ values pages → ((page : ℕ) → own_at page pages ≡ true → own_at page new ≡ true) → own_at (length pages - 1) pages ≡ true → own_at (length new - 1) new ≡ true
+pub last_stays : {A : Type 0} (pages new : List (Owned A)) → values new ≡ values pages
+    → ((page : ℕ) → own_at page pages ≡ true → own_at page new ≡ true) → own_at (length pages - 1) pages ≡ true → own_at (length new - 1) new ≡ true
 last_stays pages new e kept own =
     let last : length pages - 1 ≡ length new - 1 = omega (arith, same_length pages new e) in
     subst (λ k. own_at k new ≡ true) last (kept (length pages - 1) own)

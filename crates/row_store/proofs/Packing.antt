@@ -1,5 +1,33 @@
 -- Pages that take rows in, give rows away, and share one page.
-use Rattle.std.proofs.Common.{◌≡◌, ℕ, zero, suc, ◌+◌, ◌-◌, ◌<◌, ◌≤◌, List, [], ◌∷◌, ◌++◌, length, length-append, get_or, slice_set, append_assoc, refl, ap, sym, ◌∙◌, subst, arith, Bool, true, false, cond}
+use Rattle.std.proofs.Common.{
+  ◌≡◌,
+  ℕ,
+  zero,
+  suc,
+  ◌+◌,
+  ◌-◌,
+  ◌<◌,
+  ◌≤◌,
+  List,
+  [],
+  ◌∷◌,
+  ◌++◌,
+  length,
+  length-append,
+  get_or,
+  slice_set,
+  append_assoc,
+  refl,
+  ap,
+  sym,
+  ◌∙◌,
+  subst,
+  arith,
+  Bool,
+  true,
+  false,
+  cond,
+}
 use Rattle.std.specs.Prelude.{nat_le, remove}
 use Rattle.std.specs.List.{All}
 use Rattle.std.proofs.lemmas.Bool.{leb-true, leb-false}
@@ -36,7 +64,8 @@ small_set (x ∷ ns) zero n le h = All-cons IsSmall n ns le (All-tail IsSmall x 
 small_set (x ∷ ns) (suc i) n le h = All-cons IsSmall x (slice_set ns i n) (All-head IsSmall x ns h) (small_set ns i n le (All-tail IsSmall x ns h))
 
 -- one more row in the last page
-pub last_flat : {T : Type 0} (pages : List (List T)) (i : ℕ) (rows : List T) (row : T) → i + 1 ≡ length pages → rows ≡ get_or pages i rows → joined (slice_set pages i (rows ++ row ∷ [])) ≡ joined pages ++ row ∷ []
+pub last_flat : {T : Type 0} (pages : List (List T)) (i : ℕ) (rows : List T) (row : T) → i + 1 ≡ length pages
+    → rows ≡ get_or pages i rows → joined (slice_set pages i (rows ++ row ∷ [])) ≡ joined pages ++ row ∷ []
 last_flat [] i rows row n e = absurd (omega (arith, n))
 last_flat (r ∷ []) zero rows row n e = append-nil (rows ++ row ∷ []) ∙ ap (λ x. x ++ row ∷ []) (e ∙ sym (append-nil r))
 last_flat (r ∷ q ∷ pages) zero rows row n e = absurd (omega (arith, n))
@@ -67,7 +96,8 @@ pub record IsLastGrown (ns new : List ℕ) : Type 0 where
   pub paged : IsPaged new
   pub room : last_room new + 1 ≡ last_room ns
 
-pub last_grown : {T : Type 0} (pages : List (List T)) (i : ℕ) (rows : List T) (row : T) → i + 1 ≡ length pages → rows ≡ get_or pages i rows → length rows < 256 → IsPaged (sizes pages) → IsLastGrown (sizes pages) (sizes (slice_set pages i (rows ++ row ∷ [])))
+pub last_grown : {T : Type 0} (pages : List (List T)) (i : ℕ) (rows : List T) (row : T) → i + 1 ≡ length pages
+    → rows ≡ get_or pages i rows → length rows < 256 → IsPaged (sizes pages) → IsLastGrown (sizes pages) (sizes (slice_set pages i (rows ++ row ∷ [])))
 last_grown pages i rows row n e lt p =
     let ns = sizes pages in
     let more : length (rows ++ row ∷ []) ≡ length rows + 1 = length-append rows (row ∷ []) in
@@ -76,7 +106,8 @@ last_grown pages i rows row n e lt p =
     let count : i + 1 ≡ length ns = n ∙ sym (map_length pages) in
     let count2 : i + 1 ≡ length (slice_set ns i (length rows + 1)) = count ∙ sym (set_length ns i (length rows + 1)) in
     let old : last_room ns ≡ 256 - length rows = last_is ns i (length rows) count is in
-    let new : last_room (slice_set ns i (length rows + 1)) ≡ 256 - (length rows + 1) = last_is (slice_set ns i (length rows + 1)) i (length rows + 1) count2 (set_there ns i (length rows + 1) (omega (arith, count))) in
+    let new : last_room (slice_set ns i (length rows + 1)) ≡ 256 - (length rows + 1) = last_is
+    (slice_set ns i (length rows + 1)) i (length rows + 1) count2 (set_there ns i (length rows + 1) (omega (arith, count))) in
     subst (IsLastGrown ns) (sym same) (record {
       paged = record { small = small_set ns i (length rows + 1) (omega (arith, lt)) p.small; dense = dense_grow ns i (length rows) (length rows + 1) is (omega arith) p.dense };
       room = omega (arith, old, new, lt);
@@ -123,7 +154,8 @@ merged_none zero (rows ∷ []) e = refl
 merged_none zero (rows ∷ next ∷ pages) e = merge_false rows next pages (nat_le (length rows + length next) 256) e
 merged_none (suc page) (rows ∷ pages) e = ap (λ ps. rows ∷ ps) (merged_none page pages e)
 
-pub merged_some : {T : Type 0} (page : ℕ) (pages : List (List T)) (rows next : List T) → can_merge page pages ≡ true → rows ≡ get_or (remove pages (page + 1)) page rows → next ≡ get_or pages (page + 1) next
+pub merged_some : {T : Type 0} (page : ℕ) (pages : List (List T)) (rows next : List T) → can_merge page pages ≡ true
+    → rows ≡ get_or (remove pages (page + 1)) page rows → next ≡ get_or pages (page + 1) next
     → slice_set (remove pages (page + 1)) page (rows ++ next) ≡ merged_at page pages
 merged_some page [] rows next e f g = absurd cc
 merged_some zero (r ∷ []) rows next e f g = absurd cc
@@ -134,7 +166,8 @@ merged_some (suc page) (r ∷ pages) rows next e f g =
     let g2 : next ≡ get_or pages (page + 1) next = g ∙ ap (λ n. get_or (r ∷ pages) n next) one in
     ap (λ n. slice_set (remove (r ∷ pages) n) (suc page) (rows ++ next)) one ∙ ap (λ ps. r ∷ ps) (merged_some page pages rows next e f2 g2)
 
-pub can_merge_there : {T : Type 0} (page : ℕ) (pages : List (List T)) (rows next : List T) → page + 1 < length pages → rows ≡ get_or pages page rows → next ≡ get_or pages (page + 1) next → nat_le (length rows + length next) 256 ≡ can_merge page pages
+pub can_merge_there : {T : Type 0} (page : ℕ) (pages : List (List T)) (rows next : List T) → page + 1 < length pages
+    → rows ≡ get_or pages page rows → next ≡ get_or pages (page + 1) next → nat_le (length rows + length next) 256 ≡ can_merge page pages
 can_merge_there page [] rows next lt f g = absurd (omega (arith, lt))
 can_merge_there zero (r ∷ []) rows next lt f g = absurd (omega (arith, lt))
 can_merge_there zero (r ∷ n ∷ pages) rows next lt f g = ap (λ x. nat_le (length x + length next) 256) f ∙ ap (λ x. nat_le (length r + length x) 256) g
@@ -154,7 +187,8 @@ can_merge_within zero (r ∷ []) e = absurd cc
 can_merge_within zero (r ∷ n ∷ pages) e = omega arith
 can_merge_within (suc page) (r ∷ pages) e = let lt = can_merge_within page pages e in omega (arith, lt)
 
-pub can_merge_fits : {T : Type 0} (page : ℕ) (pages : List (List T)) (rows next : List T) → can_merge page pages ≡ true → rows ≡ get_or (remove pages (page + 1)) page rows → next ≡ get_or pages (page + 1) next → length rows + length next ≤ 256
+pub can_merge_fits : {T : Type 0} (page : ℕ) (pages : List (List T)) (rows next : List T) → can_merge page pages ≡ true
+    → rows ≡ get_or (remove pages (page + 1)) page rows → next ≡ get_or pages (page + 1) next → length rows + length next ≤ 256
 can_merge_fits page [] rows next e f g = absurd cc
 can_merge_fits zero (r ∷ []) rows next e f g = absurd cc
 can_merge_fits zero (r ∷ n ∷ pages) rows next e f g =

@@ -65,7 +65,8 @@ set_right : {A : Type 0} (xs ys : List A) (j : ℕ) (y : A) → slice_set (xs ++
 set_right [] ys j y = let e : 0 + j ≡ j = omega arith in ap (λ n. slice_set ys n y) e
 set_right (x ∷ xs) ys j y = let e : length (x ∷ xs) + j ≡ suc (length xs + j) = omega arith in ap (λ n. slice_set (x ∷ xs ++ ys) n y) e ∙ ap (λ l. x ∷ l) (set_right xs ys j y)
 
-pub place_set : {T : Type 0} (pages : List (List T)) (i page at : ℕ) (rows : List T) (row : T) → IsPlace pages i page at → rows ≡ get_or pages page rows → joined (slice_set pages page (slice_set rows at row)) ≡ slice_set (joined pages) i row
+pub place_set : {T : Type 0} (pages : List (List T)) (i page at : ℕ) (rows : List T) (row : T) → IsPlace pages i page at
+    → rows ≡ get_or pages page rows → joined (slice_set pages page (slice_set rows at row)) ≡ slice_set (joined pages) i row
 place_set [] i page at rows row h e = absurd h
 place_set (r ∷ pages) i zero at rows row h e = ap (λ x. slice_set x at row ++ joined pages) e ∙ sym (set_left r (joined pages) at row h.1) ∙ ap (λ n. slice_set (r ++ joined pages) n row) (sym h.0)
 place_set (r ∷ pages) i (suc page) at rows row h e =

@@ -32,14 +32,16 @@ ready_next (suc page) (p ∷ pages) h e =
     subst (λ k. own_at k (p ∷ pages) ≡ true) one (ready_next page pages (ready_tail p pages h) e)
 
 -- the page before one that is taken out
-pub own_before : {T : Type 0} (page : ℕ) (pages : List (Owned (List T))) (rows : Owned (List T)) → page + 1 < length pages → own_at page pages ≡ true → rows ≡ get_or (remove pages (page + 1)) page rows → rows.own ≡ true
+pub own_before : {T : Type 0} (page : ℕ) (pages : List (Owned (List T))) (rows : Owned (List T)) → page + 1 < length pages
+    → own_at page pages ≡ true → rows ≡ get_or (remove pages (page + 1)) page rows → rows.own ≡ true
 own_before page [] rows lt h e = absurd (omega (arith, lt))
 own_before zero (p ∷ pages) rows lt h e = ap (λ (q : Owned _). q.own) e ∙ h
 own_before (suc page) (p ∷ pages) rows lt h e =
     let one : suc page + 1 ≡ suc (page + 1) = omega arith in
     own_before page pages rows (omega (arith, lt)) h (e ∙ ap (λ n. get_or (remove (p ∷ pages) n) (suc page) rows) one)
 
-pub ready_merged : {T : Type 0} (page : ℕ) (pages : List (Owned (List T))) (rows next new : Owned (List T)) → page + 1 < length pages → AreReady pages → rows ≡ get_or (remove pages (page + 1)) page rows → next ≡ get_or pages (page + 1) next
+pub ready_merged : {T : Type 0} (page : ℕ) (pages : List (Owned (List T))) (rows next new : Owned (List T))
+    → page + 1 < length pages → AreReady pages → rows ≡ get_or (remove pages (page + 1)) page rows → next ≡ get_or pages (page + 1) next
     → new.own ≡ true → length new.value ≡ length rows.value + length next.value → AreReady (slice_set (remove pages (page + 1)) page new)
 ready_merged page [] rows next new lt h f g o n = absurd (omega (arith, lt))
 ready_merged zero (p ∷ []) rows next new lt h f g o n = absurd (omega (arith, lt))
@@ -106,7 +108,8 @@ thinned_start old places small = record { left = left_start (values old) places 
 pub thinned_long : {T : Type 0} (old now : List (Owned (List T))) (places : List ℕ) (i before used : ℕ) → AreThinned old now places i before used → length now ≡ length old
 thinned_long old now places i before used s = sym (values_length now) ∙ s.left.thinning.count ∙ values_length old
 
-module _ {T : Type 0} (old now : List (Owned (List T))) (places : List ℕ) (i before used : ℕ) (page : Owned (List T)) (lt : i < length now) (is : page ≡ get_or now i page) (s : AreThinned old now places i before used) where
+module _ {T : Type 0} (old now : List (Owned (List T))) (places : List ℕ) (i before used : ℕ) (page : Owned (List T))
+    (lt : i < length now) (is : page ≡ get_or now i page) (s : AreThinned old now places i before used) where
   here : page ≡ get_or old i page
   here = is ∙ first_left now i page ∙ ap (λ ps. get_or ps 0 page) s.rest ∙ sym (first_left old i page)
 
@@ -135,7 +138,8 @@ module _ {T : Type 0} (old now : List (Owned (List T))) (places : List ℕ) (i b
   pub thinned_own : All (IsRemovable old) places → is_inside before (before + length page.value) (drop used places) ≡ true → page.own ≡ true
   thinned_own all e = own_here now i page lt is (s.owns i ∙ (near all e).own)
 
-  pub thinned_more : (new : Owned (List T)) (more : ℕ) → All (IsRemovable old) places → length page.value ≤ 256 → more ≤ length (drop used places) → new.value ≡ unhit page.value (marked before (length page.value) (drop used places)) → new.own ≡ page.own
+  pub thinned_more : (new : Owned (List T)) (more : ℕ) → All (IsRemovable old) places → length page.value ≤ 256
+      → more ≤ length (drop used places) → new.value ≡ unhit page.value (marked before (length page.value) (drop used places)) → new.own ≡ page.own
       → IsPast before (length page.value) (drop used places) more → AreThinned old (slice_set now i new) places (i + 1) (before + length page.value) (used + more)
   thinned_more new more all small fit w o past =
       let left = left_more (values old) (values now) places i before used page.value new.value within_values (value_at now i page is) s.left more small fit w past in
@@ -167,14 +171,16 @@ near_tail p pages (suc page) h =
       next = subst (λ k. own_at k (p ∷ pages) ≡ true) three h.next;
     }
 
-ready_of : {T : Type 0} (old now : List (Owned (List T))) → length now ≡ length old → ((page : ℕ) → own_at page now ≡ own_at page old) → ((page : ℕ) → (size_at page now ≡ size_at page old) ⊎ IsNear old page) → IsDense (lengths old) → AreReady now
+ready_of : {T : Type 0} (old now : List (Owned (List T))) → length now ≡ length old → ((page : ℕ) → own_at page now ≡ own_at page old)
+    → ((page : ℕ) → (size_at page now ≡ size_at page old) ⊎ IsNear old page) → IsDense (lengths old) → AreReady now
 ready_of old [] n w m d = tt
 ready_of old (p ∷ []) n w m d = tt
 ready_of [] (p ∷ q ∷ now) n w m d = absurd (omega (arith, n))
 ready_of (o ∷ []) (p ∷ q ∷ now) n w m d = absurd (omega (arith, n))
 ready_of (o ∷ r ∷ old) (p ∷ q ∷ now) n w m d = (pair (m zero) (m (suc zero)), ready_of (r ∷ old) (q ∷ now) (omega (arith, n)) (λ k. w (suc k)) (λ k. behind k (m (suc k))) d.1)
   where
-    pair : (length p.value ≡ length o.value) ⊎ IsNear (o ∷ r ∷ old) zero → (length q.value ≡ length r.value) ⊎ IsNear (o ∷ r ∷ old) (suc zero) → ((p.own ≡ true) × (q.own ≡ true)) ⊎ (256 < length p.value + length q.value)
+    pair : (length p.value ≡ length o.value) ⊎ IsNear (o ∷ r ∷ old) zero → (length q.value ≡ length r.value) ⊎ IsNear (o ∷ r ∷ old) (suc zero)
+        → ((p.own ≡ true) × (q.own ≡ true)) ⊎ (256 < length p.value + length q.value)
     pair (inr near) x = inl (w zero ∙ near.own, w (suc zero) ∙ near.next)
     pair (inl e) (inr near) = inl (w zero ∙ near.before, w (suc zero) ∙ near.own)
     pair (inl e) (inl f) = inr (omega (arith, d.0, e, f))

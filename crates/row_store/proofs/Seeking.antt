@@ -9,14 +9,16 @@ use Rattle.row_store.specs.declared.changes.Change.{Change}
 
 -- ---- where a row lies behind the pages before it
 
-pub start_place : {T : Type 0} (pages : List (List T)) (i page at : ℕ) (rows : List T) → page < length pages → rows ≡ get_or pages page rows → i ≡ rows_before page pages + at → at < length rows → IsPlace pages i page at
+pub start_place : {T : Type 0} (pages : List (List T)) (i page at : ℕ) (rows : List T) → page < length pages
+    → rows ≡ get_or pages page rows → i ≡ rows_before page pages + at → at < length rows → IsPlace pages i page at
 start_place [] i page at rows lt e is h = absurd (omega arith)
 start_place (r ∷ pages) i zero at rows lt e is h = (omega (arith, is), subst (λ x. at < length x) e h)
 start_place (r ∷ pages) i (suc page) at rows lt e is h =
     let whole : rows_before (suc page) (r ∷ pages) ≡ length r + rows_before page pages = length-append r (joined (take page pages)) in
     (rows_before page pages + at, omega (arith, is, whole), start_place pages (rows_before page pages + at) page at rows (omega (arith, lt)) e refl h)
 
-pub start_next : {T : Type 0} (pages : List (List T)) (page : ℕ) (rows : List T) → page < length pages → rows ≡ get_or pages page rows → rows_before page pages + length rows ≡ rows_before (page + 1) pages
+pub start_next : {T : Type 0} (pages : List (List T)) (page : ℕ) (rows : List T) → page < length pages
+    → rows ≡ get_or pages page rows → rows_before page pages + length rows ≡ rows_before (page + 1) pages
 start_next [] page rows lt e = absurd (omega arith)
 start_next (r ∷ pages) zero rows lt e = omega (arith, ap length e, length-append r [])
 start_next (r ∷ pages) (suc page) rows lt e =
@@ -58,7 +60,8 @@ pub record AreWriting {T : Type 0} (old now : List (List T)) (changes left : Lis
   pub placed : All (λ change. change.place < length (joined old)) left
   pub start : before ≡ rows_before page now
 
-pub writing_start : {T : Type 0} (old : List (List T)) (changes left : List (Change T)) (page before : ℕ) → All (λ change. change.place < length (joined old)) changes → left ≡ changes → page ≡ 0 → before ≡ 0 → AreWriting old old changes left page before
+pub writing_start : {T : Type 0} (old : List (List T)) (changes left : List (Change T)) (page before : ℕ)
+    → All (λ change. change.place < length (joined old)) changes → left ≡ changes → page ≡ 0 → before ≡ 0 → AreWriting old old changes left page before
 writing_start old changes left page before h e p b = record {
   so_far = ap (written (joined old)) (sym e);
   lengths_same = refl;
@@ -66,7 +69,8 @@ writing_start old changes left page before h e p b = record {
   start = b ∙ ap (λ n. rows_before n old) (sym p);
 }
 
-module _ {T : Type 0} (old now new : List (List T)) (changes left rest : List (Change T)) (change : Change T) (page before : ℕ) (is : left ≡ change ∷ rest) (s : AreWriting old now changes left page before) where
+module _ {T : Type 0} (old now new : List (List T)) (changes left rest : List (Change T)) (change : Change T)
+    (page before : ℕ) (is : left ≡ change ∷ rest) (s : AreWriting old now changes left page before) where
   pub placed_here : change.place < length (joined now)
   placed_here =
       let lt : change.place < length (joined old) = All-head (λ c. c.place < length (joined old)) change rest (subst (All (λ c. c.place < length (joined old))) is s.placed) in
@@ -80,7 +84,8 @@ module _ {T : Type 0} (old now new : List (List T)) (changes left rest : List (C
     start = b ∙ sym (start_same at now new l);
   }
 
-pub writing_over : {T : Type 0} (old now : List (List T)) (changes left : List (Change T)) (page before : ℕ) → length left ≡ 0 → AreWriting old now changes left page before → joined now ≡ written (joined old) changes
+pub writing_over : {T : Type 0} (old now : List (List T)) (changes left : List (Change T)) (page before : ℕ)
+    → length left ≡ 0 → AreWriting old now changes left page before → joined now ≡ written (joined old) changes
 writing_over old now changes [] page before n s = sym s.so_far
 writing_over old now changes (c ∷ left) page before n s = absurd (omega (arith, n))
 

@@ -1,5 +1,37 @@
 -- Pages that lose the rows that are hit, and then share one where they fit.
-use Rattle.std.proofs.Common.{◌≡◌, ℕ, zero, suc, ◌+◌, ◌<◌, ◌≤◌, List, [], ◌∷◌, ◌++◌, length, length-append, get_or, take, drop, slice_set, refl, ap, sym, ◌∙◌, subst, append_assoc, arith, Bool, true, false, not, cond, inl, inr}
+use Rattle.std.proofs.Common.{
+  ◌≡◌,
+  ℕ,
+  zero,
+  suc,
+  ◌+◌,
+  ◌<◌,
+  ◌≤◌,
+  List,
+  [],
+  ◌∷◌,
+  ◌++◌,
+  length,
+  length-append,
+  get_or,
+  take,
+  drop,
+  slice_set,
+  refl,
+  ap,
+  sym,
+  ◌∙◌,
+  subst,
+  append_assoc,
+  arith,
+  Bool,
+  true,
+  false,
+  not,
+  cond,
+  inl,
+  inr,
+}
 use Rattle.std.specs.List.{All, SwappedAt}
 use Rattle.std.proofs.lemmas.Bool.{cases_lt}
 use Rattle.std.proofs.lemmas.List.{append-nil, take_all, drop_all, take_more, drop_more, take_more_set, take-set, take-set-le, drop-set-lt, length-set, length-take, length-drop}
@@ -15,14 +47,16 @@ item_of : {T : Type 0} (rows : List T) (place : ℕ) → place < length rows →
 item_of [] place lt = absurd (omega arith)
 item_of (row ∷ rows) place lt = row
 
-pub dropped_hit : {T : Type 0} (rows whole : List T) (hits : List Bool) (kept place : ℕ) → place < length rows → place < length hits → get_or hits place false ≡ true → whole ≡ take kept rows ++ unhit (drop place rows) (drop place hits)
+pub dropped_hit : {T : Type 0} (rows whole : List T) (hits : List Bool) (kept place : ℕ) → place < length rows
+    → place < length hits → get_or hits place false ≡ true → whole ≡ take kept rows ++ unhit (drop place rows) (drop place hits)
     → whole ≡ take kept rows ++ unhit (drop (place + 1) rows) (drop (place + 1) hits)
 dropped_hit rows whole hits kept place lt lh t w =
     let d = item_of rows place lt in
     w ∙ ap (λ rs. take kept rows ++ unhit rs (drop place hits)) (drop_more rows place d lt)
     ∙ ap (λ hs. take kept rows ++ unhit (get_or rows place d ∷ drop (place + 1) rows) hs) (drop_more hits place false lh ∙ ap (λ h. h ∷ drop (place + 1) hits) t)
 
-swapped_front : {T : Type 0} (rows moved : List T) (kept place : ℕ) (d : T) → place < length rows → kept ≤ place → SwappedAt rows moved kept place → take (kept + 1) moved ≡ take kept rows ++ get_or rows place d ∷ []
+swapped_front : {T : Type 0} (rows moved : List T) (kept place : ℕ) (d : T) → place < length rows → kept ≤ place
+    → SwappedAt rows moved kept place → take (kept + 1) moved ≡ take kept rows ++ get_or rows place d ∷ []
 swapped_front rows moved kept place d lt le s =
     let u = get_or rows place d in
     let v = get_or rows kept d in
@@ -36,7 +70,8 @@ swapped_front rows moved kept place d lt le s =
           ∙ ap (λ p. take kept rows ++ get_or rows p d ∷ []) (sym same)
     ]
 
-pub dropped_kept : {T : Type 0} (rows moved whole : List T) (hits : List Bool) (kept place : ℕ) → place < length rows → place < length hits → kept ≤ place → get_or hits place false ≡ false → SwappedAt rows moved kept place
+pub dropped_kept : {T : Type 0} (rows moved whole : List T) (hits : List Bool) (kept place : ℕ) → place < length rows
+    → place < length hits → kept ≤ place → get_or hits place false ≡ false → SwappedAt rows moved kept place
     → whole ≡ take kept rows ++ unhit (drop place rows) (drop place hits) → whole ≡ take (kept + 1) moved ++ unhit (drop (place + 1) moved) (drop (place + 1) hits)
 dropped_kept rows moved whole hits kept place lt lh le t s w =
     let d = item_of rows place lt in
@@ -48,7 +83,8 @@ dropped_kept rows moved whole hits kept place lt lh le t s w =
     ∙ ap (λ rs. take (kept + 1) moved ++ unhit rs (drop (place + 1) hits))
     (sym (ap (drop (place + 1)) (s.3 d) ∙ drop-set-lt (place + 1) (slice_set rows kept u) place (get_or rows kept d) (omega arith) ∙ drop-set-lt (place + 1) rows kept u (omega arith)))
 
-pub dropped_all : {T : Type 0} (rows whole : List T) (hits : List Bool) (kept place : ℕ) → length rows ≤ place → whole ≡ take kept rows ++ unhit (drop place rows) (drop place hits) → whole ≡ take kept rows
+pub dropped_all : {T : Type 0} (rows whole : List T) (hits : List Bool) (kept place : ℕ) → length rows ≤ place
+    → whole ≡ take kept rows ++ unhit (drop place rows) (drop place hits) → whole ≡ take kept rows
 dropped_all rows whole hits kept place le w = w ∙ ap (λ rs. take kept rows ++ unhit rs (drop place hits)) (drop_all place rows le) ∙ append-nil (take kept rows)
 
 -- ---- how many stay
@@ -61,7 +97,8 @@ unhit_less (row ∷ rows) (false ∷ hits) = let le = unhit_less rows hits in om
 
 -- ---- page by page
 
-unhit_append : {T : Type 0} (rows rest : List T) (hits : List Bool) → length rows ≤ length hits → unhit (rows ++ rest) hits ≡ unhit rows (take (length rows) hits) ++ unhit rest (drop (length rows) hits)
+unhit_append : {T : Type 0} (rows rest : List T) (hits : List Bool) → length rows ≤ length hits
+    → unhit (rows ++ rest) hits ≡ unhit rows (take (length rows) hits) ++ unhit rest (drop (length rows) hits)
 unhit_append [] rest hits le = refl
 unhit_append (row ∷ rows) rest [] le = absurd (omega arith)
 unhit_append (row ∷ rows) rest (true ∷ hits) le = unhit_append rows rest hits (omega (arith, le))
@@ -79,7 +116,8 @@ thinning_start old hits n small = record { so_far = refl; left = omega (arith, n
 drop_next : {A : Type 0} (xs : List A) (i : ℕ) (x : A) → i < length xs → x ≡ get_or xs i x → drop i xs ≡ x ∷ drop (i + 1) xs
 drop_next xs i x lt e = drop_more xs i x lt ∙ ap (λ z. z ∷ drop (i + 1) xs) (sym e)
 
-module _ {T : Type 0} (old now : List (List T)) (hits : List Bool) (i before : ℕ) (rows new : List T) (lt : i < length now) (is : rows ≡ get_or now i rows) (s : AreThinning old now hits i before) where
+module _ {T : Type 0} (old now : List (List T)) (hits : List Bool) (i before : ℕ) (rows new : List T)
+    (lt : i < length now) (is : rows ≡ get_or now i rows) (s : AreThinning old now hits i before) where
   left_here : length (joined (drop i now)) ≡ length rows + length (joined (drop (i + 1) now))
   left_here = ap (λ ps. length (joined ps)) (drop_next now i rows lt is) ∙ length-append rows (joined (drop (i + 1) now))
 
@@ -100,7 +138,8 @@ module _ {T : Type 0} (old now : List (List T)) (hits : List Bool) (i before : �
             ∙ ap (λ hs. joined (take (i + 1) (slice_set now i new)) ++ unhit (joined (drop (i + 1) now)) hs) (drop_drop (length rows) before hits)
             ∙ ap (λ ps. joined (take (i + 1) (slice_set now i new)) ++ unhit (joined ps) (drop (before + length rows) hits)) (sym rest);
         left = omega (arith, s.left, left_here, ap (λ ps. length (joined ps)) rest);
-        small = subst (All (λ n. n ≤ 256)) (sym (lengths_of_set now i new)) (small_set (sizes now) i (length new) (omega (arith, few, unhit_less rows (take (length rows) (drop before hits)), ap length w)) s.small);
+        small = subst (All (λ n. n ≤ 256)) (sym (lengths_of_set now i new))
+            (small_set (sizes now) i (length new) (omega (arith, few, unhit_less rows (take (length rows) (drop before hits)), ap length w)) s.small);
         count = length-set now i new ∙ s.count;
       }
     where
@@ -123,7 +162,8 @@ left_start old places small = record {
   few = omega arith;
 }
 
-module _ {T : Type 0} (old now : List (List T)) (places : List ℕ) (i before used : ℕ) (rows new : List T) (lt : i < length now) (is : rows ≡ get_or now i rows) (s : AreLeft old now places i before used) where
+module _ {T : Type 0} (old now : List (List T)) (places : List ℕ) (i before used : ℕ) (rows new : List T)
+    (lt : i < length now) (is : rows ≡ get_or now i rows) (s : AreLeft old now places i before used) where
   abbrev hits : List Bool
   hits = marked 0 (length (joined old)) places
 
@@ -136,10 +176,12 @@ module _ {T : Type 0} (old now : List (List T)) (places : List ℕ) (i before us
   pub left_within : before + length rows ≤ length (joined old)
   left_within = omega (arith, thin_within old now hits i before rows new lt is s.thinning, marked_long 0 (length (joined old)) places)
 
-  pub left_more : (more : ℕ) → length rows ≤ 256 → more ≤ length (drop used places) → new ≡ unhit rows (marked before (length rows) (drop used places)) → IsPast before (length rows) (drop used places) more
+  pub left_more : (more : ℕ) → length rows ≤ 256 → more ≤ length (drop used places)
+      → new ≡ unhit rows (marked before (length rows) (drop used places)) → IsPast before (length rows) (drop used places) more
       → AreLeft old (slice_set now i new) places (i + 1) (before + length rows) (used + more)
   left_more more small few w past =
-      let front : take (length rows) (drop before hits) ≡ marked before (length rows) (drop used places) = ap (take (length rows)) all_left ∙ marked_front before (length rows) rest (drop used places) in
+      let front : take (length rows) (drop before hits) ≡ marked before (length rows) (drop used places) = ap
+      (take (length rows)) all_left ∙ marked_front before (length rows) rest (drop used places) in
       let same : drop (i + 1) (slice_set now i new) ≡ drop (i + 1) now = drop-set-lt (i + 1) now i new (omega arith) in
       record {
         thinning = thinning_more old now hits i before rows new lt is s.thinning small (w ∙ ap (unhit rows) (sym front));
@@ -190,13 +232,16 @@ merged_behind [] rows pages = refl
 merged_behind (f ∷ front) rows pages = ap (λ l. f ∷ l) (merged_behind front rows pages)
 
 -- the page before those that share one already
-pub pack_more : {T : Type 0} (old now new : List (List T)) (bound page : ℕ) → page + 1 ≡ bound → bound ≤ length old → now ≡ take bound old ++ compaction (drop bound old) → new ≡ merged_at page now → new ≡ take page old ++ compaction (drop page old)
+pub pack_more : {T : Type 0} (old now new : List (List T)) (bound page : ℕ) → page + 1 ≡ bound → bound ≤ length old
+    → now ≡ take bound old ++ compaction (drop bound old) → new ≡ merged_at page now → new ≡ take page old ++ compaction (drop page old)
 pack_more old now new bound page e le w m = by_front (get_or old page []) (take_more old page [] (omega (arith, e, le))) (drop_more old page [] (omega (arith, e, le)))
   where
     by_front : (rows : List _) → take (page + 1) old ≡ take page old ++ rows ∷ [] → drop page old ≡ rows ∷ drop (page + 1) old → new ≡ take page old ++ compaction (drop page old)
     by_front rows t d =
         let n : page ≡ length (take page old) = omega (arith, length-take page old, e, le) in
-        m ∙ ap (merged_at page) (w ∙ ap (λ k. take k old ++ compaction (drop k old)) (sym e) ∙ ap (λ f. f ++ compaction (drop (page + 1) old)) t ∙ append_assoc (take page old) (rows ∷ []) (compaction (drop (page + 1) old)))
+        m ∙ ap (merged_at page)
+        (w ∙ ap (λ k. take k old ++ compaction (drop k old)) (sym e) ∙ ap (λ f. f ++ compaction (drop (page + 1) old))
+        t ∙ append_assoc (take page old) (rows ∷ []) (compaction (drop (page + 1) old)))
         ∙ ap (λ k. merged_at k (take page old ++ rows ∷ compaction (drop (page + 1) old))) n
         ∙ merged_behind (take page old) rows (compaction (drop (page + 1) old))
         ∙ sym (ap (λ ps. take page old ++ compaction ps) d)

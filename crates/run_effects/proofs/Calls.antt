@@ -15,12 +15,53 @@ use Rattle.conversation.specs.declared.outcomes.Outcome.{Outcome}
 use Rattle.conversation.specs.declared.sessions.Session.{Session}
 use Rattle.conversation.specs.Devices.{Devices, AreOwn}
 use Rattle.conversation.specs.Devices as own
-use Rattle.conversation.specs.Paths.{Event, Asked, Took, Strayed, Drew, Opened, Printed, Follows, stays, asks, takes_more, takes_last, strays, notes_more, notes_last, notes_stray, replies_to, taken_in, OpensAll, IsStray}
+use Rattle.conversation.specs.Paths.{
+  Event,
+  Asked,
+  Took,
+  Strayed,
+  Drew,
+  Opened,
+  Printed,
+  Follows,
+  stays,
+  asks,
+  takes_more,
+  takes_last,
+  strays,
+  notes_more,
+  notes_last,
+  notes_stray,
+  replies_to,
+  taken_in,
+  OpensAll,
+  IsStray,
+}
 use Rattle.conversation.specs.Talk.{Talk, Stops, Asks, Hears, Notes, Heard, More, Got, hear, broken}
 use Rattle.conversation.specs.Turns.{hearing}
 use Rattle.outcome_text.specs.Counting.{asked, counted, printed}
 use Rattle.outcome_text.specs.Printing.{printed_outcome}
-use Rattle.run_effects.specs.Shares.{ClientSide, Wire, Outside, AreServed, Queue, Queues, queue_of, Stream, Standing, Streams, Comes, ClientPut, WirePut, WireRead, text_of, frames_of, exchanges_of, devices_of, with_devices}
+use Rattle.run_effects.specs.Shares.{
+  ClientSide,
+  Wire,
+  Outside,
+  AreServed,
+  Queue,
+  Queues,
+  queue_of,
+  Stream,
+  Standing,
+  Streams,
+  Comes,
+  ClientPut,
+  WirePut,
+  WireRead,
+  text_of,
+  frames_of,
+  exchanges_of,
+  devices_of,
+  with_devices,
+}
 use Rattle.run_effects.specs.Ways.{Proceeds, HaltsAt, Breaks, AsksInPart, TakesOne, IsNextOf, IsNextOn, StaysWithin, off}
 use Rattle.outcome_text.specs.declared.tallies.Tally.{Tally}
 use Rattle.run_effects.proofs.Going.{client_still, comes_still, stay, client_front, wire_front, breaks_between, silent_by}
@@ -101,7 +142,8 @@ own_goes t u old x g = record {
     tally = sym (own_uncounted g.events g.own old.client.tally);
     wire = record {
       comes =
-          comes_still old.wire.version g.events (none_come g.events g.own) (own_queues old.wire.version g.events g.own) (own_streams old.wire.version g.events g.own) old.wire.stream (queue_of old.wire);
+          comes_still old.wire.version g.events (none_come g.events g.own) (own_queues old.wire.version g.events g.own)
+          (own_streams old.wire.version g.events g.own) old.wire.stream (queue_of old.wire);
       taken = let e : length (flat_map taken_in g.events) ≡ 0 = ap length (none_taken g.events g.own) in omega arith;
     };
   };
@@ -109,7 +151,8 @@ own_goes t u old x g = record {
 }
 
 -- it stands at the draw, or at the key, that wasn't given
-pub own_halts : (P : Talk → Type 0) (t : Talk) (old : Outside) (x : Devices) → own.Halts P t (devices_of old.client) x → HaltsAt (λ rest now. P rest) t old (record old { client = with_devices old.client x })
+pub own_halts : (P : Talk → Type 0) (t : Talk) (old : Outside) (x : Devices) → own.Halts P t (devices_of old.client) x
+    → HaltsAt (λ rest now. P rest) t old (record old { client = with_devices old.client x })
 own_halts P t old x h = record { rest = h.rest; goes = own_goes t h.rest old x h.goes; place = h.place }
 
 pub own_breaks : (P : Talk → Type 0) (t : Talk) (old : Outside) (x : Devices) → own.Halts P t (devices_of old.client) x → Breaks t old (record old { client = with_devices old.client x })
@@ -125,7 +168,15 @@ twice_nil : (xs : List ℕ) → (xs ++ []) ++ [] ≡ xs
 twice_nil xs = append-nil (xs ++ []) ∙ append-nil xs
 
 pub wire_printed : (comes : Outcome) (w : Wire) → WirePut Adds (Printed comes ∷ []) w w
-wire_printed comes w = record { names = refl; version = refl; tap = adds_none w.tap; log = adds_none w.log; state = told_same (AreServed (Printed comes ∷ [])) (λ x. refl) w.state; count = omega arith; closed = refl }
+wire_printed comes w = record {
+  names = refl;
+  version = refl;
+  tap = adds_none w.tap;
+  log = adds_none w.log;
+  state = told_same (AreServed (Printed comes ∷ [])) (λ x. refl) w.state;
+  count = omega arith;
+  closed = refl;
+}
 
 module _ (comes : Outcome) (d : ClientSide) (out : Option (List ℕ)) (faults : ℕ) (names : List GName) (same : names ≡ d.out_names) (count : d.out_faults ≤ faults) where
   pub client_printed : Adds (printed_outcome comes) d.out out → (tally : Tally) → ClientPut Adds (Printed comes ∷ []) d (record d { out_names = names; out = out; tally = tally; out_faults = faults })
@@ -330,7 +381,16 @@ strayed_goes aloud session shown f next old s e = record {
       entropy_count = omega arith;
       vault_count = omega arith;
     };
-    wire = record { names = refl; version = refl; tap = adds_none old.wire.tap; log = adds_none old.wire.log; state = told_same (AreServed (Strayed next ∷ [])) (λ x. refl) old.wire.state; count = omega arith; closed = refl };
+    wire = record {
+      names = refl;
+      version = refl;
+      tap = adds_none old.wire.tap;
+      log = adds_none old.wire.log;
+      state =
+          told_same (AreServed (Strayed next ∷ [])) (λ x. refl) old.wire.state;
+      count = omega arith;
+      closed = refl;
+    };
   };
   read = record { tally = refl; wire = record { comes = comes_strayed old.wire.version next old.wire.stream (queue_of old.wire) e; taken = omega arith } };
   limit = λ h. h;

@@ -11,7 +11,29 @@ use Rattle.conversation.specs.Paths.{Event, Asked, Took, Strayed, Drew, Opened, 
 use Rattle.conversation.specs.Talk.{Talk}
 use Rattle.conversation.proofs.Interface.{follows_then, opens_then}
 use Rattle.outcome_text.specs.Counting.{count, counted}
-use Rattle.run_effects.specs.Shares.{ClientSide, Wire, Outside, AreServed, Queue, Queues, queue_of, with_answer, Stream, Standing, Streams, standing_of, Comes, ClientPut, WirePut, HasPut, WireRead, HasRead, text_of, frames_of, exchanges_of}
+use Rattle.run_effects.specs.Shares.{
+  ClientSide,
+  Wire,
+  Outside,
+  AreServed,
+  Queue,
+  Queues,
+  queue_of,
+  with_answer,
+  Stream,
+  Standing,
+  Streams,
+  standing_of,
+  Comes,
+  ClientPut,
+  WirePut,
+  HasPut,
+  WireRead,
+  HasRead,
+  text_of,
+  frames_of,
+  exchanges_of,
+}
 use Rattle.run_effects.specs.Ways.{Proceeds, HaltsAt, Lacks, Breaks, StopsBy, Advances, CantBeRead, IsSilent, Lacking, LacksAt}
 use Rattle.run_effects.specs.declared.stops.Stop.{Stop}
 use Rattle.run_effects.specs.declared.stops.Stop.TheVariants as stop

@@ -11,7 +11,29 @@ use Rattle.conversation.specs.declared.outcomes.Outcome.{Outcome}
 use Rattle.conversation.specs.declared.sessions.Session.{Session}
 use Rattle.conversation.specs.Talk.{Talk, Stops, Hears, Notes, Draws, Heard, Missed, hear, broken, nothing_broken}
 use Rattle.conversation.specs.Drive.{Passed, BadReply, stopped, outcomes_in, listen, passed_on, passed_by, over, passing, coming}
-use Rattle.conversation.specs.Paths.{Event, Follows, stays, asks, takes_more, takes_last, strays, notes_more, notes_last, notes_stray, prints_last, draws, opens, prints, IsStray, next_of, taken_in, drawn_in, outcome_in, Waits, OpensAll}
+use Rattle.conversation.specs.Paths.{
+  Event,
+  Follows,
+  stays,
+  asks,
+  takes_more,
+  takes_last,
+  strays,
+  notes_more,
+  notes_last,
+  notes_stray,
+  prints_last,
+  draws,
+  opens,
+  prints,
+  IsStray,
+  next_of,
+  taken_in,
+  drawn_in,
+  outcome_in,
+  Waits,
+  OpensAll,
+}
 use Rattle.run_effects.specs.Shares.{AreServedBy, exchanges_of}
 
 -- the exchanges and outcomes of the events, and then those
@@ -35,9 +57,11 @@ drawn_first onward bytes more state e =
     let d : drop 16 (bytes ++ more) ≡ more = subst (λ n. drop n (bytes ++ more) ≡ more) e (drop-append_seam bytes more) in
     rw (s, t, d) refl
 
-stray_is_lost : {State : Type 0} (serving : State → Request → Served State) (lost : Session → Listing → Option Outcome) (session : Session) (shown : Listing) (taken : ℕ) (f : Heard → Talk) (keys : KeyMap) (more : List ℕ) (state : State) (next : Option Reply) (queue : List Reply)
+stray_is_lost : {State : Type 0} (serving : State → Request → Served State) (lost : Session → Listing → Option Outcome)
+    (session : Session) (shown : Listing) (taken : ℕ) (f : Heard → Talk) (keys : KeyMap) (more : List ℕ) (state : State) (next : Option Reply) (queue : List Reply)
     → IsStray session shown next → next_of queue ≡ next
-    → passed_on (λ heard n left. over serving keys (f heard) n more state left) more state (listen lost queue session shown taken) ≡ stopped (outcomes_in (lost session shown)) more state (BadReply taken)
+    → passed_on (λ heard n left. over serving keys (f heard) n more state left) more state
+    (listen lost queue session shown taken) ≡ stopped (outcomes_in (lost session shown)) more state (BadReply taken)
 stray_is_lost serving lost session shown taken f keys more state None [] s e = refl
 stray_is_lost serving lost session shown taken f keys more state None (reply ∷ queue) s e = cc
 stray_is_lost serving lost session shown taken f keys more state (Some r) [] s e = cc
@@ -45,7 +69,8 @@ stray_is_lost serving lost session shown taken f keys more state (Some r) (reply
     let i : hear session shown reply ≡ Missed = subst (λ x. IsStray session shown x) (sym e) s in
     rw i refl
 
-pub path_passes : {State : Type 0} (serving : State → Request → Served State) (keys : KeyMap) (t u : Talk) (events : List Event) → Follows t events u → (queue left : List Reply) → Waits events queue left → OpensAll events keys
+pub path_passes : {State : Type 0} (serving : State → Request → Served State) (keys : KeyMap) (t u : Talk) (events : List Event)
+    → Follows t events u → (queue left : List Reply) → Waits events queue left → OpensAll events keys
     → (state after : State) → AreServedBy serving events state after → (taken : ℕ) (more : List ℕ)
     → over serving keys t taken (flat_map drawn_in events ++ more) state queue ≡ ahead events (over serving keys u (taken + length (flat_map taken_in events)) more after left)
 path_passes serving keys _ _ _ (stays t) queue left q o state after v taken more = let z : taken + 0 ≡ taken = omega arith in rw (q, v, z) refl

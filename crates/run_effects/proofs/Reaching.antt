@@ -49,7 +49,8 @@ alone_serves (Opened meta key ∷ events) s b h = alone_serves events s b h
 alone_serves (Printed comes ∷ events) s b h = alone_serves events s b h
 
 -- where it is told, so is the state behind some events
-pub served_so : {S : Type 0} (told : S → Beside) (serving : S → Request → Served S) → ServesAs told serving → (events : List Event) (a b : Option Beside) (s : S) → a ≡ Some (told s) → WhereTold (AreServed events) a b
+pub served_so : {S : Type 0} (told : S → Beside) (serving : S → Request → Served S) → ServesAs told serving
+    → (events : List Event) (a b : Option Beside) (s : S) → a ≡ Some (told s) → WhereTold (AreServed events) a b
     → (v : S) × (b ≡ Some (told v)) × AreServedBy serving events s v
 served_so told serving serves events a (Some v) s e h =
     let w = serves events s v (subst (λ x. WhereTold (AreServed events) x (Some v)) e h) in
@@ -90,7 +91,8 @@ module _ {S : Type 0} (serving : S → Request → Served S) (keys : KeyMap) (t 
   abbrev pub begins : (u : Talk) (events : List Event) (state : S) (left : List Reply) → Reached u events state left → Begins events
   begins u events state left r = record { bytes = r.bytes; rest = λ more. over serving keys u r.taken more state left; is = r.is }
 
-module _ {S : Type 0} (told : S → Beside) (serving : S → Request → Served S) (serves : ServesAs told serving) (keys : KeyMap) (t : Talk) (from : S) (old : Outside) (st : Starts keys (told from) old) where
+module _ {S : Type 0} (told : S → Beside) (serving : S → Request → Served S) (serves : ServesAs told serving)
+    (keys : KeyMap) (t : Talk) (from : S) (old : Outside) (st : Starts keys (told from) old) where
   module _ (u : Talk) (new : Outside) (g : Proceeds t u old new) where
     abbrev left : List Reply
     left = messages_of new.wire.waiting

@@ -175,7 +175,8 @@ Advances (Err s) t onward old new = StopsBy s t old new
 
 -- of the request, with what came back, a front was put; or it wasn't asked; and no stream was read
 abbrev pub AsksInPart : Request → Wire → Wire → Type 0
-AsksInPart request old new = (new.stream ≡ old.stream) × (WirePut AddsFront [] old new ⊎ ((replies : List Reply) × IsSilent old.stream (Asked request replies ∷ []) × WirePut AddsFront (Asked request replies ∷ []) old new))
+AsksInPart request old new = (new.stream ≡ old.stream) ×
+    (WirePut AddsFront [] old new ⊎ ((replies : List Reply) × IsSilent old.stream (Asked request replies ∷ []) × WirePut AddsFront (Asked request replies ∷ []) old new))
 
 -- the reply that waits first, or is the next of the frame that stands first in the bytes that are held
 abbrev pub IsFirstOf : FrameVersion → Reply → Option Stream → List (Placed Reply) → Type 0

@@ -28,7 +28,30 @@ use Rattle.scalar.specs.declared.faults.Overflow.{Overflow}
 use Rattle.scalar.specs.declared.truth.Truth.{Truth}
 use Rattle.scalar.specs.declared.truth.Truth.TheVariants as truths
 use Rattle.scalar.specs.Classes.{Class, Open, Det, Rnd, Pairing, class_at, IsNotNull, IsNotSealed, IsOneToOne, Correspond, PlacesCorrespond, RowsCorrespond, BothAnswer}
-use Rattle.scalar.specs.Eval.{atom_at, overflow, sum_with, minus, number_or_null, eval, eval_terms, datum_cmp, holds, truth_of, order_truth, same_or_not, compare, negation, conjunction, disjunction, if_negated, null_truth, in_list, truth, truth_all, truth_any}
+use Rattle.scalar.specs.Eval.{
+  atom_at,
+  overflow,
+  sum_with,
+  minus,
+  number_or_null,
+  eval,
+  eval_terms,
+  datum_cmp,
+  holds,
+  truth_of,
+  order_truth,
+  same_or_not,
+  compare,
+  negation,
+  conjunction,
+  disjunction,
+  if_negated,
+  null_truth,
+  in_list,
+  truth,
+  truth_all,
+  truth_any,
+}
 use Rattle.scalar.specs.Typed.{StandsAt, AreSumsOpen, AreTermsOpen, IsNotRandomized, MayCompare, AreComparable, IsTypedCondition, AreTypedConditions}
 use Rattle.scalar.proofs.Renaming.{both_same}
 
@@ -156,7 +179,8 @@ module _ (R : Pairing) (r : IsOneToOne R) where
         (λ e. (atom_eq-Decides b d (r.right_there (Det key ty) a b p)).1 (r.onto key ty a b c d p q e)),
       )
 
-  compare_paired : (compared : Comparison) (key : ℕ) (ty : Ty) (a b c d : Atom) → IsOfSameness compared → Correspond R (Det key ty) a b → Correspond R (Det key ty) c d → compare compared a c ≡ compare compared b d
+  compare_paired : (compared : Comparison) (key : ℕ) (ty : Ty) (a b c d : Atom) → IsOfSameness compared
+      → Correspond R (Det key ty) a b → Correspond R (Det key ty) c d → compare compared a c ≡ compare compared b d
   compare_paired compared key ty a b c d s m n =
       elim m [
         | inl e ↦ ap (λ x. compare compared x c) e.0 ∙ sym (ap (λ x. compare compared x d) e.1)
@@ -170,7 +194,8 @@ module _ (R : Pairing) (r : IsOneToOne R) where
             ]
       ]
 
-  pub compare_alike : (compared : Comparison) (class : Class) (a b c d : Atom) → MayCompare compared class → Correspond R class a b → Correspond R class c d → compare compared a c ≡ compare compared b d
+  pub compare_alike : (compared : Comparison) (class : Class) (a b c d : Atom) → MayCompare compared class
+      → Correspond R class a b → Correspond R class c d → compare compared a c ≡ compare compared b d
   compare_alike compared Open a b c d may m n = ap (λ x. compare compared x c) (sym m.0) ∙ ap (compare compared b) (sym n.0)
   compare_alike compared (Det key ty) a b c d may m n = compare_paired compared key ty a b c d (of_sameness compared key ty may) m n
   compare_alike compared (Rnd key ty) a b c d may m n = not_randomized compared key ty may
@@ -256,7 +281,8 @@ module _ (R : Pairing) (r : IsOneToOne R) where
 
   combined_alike : (f : ℤ → ℤ → ℤ) (a b c d : Atom) → Correspond R Open a b → Correspond R Open c d → BothAnswer (Correspond R Open) (sum_with f a c) (sum_with f b d)
   combined_alike f a b c d m n =
-      subst (λ x. BothAnswer (Correspond R Open) (sum_with f a c) (sum_with f x d)) (sym m.0) (subst (λ x. BothAnswer (Correspond R Open) (sum_with f a c) (sum_with f a x)) (sym n.0) (combined_open f a c))
+      subst (λ x. BothAnswer (Correspond R Open) (sum_with f a c) (sum_with f x d)) (sym m.0)
+      (subst (λ x. BothAnswer (Correspond R Open) (sum_with f a c) (sum_with f a x)) (sym n.0) (combined_open f a c))
 
   module _ (columns params : List Class) (row other values others : List Atom) (rows : PlacesCorrespond R columns row other) (given : PlacesCorrespond R params values others) where
     at_class : (c d : Class) (a b : Atom) → c ≡ d → Correspond R d a b → Correspond R c a b
@@ -277,7 +303,8 @@ module _ (R : Pairing) (r : IsOneToOne R) where
           (both_then (Correspond R Open) (Correspond R Open) (eval row values x) (eval other others x) minus minus (eval_at x Open h.1 h.0) negated_alike)
       eval_at (operands.Sum first terms) c h s =
           open_answers c (eval row values (operands.Sum first terms)) (eval other others (operands.Sum first terms)) s
-          (both_then (Correspond R Open) (Correspond R Open) (eval row values first) (eval other others first) (λ sum. eval_terms row values (number_or_null sum) terms) (λ sum. eval_terms other others (number_or_null sum) terms)
+          (both_then (Correspond R Open) (Correspond R Open) (eval row values first) (eval other others first)
+          (λ sum. eval_terms row values (number_or_null sum) terms) (λ sum. eval_terms other others (number_or_null sum) terms)
           (eval_at first Open h.1 h.0) (λ a b m. terms_alike terms (number_or_null a) (number_or_null b) h.2 (number_alike a b m)))
 
       terms_alike : (terms : operands.Terms ℕ ℕ) (a b : Atom) → AreTermsOpen columns params terms → Correspond R Open a b
@@ -286,12 +313,14 @@ module _ (R : Pairing) (r : IsOneToOne R) where
       terms_alike (operands.PlusThen at x more) a b h m =
           both_then (Correspond R Open) (Correspond R Open) (eval row values x) (eval other others x) (λ term. sum_with (λ a b. a +ℤ b) a term >>= λ next. eval_terms row values next more)
           (λ term. sum_with (λ a b. a +ℤ b) b term >>= λ next. eval_terms other others next more) (eval_at x Open h.1 h.0)
-          (λ c d n. both_then (Correspond R Open) (Correspond R Open) (sum_with (λ a b. a +ℤ b) a c) (sum_with (λ a b. a +ℤ b) b d) (λ next. eval_terms row values next more) (λ next. eval_terms other others next more)
+          (λ c d n. both_then (Correspond R Open) (Correspond R Open) (sum_with (λ a b. a +ℤ b) a c)
+          (sum_with (λ a b. a +ℤ b) b d) (λ next. eval_terms row values next more) (λ next. eval_terms other others next more)
           (combined_alike (λ a b. a +ℤ b) a b c d m n) (λ x y k. terms_alike more x y h.2 k))
       terms_alike (operands.MinusThen at x more) a b h m =
           both_then (Correspond R Open) (Correspond R Open) (eval row values x) (eval other others x) (λ term. sum_with (λ a b. a -ℤ b) a term >>= λ next. eval_terms row values next more)
           (λ term. sum_with (λ a b. a -ℤ b) b term >>= λ next. eval_terms other others next more) (eval_at x Open h.1 h.0)
-          (λ c d n. both_then (Correspond R Open) (Correspond R Open) (sum_with (λ a b. a -ℤ b) a c) (sum_with (λ a b. a -ℤ b) b d) (λ next. eval_terms row values next more) (λ next. eval_terms other others next more)
+          (λ c d n. both_then (Correspond R Open) (Correspond R Open) (sum_with (λ a b. a -ℤ b) a c)
+          (sum_with (λ a b. a -ℤ b) b d) (λ next. eval_terms row values next more) (λ next. eval_terms other others next more)
           (combined_alike (λ a b. a -ℤ b) a b c d m n) (λ x y k. terms_alike more x y h.2 k))
 
     -- every operand stands at some class
@@ -340,7 +369,8 @@ module _ (R : Pairing) (r : IsOneToOne R) where
         (λ p q e. ap (disjunction (compare comparison.Equal b d)) e
         ∙ ap (λ t. disjunction t p) (sym (compare_alike comparison.Equal first.0.class a b c d first.0.admitted (m first.0.class first.0.left) n)))))
 
-    in_alike : (x : BoundOperand) → AreSumsOpen columns params x → (s t : Result Atom Overflow) → ((c : Class) → StandsAt columns params c x → BothAnswer (Correspond R c) s t) → (minus : Bool) (list : List BoundOperand)
+    in_alike : (x : BoundOperand) → AreSumsOpen columns params x → (s t : Result Atom Overflow)
+        → ((c : Class) → StandsAt columns params c x → BothAnswer (Correspond R c) s t) → (minus : Bool) (list : List BoundOperand)
         → All (λ y. AreComparable columns params comparison.Equal x y × AreSumsOpen columns params y) list
         → (t >>= λ b. in_list other others b list >>= λ u. Ok (if_negated minus u)) ≡ (s >>= λ a. in_list row values a list >>= λ u. Ok (if_negated minus u))
     in_alike x h (Ok a) (Ok b) each minus list all = ap (λ r. r >>= λ u. Ok (if_negated minus u)) (in_list_alike x h a b each list all)
@@ -351,8 +381,10 @@ module _ (R : Pairing) (r : IsOneToOne R) where
     compare_at : (compared : Comparison) (left right : BoundOperand) → AreComparable columns params compared left right → AreSumsOpen columns params left → AreSumsOpen columns params right
         → (eval other others left >>= λ a. eval other others right >>= λ b. Ok (compare compared a b)) ≡ (eval row values left >>= λ a. eval row values right >>= λ b. Ok (compare compared a b))
     compare_at compared left right may h k =
-        same_answer (eval row values left >>= λ a. eval row values right >>= λ b. Ok (compare compared a b)) (eval other others left >>= λ a. eval other others right >>= λ b. Ok (compare compared a b))
-        (both_then (Correspond R may.class) (λ p q. q ≡ p) (eval row values left) (eval other others left) (λ a. eval row values right >>= λ b. Ok (compare compared a b)) (λ a. eval other others right >>= λ b. Ok (compare compared a b))
+        same_answer (eval row values left >>= λ a. eval row values right >>= λ b. Ok (compare compared a b))
+        (eval other others left >>= λ a. eval other others right >>= λ b. Ok (compare compared a b))
+        (both_then (Correspond R may.class) (λ p q. q ≡ p) (eval row values left) (eval other others left)
+        (λ a. eval row values right >>= λ b. Ok (compare compared a b)) (λ a. eval other others right >>= λ b. Ok (compare compared a b))
         (eval_at left may.class h may.left)
         (λ a b m. both_then (Correspond R may.class) (λ p q. q ≡ p) (eval row values right) (eval other others right) (λ c. Ok (compare compared a c)) (λ d. Ok (compare compared b d))
         (eval_at right may.class k may.right) (λ c d n. sym (compare_alike compared may.class a b c d may.admitted m n))))
@@ -377,13 +409,15 @@ module _ (R : Pairing) (r : IsOneToOne R) where
       all_at : (all : conditions.Conditions ℕ ℕ) → AreTypedConditions columns params all → truth_all other others all ≡ truth_all row values all
       all_at conditions.NoMore h = refl
       all_at (conditions.Then c more) h =
-          both_same (truth other others c) (truth row values c) (λ t. truth_all other others more >>= λ rest. Ok (conjunction t rest)) (λ t. truth_all row values more >>= λ rest. Ok (conjunction t rest))
+          both_same (truth other others c) (truth row values c) (λ t. truth_all other others more >>= λ rest. Ok (conjunction t rest))
+          (λ t. truth_all row values more >>= λ rest. Ok (conjunction t rest))
           (truth_at c h.0) (λ t. ap (λ r. r >>= λ rest. Ok (conjunction t rest)) (all_at more h.1))
 
       any_at : (any : conditions.Conditions ℕ ℕ) → AreTypedConditions columns params any → truth_any other others any ≡ truth_any row values any
       any_at conditions.NoMore h = refl
       any_at (conditions.Then c more) h =
-          both_same (truth other others c) (truth row values c) (λ t. truth_any other others more >>= λ rest. Ok (disjunction t rest)) (λ t. truth_any row values more >>= λ rest. Ok (disjunction t rest))
+          both_same (truth other others c) (truth row values c) (λ t. truth_any other others more >>= λ rest. Ok (disjunction t rest))
+          (λ t. truth_any row values more >>= λ rest. Ok (disjunction t rest))
           (truth_at c h.0) (λ t. ap (λ r. r >>= λ rest. Ok (disjunction t rest)) (any_at more h.1))
 
 -- an operand's values correspond at its class

@@ -53,7 +53,8 @@ condition_within width count xs i x lt e h = subst (λ y. IsPlacedCondition widt
     there (x ∷ xs) zero default lt h = h.0
     there (x ∷ xs) (suc i) default lt h = there xs i default (omega arith) h.1
 
-pub operand_within : (width count : ℕ) (xs : List (code_operand.Operand ℕ ℕ)) (i : ℕ) (x : code_operand.Operand ℕ ℕ) → i < length xs → x ≡ get_or xs i x → All (IsPlaced width count) (map operand_of xs)
+pub operand_within : (width count : ℕ) (xs : List (code_operand.Operand ℕ ℕ)) (i : ℕ) (x : code_operand.Operand ℕ ℕ)
+    → i < length xs → x ≡ get_or xs i x → All (IsPlaced width count) (map operand_of xs)
     → IsPlaced width count (operand_of x)
 operand_within width count xs i x lt e h = subst (λ y. IsPlaced width count (operand_of y)) (sym e) (there xs i x lt h)
   where

@@ -23,7 +23,8 @@ terms_within width count operand first terms items e f h =
     g.1
 
 -- a sum is its first value and then its terms
-pub sum_of_parts : (row params : List (AtomOf (List ℕ))) (operand one : code.Operand ℕ ℕ) (first : Box (code.Operand ℕ ℕ) Global) (terms : Vec (code_term.Term ℕ ℕ) Global) (items : List (code_term.Term ℕ ℕ))
+pub sum_of_parts : (row params : List (AtomOf (List ℕ))) (operand one : code.Operand ℕ ℕ) (first : Box (code.Operand ℕ ℕ) Global)
+    (terms : Vec (code_term.Term ℕ ℕ) Global) (items : List (code_term.Term ℕ ℕ))
     (sum : AtomOf (List ℕ)) → operand ≡ code.Sum first terms → one ≡ first.value → items ≡ terms.items → eval row params (operands.operand_of one) ≡ Ok sum
     → eval row params (operands.operand_of operand) ≡ eval_terms row params (number_or_null sum) (terms_listed items)
 sum_of_parts row params operand one first terms items sum e f g h =
@@ -74,7 +75,8 @@ sum_more row params whole sum next terms i term lt e w h =
     w ∙ term_then row params sum terms i term lt e ∙ ap (λ x. x >>= λ next. eval_terms row params next (terms_listed (drop (i + 1) terms))) h
 
 -- or it ends there
-pub sum_fault : (row params : List (AtomOf (List ℕ))) (whole : Result (AtomOf (List ℕ)) Overflow) (sum : AtomOf (List ℕ)) (fault : Overflow) (terms : List (code_term.Term ℕ ℕ)) (i : ℕ) (term : code_term.Term ℕ ℕ)
+pub sum_fault : (row params : List (AtomOf (List ℕ))) (whole : Result (AtomOf (List ℕ)) Overflow) (sum : AtomOf (List ℕ))
+    (fault : Overflow) (terms : List (code_term.Term ℕ ℕ)) (i : ℕ) (term : code_term.Term ℕ ℕ)
     → i < length terms → term ≡ get_or terms i term → whole ≡ eval_terms row params sum (terms_listed (drop i terms))
     → eval_terms row params sum (terms_listed (term ∷ [])) ≡ Err fault → whole ≡ Err fault
 sum_fault row params whole sum fault terms i term lt e w h =

@@ -1,5 +1,37 @@
 -- A word of SQL is one token, and a name where it isn't reserved.
-use Rattle.std.proofs.Common.{◌≡◌, ℕ, suc, ◌+◌, ◌-◌, ◌<◌, ◌≤◌, ◌==◌, Bool, true, false, cond, not, ◌&&◌, ◌||◌, List, [], ◌∷◌, length, take, take_while, Option, Some, None, is_some, refl, sym, ◌∙◌, ap, arith, nat_lt}
+use Rattle.std.proofs.Common.{
+  ◌≡◌,
+  ℕ,
+  suc,
+  ◌+◌,
+  ◌-◌,
+  ◌<◌,
+  ◌≤◌,
+  ◌==◌,
+  Bool,
+  true,
+  false,
+  cond,
+  not,
+  ◌&&◌,
+  ◌||◌,
+  List,
+  [],
+  ◌∷◌,
+  length,
+  take,
+  take_while,
+  Option,
+  Some,
+  None,
+  is_some,
+  refl,
+  sym,
+  ◌∙◌,
+  ap,
+  arith,
+  nat_lt,
+}
 use Rattle.std.specs.Prelude.{slice_index}
 use Rattle.std.specs.List.{All, list_all, prefix_len}
 use Rattle.std.specs.Str.{IsUtf8}
@@ -12,7 +44,24 @@ use Rattle.std.proofs.lemmas.Str.Ascii.{IsAscii-from_all}
 use Rattle.sql_tree.specs.declared.lexemes.Keyword.{Keyword}
 use Rattle.sql_tree.specs.declared.lexemes.Token.{Token}
 use Rattle.sql_tree.specs.Tokens as sql
-use Rattle.sql_tree.specs.Tokens.{Front, begins_word, first_wide, front, in_capitals, is_name, is_word_byte, keyword_or, keywords, named, named_in, passed_over, tokens_from, tokens_of, wide, word_lexeme}
+use Rattle.sql_tree.specs.Tokens.{
+  Front,
+  begins_word,
+  first_wide,
+  front,
+  in_capitals,
+  is_name,
+  is_word_byte,
+  keyword_or,
+  keywords,
+  named,
+  named_in,
+  passed_over,
+  tokens_from,
+  tokens_of,
+  wide,
+  word_lexeme,
+}
 use Rattle.ae_base.specs.Names.{IsName}
 use Rattle.script_lang.specs.Script.{is_one_word, table_of}
 use Rattle.script_lang.specs.Reading.{lexemes, sole_name}
@@ -99,7 +148,8 @@ one_token_at : (b : ℕ) (bytes : List ℕ) → is_name (b ∷ bytes) ≡ true �
 one_token_at b bytes short h all =
     let more = (and_parts (is_word_byte b) (list_all is_word_byte bytes) all).1 in
     let none : 0 + length (b ∷ bytes) ≡ length (b ∷ bytes) = omega arith in
-    let found : front (b ∷ bytes) ≡ Some (word_lexeme (b ∷ bytes), length (b ∷ bytes)) = word_front b bytes h more ∙ ap (named word_lexeme 0) (all_taken is_word_byte (b ∷ bytes) all) ∙ rw short (ap (λ n. Some (word_lexeme (b ∷ bytes), n)) none) in
+    let found : front (b ∷ bytes) ≡ Some (word_lexeme (b ∷ bytes), length (b ∷ bytes)) = word_front b bytes h
+    more ∙ ap (named word_lexeme 0) (all_taken is_word_byte (b ∷ bytes) all) ∙ rw short (ap (λ n. Some (word_lexeme (b ∷ bytes), n)) none) in
     let first : 0 + 1 ≡ 1 = omega arith in
     let rest : length (b ∷ bytes) - 1 ≡ length bytes = omega arith in
     rw (no_gap b bytes h, found, first, rest, skipped 1 bytes) refl

@@ -142,7 +142,8 @@ ended_over count (done.Answered n) = if_tells (n == count) (Tells answer.Over Id
 
 pub tells_rows : (session : Session) → IsRows session → (r : Reply) → TellsRows (replied session r)
 tells_rows (Reading columns keys count) w (reply.Row atoms) =
-    if_tells (is_row_of columns atoms) (row_read columns keys (count + 1) (read_atoms (count + 1) 1 columns keys atoms)) (read_tells columns keys (count + 1) (read_atoms (count + 1) 1 columns keys atoms))
+    if_tells (is_row_of columns atoms) (row_read columns keys (count + 1) (read_atoms (count + 1) 1 columns keys atoms))
+    (read_tells columns keys (count + 1) (read_atoms (count + 1) 1 columns keys atoms))
 tells_rows (Reading columns keys count) w (reply.Ended d) = ended_rows count d
 tells_rows (Reading columns keys count) w (reply.Refused f) = tt
 tells_rows (Reading columns keys count) w (reply.Columns header) = tt
@@ -158,7 +159,8 @@ tells_rows (Pending pending) w r = absurd w
 tells_rows Sent w r = absurd w
 
 -- what is said is what is told, and no device is touched
-pub says_told : (trusted : List (List ℕ)) (told : Told) → TellsRows told → (x : ReplyAnswer) (after : Session) (before now : Devices) → SaysAs trusted x told after before now → (told ≡ Tells x after) × (now ≡ before)
+pub says_told : (trusted : List (List ℕ)) (told : Told) → TellsRows told → (x : ReplyAnswer) (after : Session) (before now : Devices)
+    → SaysAs trusted x told after before now → (told ≡ Tells x after) × (now ≡ before)
 says_told trusted (Tells wanted next) w x after before now h = (ap (λ y. Tells y next) (sym h.0) ∙ ap (λ y. Tells x y) (sym h.1), h.2)
 says_told trusted (Shows header) w x after before now h = absurd w
 says_told trusted Stray w x after before now h = absurd h
@@ -200,6 +202,7 @@ more_rows (answer.Refused f) after shown more w e = absurd (subst IsMore (sym e)
 more_rows (answer.Failed f) after shown more w e = absurd (subst IsMore (sym e) tt)
 more_rows answer.Over after shown more w e = absurd (subst IsMore (sym e) tt)
 
-pub rows_stay : (heard : RowHeard) (x : ReplyAnswer) (after : Session) (shown more : Listing) → TellsRows (Tells x after) → HeardAs heard more after (heard_answer shown (Tells x after)) → RowsStay after heard
+pub rows_stay : (heard : RowHeard) (x : ReplyAnswer) (after : Session) (shown more : Listing) → TellsRows (Tells x after)
+    → HeardAs heard more after (heard_answer shown (Tells x after)) → RowsStay after heard
 rows_stay row.More x after shown more w e = more_rows x after shown more w e
 rows_stay (row.Said comes) x after shown more w e = tt

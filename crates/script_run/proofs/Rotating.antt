@@ -30,12 +30,14 @@ module _ (law : RotationsAreNext) (trusted : List (List ℕ)) (number : ℕ) (ol
   stands_moved s columns None after = refl
   stands_moved s columns (Some comes) after = law trusted number old new k s columns comes after
 
-  moves_on : (n : Next) (s : sends.Sent) (m : Move) (after : Session) → IsMove n s m → moved trusted number old new k m (heard trusted number old new k) after ≡ next_on trusted number old new k s n after
+  moves_on : (n : Next) (s : sends.Sent) (m : Move) (after : Session) → IsMove n s m
+      → moved trusted number old new k m (heard trusted number old new k) after ≡ next_on trusted number old new k s n after
   moves_on (next.Send batch) s m after e = ap (λ w. moved trusted number old new k w (heard trusted number old new k) after) e
   moves_on (next.Finished count) s m after e = ap (λ w. moved trusted number old new k w (heard trusted number old new k) after) e
   moves_on (next.Failed fault) s m after e = ap (λ w. moved trusted number old new k w (heard trusted number old new k) after) e
 
-  pub stands_next : (result : Result Next AllocError) (s t : sends.Sent) (columns : Accepted) (outcome : Option told.Outcome) (after : Session) → IfOk result (λ n. IsMove n t (move old new s columns outcome))
+  pub stands_next : (result : Result Next AllocError) (s t : sends.Sent) (columns : Accepted) (outcome : Option told.Outcome) (after : Session)
+      → IfOk result (λ n. IsMove n t (move old new s columns outcome))
       → IfOk result (λ n. standing trusted number old new k s columns outcome after ≡ next_on trusted number old new k t n after)
   stands_next (Ok n) s t columns outcome after h = stands_moved s columns outcome after ∙ moves_on n t (move old new s columns outcome) after h
   stands_next (Err e) s t columns outcome after h = tt

@@ -97,7 +97,8 @@ pub begun_clears : (answer : Result Request DriverFault) (old new : Accepted) �
 begun_clears (Ok request) old new e = e
 begun_clears (Err f) old new e = tt
 
-pub cleared_kept : (result : Result Described Stop) (number : ℕ) (a b : Client) (keys : Option KeyMap) → columns_of a number ≡ None → IfOk result (λ o. Keeps number a b keys) → IfOk result (IsCleared (columns_of b number))
+pub cleared_kept : (result : Result Described Stop) (number : ℕ) (a b : Client) (keys : Option KeyMap)
+    → columns_of a number ≡ None → IfOk result (λ o. Keeps number a b keys) → IfOk result (IsCleared (columns_of b number))
 cleared_kept (Ok (described.Ready params)) number a b keys e l = l.columns ∙ e
 cleared_kept (Ok (described.Refused comes)) number a b keys e l = inl (l.columns ∙ e)
 cleared_kept (Err s) number a b keys e l = tt
@@ -156,7 +157,8 @@ module _ (after : Session) (params : List DescribedParam) (r : IsReady after (de
       leads_then result t (executing aloud trusted number after k) on x y z
       (subst (λ w. Proceeds t w x y) (pending_ready (λ p. executing aloud trusted number (Pending p) k) rest ∙ ap (λ w. executing aloud trusted number w k) (sym r.1)) g) h
 
-  pub then_told : (k rest : Session → Talk) (result : Result (Unit {0}) Stop) (on : Talk) → Proceeds t (pending_on (λ p. Prints (outcome.Described (described_params p.keys (uses_of p))) (k (Pending p))) rest after) x y
+  pub then_told : (k rest : Session → Talk) (result : Result (Unit {0}) Stop) (on : Talk)
+      → Proceeds t (pending_on (λ p. Prints (outcome.Described (described_params p.keys (uses_of p))) (k (Pending p))) rest after) x y
       → Advances result (Prints (outcome.Described params) (k after)) (λ o. on) y z → Advances result t (λ o. on) x z
   then_told k rest result on g h =
       leads_then result t (Prints (outcome.Described params) (k after)) (λ o. on) x y z

@@ -18,5 +18,6 @@ module _ {A : Type 0} where
       let l : length xs ≤ most_script_bytes = h.2 in
       (xs, sym (append-nil xs) ∙ ap (λ w. xs ++ w) (sym h.1), omega arith)
 
-  pub takes_whole : (r : Result A Unread) (bytes : List ℕ) (old new : Option (List ℕ)) → (r ≡ Err unread.ReadFault → ⊥) → (r ≡ Err unread.TooLong → ⊥) → WhereTold (ReadsAll most_script_bytes (read.Whole bytes)) old new → WhereTold (TakesScript r) old new
+  pub takes_whole : (r : Result A Unread) (bytes : List ℕ) (old new : Option (List ℕ)) → (r ≡ Err unread.ReadFault → ⊥)
+      → (r ≡ Err unread.TooLong → ⊥) → WhereTold (ReadsAll most_script_bytes (read.Whole bytes)) old new → WhereTold (TakesScript r) old new
   takes_whole r bytes old new f w h = told_map (ReadsAll most_script_bytes (read.Whole bytes)) (TakesScript r) (λ x y p. takes r bytes x y f w p) old new h

@@ -54,7 +54,8 @@ open_same forced (p ∷ ps) (q ∷ qs) h (enc ∷ encs) =
 open_same forced [] (q ∷ qs) h encs = absurd h
 open_same forced (p ∷ ps) [] h encs = absurd h
 
-pub told_same : (forced : List (List ℕ)) (metas : List KeyMeta) (ps qs : List Param) → Differ forced ps qs → (encs : List (Option Enc)) → described_params metas (uses_in qs encs) ≡ described_params metas (uses_in ps encs)
+pub told_same : (forced : List (List ℕ)) (metas : List KeyMeta) (ps qs : List Param) → Differ forced ps qs
+    → (encs : List (Option Enc)) → described_params metas (uses_in qs encs) ≡ described_params metas (uses_in ps encs)
 told_same forced metas [] [] h encs = refl
 told_same forced metas (p ∷ ps) (q ∷ qs) h [] = refl
 told_same forced metas (p ∷ ps) (q ∷ qs) h (None ∷ encs) = told_same forced metas ps qs h.1 encs

@@ -24,7 +24,23 @@ use Rattle.driver.specs.declared.outcomes.Outcome.{Outcome}
 use Rattle.driver.specs.declared.outcomes.Outcome.TheVariants as told
 use Rattle.column_rotate.specs.Headers.{are_alike, columns_in}
 use Rattle.column_rotate.specs.Moves.{is_empty, rows_told}
-use Rattle.column_rotate.specs.Rotating.{Ends, beginning, committing, comparing, fails_with, fault_as, putting_each, reading_new, reading_old, replacing, rolling_back, rotating, runs, told_of, unless_refused}
+use Rattle.column_rotate.specs.Rotating.{
+  Ends,
+  beginning,
+  committing,
+  comparing,
+  fails_with,
+  fault_as,
+  putting_each,
+  reading_new,
+  reading_old,
+  replacing,
+  rolling_back,
+  rotating,
+  runs,
+  told_of,
+  unless_refused,
+}
 use Rattle.column_rotate.specs.Texts.{begins, commits, puts, reads_all, replaces, rolls_back}
 use Rattle.script_lang.specs.declared.steps.Act.TheVariants as act
 use Rattle.script_talk.specs.Forced.{BatchesDiffer, DiffersWhereForced}
@@ -102,7 +118,8 @@ module _ (below : CellLaws) (keys : KeyMap) (Pairs : Request → Request → Typ
   -- a batch is run, and its refusal goes one way
   goes_on : (batch : Batch) → IsOfRotation old new batch → batch.forced ≡ [] → (fails : Ends → Fault → Session → Talk) (f : Behind) → ((x : Fault) → Leads (fails k x) (fails j x))
       → ((columns : Accepted) (comes : Outcome) → Leads (f k columns comes) (f j columns comes))
-      → Leads (λ s. runs paths number old new k batch s (λ columns. unless_refused (fails k) (f k columns))) (λ s. runs paths number old new j batch s (λ columns. unless_refused (fails j) (f j columns)))
+      → Leads (λ s. runs paths number old new k batch s (λ columns. unless_refused (fails k) (f k columns)))
+      (λ s. runs paths number old new j batch s (λ columns. unless_refused (fails j) (f j columns)))
   goes_on batch of none fails f h g = runs_goes batch of none (λ e columns. unless_refused (fails e) (f e columns)) (λ columns. unless_goes fails (λ e. f e columns) h (g columns))
 
   fails_goes : (x : Fault) → Leads (fails_with paths number old new k x) (fails_with paths number old new j x)
@@ -113,7 +130,8 @@ module _ (below : CellLaws) (keys : KeyMap) (Pairs : Request → Request → Typ
 
   committing_goes : (all : ℕ) → Leads (committing paths number old new k all) (committing paths number old new j all)
   committing_goes all =
-      goes_on commits (inl (4, omega arith, refl)) refl (fails_with paths number old new) (λ e columns comes after. e (outcome.Rotated all) after) fails_goes (λ columns comes. go (outcome.Rotated all))
+      goes_on commits (inl (4, omega arith, refl)) refl (fails_with paths number old new)
+      (λ e columns comes after. e (outcome.Rotated all) after) fails_goes (λ columns comes. go (outcome.Rotated all))
 
   replacing_goes : (all : ℕ) → Leads (replacing paths number old new k all) (replacing paths number old new j all)
   replacing_goes all =
@@ -123,14 +141,16 @@ module _ (below : CellLaws) (keys : KeyMap) (Pairs : Request → Request → Typ
   putting_goes : (columns : List SentColumn) (all : ℕ) (rows : List (List Value)) → Leads (putting_each paths number old new k columns all rows) (putting_each paths number old new j columns all rows)
   putting_goes columns all [] = replacing_goes all
   putting_goes columns all (row ∷ rows) =
-      goes_on (puts new columns row) (inr (columns, row, refl)) refl (rolling_back paths number old new) (λ e others comes after. putting_each paths number old new e columns all rows after) rolling_goes
+      goes_on (puts new columns row) (inr (columns, row, refl)) refl (rolling_back paths number old new)
+      (λ e others comes after. putting_each paths number old new e columns all rows after) rolling_goes
       (λ others comes. putting_goes columns all rows)
 
   if_goes : (b : Bool) (t u x y : Talk) → Good keys Pairs t u → Good keys Pairs x y → Good keys Pairs (cond b t x) (cond b u y)
   if_goes true t u x y h g = h
   if_goes false t u x y h g = g
 
-  comparing_goes : (news : Accepted) (empty : Bool) (olds : Accepted) (rows : List (List Value)) → Leads (comparing paths number old new k news empty olds rows) (comparing paths number old new j news empty olds rows)
+  comparing_goes : (news : Accepted) (empty : Bool) (olds : Accepted) (rows : List (List Value))
+      → Leads (comparing paths number old new k news empty olds rows) (comparing paths number old new j news empty olds rows)
   comparing_goes news empty olds rows s i =
       let back : Ends → Fault → Talk = λ e x. rolling_back paths number old new e x s in
       let put : Ends → Talk = λ e. putting_each paths number old new e (columns_in olds) (length rows) rows s in
@@ -141,12 +161,14 @@ module _ (below : CellLaws) (keys : KeyMap) (Pairs : Request → Request → Typ
 
   old_goes : (news : Accepted) (empty : Bool) → Leads (reading_old paths number old new k news empty) (reading_old paths number old new j news empty)
   old_goes news empty =
-      goes_on (reads_all old) (inl (2, omega arith, refl)) refl (rolling_back paths number old new) (λ e olds comes after. comparing paths number old new e news empty olds (rows_told comes) after) rolling_goes
+      goes_on (reads_all old) (inl (2, omega arith, refl)) refl (rolling_back paths number old new)
+      (λ e olds comes after. comparing paths number old new e news empty olds (rows_told comes) after) rolling_goes
       (λ olds comes. comparing_goes news empty olds (rows_told comes))
 
   new_goes : Leads (reading_new paths number old new k) (reading_new paths number old new j)
   new_goes =
-      goes_on (reads_all new) (inl (1, omega arith, refl)) refl (rolling_back paths number old new) (λ e news comes after. reading_old paths number old new e news (is_empty (rows_told comes)) after) rolling_goes
+      goes_on (reads_all new) (inl (1, omega arith, refl)) refl (rolling_back paths number old new)
+      (λ e news comes after. reading_old paths number old new e news (is_empty (rows_told comes)) after) rolling_goes
       (λ news comes. old_goes news (is_empty (rows_told comes)))
 
   beginning_goes : Leads (beginning paths number old new k) (beginning paths number old new j)

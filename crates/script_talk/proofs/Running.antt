@@ -80,7 +80,8 @@ module _ (below : CellLaws) (keys : KeyMap) (Pairs : Request → Request → Typ
   go_free : (comes : outcomes.Outcome) (accepted : Accepted) (s : Session) → IsFree s → Follow (k comes accepted s) (j comes accepted s)
   go_free comes accepted s i = go comes accepted s s (free_behind s i)
 
-  fails : (f : DriverFault) (s t : Session) → Behind s t → Follow (saying aloud (Some (outcome.Failed f)) (k (outcome.Failed f) None s)) (saying aloud (Some (outcome.Failed f)) (j (outcome.Failed f) None t))
+  fails : (f : DriverFault) (s t : Session) → Behind s t
+      → Follow (saying aloud (Some (outcome.Failed f)) (k (outcome.Failed f) None s)) (saying aloud (Some (outcome.Failed f)) (j (outcome.Failed f) None t))
   fails f s t h = saying_goes keys Pairs aloud (Some (outcome.Failed f)) (k (outcome.Failed f) None s) (j (outcome.Failed f) None t) (go (outcome.Failed f) None s t h)
 
   -- ---- what is pending is executed
@@ -100,9 +101,11 @@ module _ (below : CellLaws) (keys : KeyMap) (Pairs : Request → Request → Typ
       let second : Pending = record { batch = other; version = p.version; keys = p.keys; encs = p.encs } in
       let same : p ≡ first = ap (λ (b : Batch). let x : Pending = record { batch = b; version = p.version; keys = p.keys; encs = p.encs } in x) h.batch in
       subst (λ x. executes x q) (sym same) (subst (λ y. executes first y) (sym h.is)
-      (sealing_goes below keys Pairs paths p.keys batch.forced batch.params other.params p.encs h.differ.params h.closed (sends p.version batch.text k) (sends p.version other.text j) (refuses k) (refuses j)
+      (sealing_goes below keys Pairs paths p.keys batch.forced batch.params other.params p.encs h.differ.params
+      h.closed (sends p.version batch.text k) (sends p.version other.text j) (refuses k) (refuses j)
       (λ sent others s.
-      asks keys Pairs (request.Execute number p.version batch.text sent) (request.Execute number p.version other.text others) (hearing aloud session.Sent nothing_shown (answered_on aloud paths k)) (hearing aloud session.Sent nothing_shown (answered_on aloud paths j))
+      asks keys Pairs (request.Execute number p.version batch.text sent) (request.Execute number p.version other.text others)
+      (hearing aloud session.Sent nothing_shown (answered_on aloud paths k)) (hearing aloud session.Sent nothing_shown (answered_on aloud paths j))
       (asked_so (request.Execute number p.version batch.text sent) (request.Execute number p.version other.text others)
       (inr (h.pair, h.there, h.session, (sym h.session, sym h.session, refl, h.differ.text, refl, s))))
       (sent_goes keys Pairs aloud k j go_free paths))
@@ -111,7 +114,8 @@ module _ (below : CellLaws) (keys : KeyMap) (Pairs : Request → Request → Typ
   free_executes : (s : Session) → IsFree s → Follow (executing aloud paths number s k) (executing aloud paths number s j)
   free_executes session.Idle i = fails fault.NothingPending session.Idle session.Idle (free_behind session.Idle i)
   free_executes session.Sent i = fails fault.NothingPending session.Sent session.Sent (free_behind session.Sent i)
-  free_executes (session.Reading columns found count) i = fails fault.NothingPending (session.Reading columns found count) (session.Reading columns found count) (free_behind (session.Reading columns found count) i)
+  free_executes (session.Reading columns found count) i = fails fault.NothingPending (session.Reading columns found count)
+      (session.Reading columns found count) (free_behind (session.Reading columns found count) i)
   free_executes (session.Skipping columns count) i = fails fault.NothingPending (session.Skipping columns count) (session.Skipping columns count) (free_behind (session.Skipping columns count) i)
   free_executes (session.Begun batch) i = absurd i
   free_executes (session.Pending p) i = absurd i
@@ -119,7 +123,8 @@ module _ (below : CellLaws) (keys : KeyMap) (Pairs : Request → Request → Typ
   pub executes : (s t : Session) → Held pairs number s t → Follow (executing aloud paths number s k) (executing aloud paths number t j)
   executes s t (inl (e, i)) = subst (λ x. Follow (executing aloud paths number s k) (executing aloud paths number x j)) (sym e) (free_executes s i)
   executes s t (inr (p, q, e, d, h)) =
-      subst (λ x. Follow (executing aloud paths number x k) (executing aloud paths number t j)) (sym e) (subst (λ x. Follow (executing aloud paths number (session.Pending p) k) (executing aloud paths number x j)) (sym d) (pair_executes p q h))
+      subst (λ x. Follow (executing aloud paths number x k) (executing aloud paths number t j)) (sym e)
+      (subst (λ x. Follow (executing aloud paths number (session.Pending p) k) (executing aloud paths number x j)) (sym d) (pair_executes p q h))
 
   -- ---- a batch is described
 
@@ -139,10 +144,13 @@ module _ (below : CellLaws) (keys : KeyMap) (Pairs : Request → Request → Typ
         let y = readied other d encs o in
         Follow (described_on aloud ready k (Said (described_outcome x.answer) x.after)) (described_on aloud again j (Said (described_outcome y.answer) y.after))
     readied_goes d encs (Some name) e = fails (fault.NotEncrypted name) session.Idle session.Idle (free_behind session.Idle tt)
-    readied_goes d encs None e = saying_goes keys Pairs aloud None (ready (pending batch d encs)) (again (pending other d encs)) (ready_goes (pending batch d encs) (pending other d encs) (record { pair = pair; there = there; session = own; batch = refl; is = refl; differ = differ; closed = e }))
+    readied_goes d encs None e = saying_goes keys Pairs aloud None (ready (pending batch d encs))
+        (again (pending other d encs))
+        (ready_goes (pending batch d encs) (pending other d encs) (record { pair = pair; there = there; session = own; batch = refl; is = refl; differ = differ; closed = e }))
 
     abbrev HeardAlike : (taken : ℕ) (entropy : List ℕ) → Listened → Listened → Type 0
-    HeardAlike taken entropy x y = AreDrivenAlike Pairs (driven_on (λ heard n left. drive keys (described_on aloud ready k heard) n entropy left) entropy x) (driven_on (λ heard n left. drive keys (described_on aloud again j heard) n entropy left) entropy y)
+    HeardAlike taken entropy x y = AreDrivenAlike Pairs (driven_on (λ heard n left. drive keys (described_on aloud ready k heard) n entropy left) entropy x)
+        (driven_on (λ heard n left. drive keys (described_on aloud again j heard) n entropy left) entropy y)
 
     module _ (lost : Session → Listing → Option outcomes.Outcome) (unsaid : lost (session.Begun batch) nothing_shown ≡ None) (unsaid_too : lost (session.Begun other) nothing_shown ≡ None) where
       abbrev heard_at : Batch → ℕ → List Reply → Option (Turn DescribeAnswer) → Listened
@@ -167,7 +175,8 @@ module _ (below : CellLaws) (keys : KeyMap) (Pairs : Request → Request → Typ
           (subst (λ o. HeardAlike taken entropy (heard_at batch taken replies (described_as batch d (encs_of batch.params d.params))) (heard_at other taken replies (described_as other d o)))
           (sym (encs_same batch.forced batch.params other.params differ.params d.params)) (described_goes taken entropy b replies d (encs_of batch.params d.params) refl))
       listened_goes taken entropy (reply.Refused f ∷ replies) b =
-          saying_goes keys Pairs aloud (Some (outcome.Refused f)) (k (outcome.Refused f) None session.Idle) (j (outcome.Refused f) None session.Idle) (go_free (outcome.Refused f) None session.Idle tt) (suc taken) entropy replies b
+          saying_goes keys Pairs aloud (Some (outcome.Refused f)) (k (outcome.Refused f) None session.Idle)
+          (j (outcome.Refused f) None session.Idle) (go_free (outcome.Refused f) None session.Idle tt) (suc taken) entropy replies b
       listened_goes taken entropy (reply.Columns header ∷ replies) b = missed taken entropy
       listened_goes taken entropy (reply.Row atoms ∷ replies) b = missed taken entropy
       listened_goes taken entropy (reply.Ended done ∷ replies) b = missed taken entropy
@@ -184,20 +193,24 @@ module _ (below : CellLaws) (keys : KeyMap) (Pairs : Request → Request → Typ
     begun_goes None =
         let declares : List Param → Request = λ ps. request.Describe number batch.text (map (λ (p : Param). p.declaration) ps) in
         let same : request.Describe number other.text (map (λ (p : Param). p.declaration) other.params) ≡ declares batch.params =
-        ap (λ text. request.Describe number text (map (λ (p : Param). p.declaration) other.params)) differ.text ∙ ap (λ ds. request.Describe number batch.text ds) (declarations_same batch other differ) in
-        asks keys Pairs (declares batch.params) (request.Describe number other.text (map (λ (p : Param). p.declaration) other.params)) (hearing aloud (session.Begun batch) nothing_shown (described_on aloud ready k)) (hearing aloud (session.Begun other) nothing_shown (described_on aloud again j))
+        ap (λ text. request.Describe number text (map (λ (p : Param). p.declaration) other.params)) differ.text
+        ∙ ap (λ ds. request.Describe number batch.text ds) (declarations_same batch other differ) in
+        asks keys Pairs (declares batch.params) (request.Describe number other.text (map (λ (p : Param). p.declaration) other.params))
+        (hearing aloud (session.Begun batch) nothing_shown (described_on aloud ready k)) (hearing aloud (session.Begun other) nothing_shown (described_on aloud again j))
         (asked_so (declares batch.params) (request.Describe number other.text (map (λ (p : Param). p.declaration) other.params)) (inl (tt, same))) description_goes
 
     pub free_begins : (s : Session) → IsFree s → Follow (describing aloud number batch s ready k) (describing aloud number other s again j)
     free_begins session.Idle i =
         subst (λ o. Follow (begins_so batch ready k (why_unfit batch)) (begins_so other again j o)) (sym (unfit_same batch other differ)) (begun_goes (why_unfit batch))
     free_begins session.Sent i = fails fault.StillPending session.Sent session.Sent (free_behind session.Sent i)
-    free_begins (session.Reading columns found count) i = fails fault.StillPending (session.Reading columns found count) (session.Reading columns found count) (free_behind (session.Reading columns found count) i)
+    free_begins (session.Reading columns found count) i = fails fault.StillPending (session.Reading columns found count)
+        (session.Reading columns found count) (free_behind (session.Reading columns found count) i)
     free_begins (session.Skipping columns count) i = fails fault.StillPending (session.Skipping columns count) (session.Skipping columns count) (free_behind (session.Skipping columns count) i)
     free_begins (session.Begun b) i = absurd i
     free_begins (session.Pending p) i = absurd i
 
-    pub begins : ((s t : Session) → Held pairs number s t → Behind s t) → (s t : Session) → Held pairs number s t → Follow (describing aloud number batch s ready k) (describing aloud number other t again j)
+    pub begins : ((s t : Session) → Held pairs number s t → Behind s t) → (s t : Session) → Held pairs number s t
+        → Follow (describing aloud number batch s ready k) (describing aloud number other t again j)
     begins held s t (inl (e, i)) = subst (λ x. Follow (describing aloud number batch s ready k) (describing aloud number other x again j)) (sym e) (free_begins s i)
     begins held s t (inr (p, q, e, d, h)) =
         subst (λ x. Follow (describing aloud number batch x ready k) (describing aloud number other t again j)) (sym e)

@@ -52,7 +52,8 @@ all_kept {A = A} p (x ∷ xs) = at (p x) refl (filter p xs) (all_kept p xs)
     at true e rest h = All-cons (λ y. IsTrue (p y)) x rest e h
     at false e rest h = h
 
-kept_values : (paths : List (List ℕ)) (m told : KeyMeta) (values : List KeyValue) → All (HasTrustedPath paths) values → with_values m values ≡ Ok told → All (HasTrustedPath paths) (each_of told.values)
+kept_values : (paths : List (List ℕ)) (m told : KeyMeta) (values : List KeyValue) → All (HasTrustedPath paths) values
+    → with_values m values ≡ Ok told → All (HasTrustedPath paths) (each_of told.values)
 kept_values paths m told [] all e = absurd cc
 kept_values paths m told (v ∷ []) all e =
     let is : record { id = m.id; name = m.name; values = record { first = v; second = None } } ≡ told = cc in
@@ -68,10 +69,12 @@ seen_ok : (r : Result Keys KeyFault) (found : Keys) → seen r ≡ Ok found → 
 seen_ok (Ok keys) found e = let s : keys ≡ found = cc in ap Ok s
 seen_ok (Err f) found e = absurd cc
 
-trusted_found : OpenedAreDerived → (keys : KeyMap) (paths : List (List ℕ)) (m told : KeyMeta) (found : Keys) → trusted_meta paths m ≡ Ok told → open_key keys told ≡ Ok found → AreTrusted keys paths found
+trusted_found : OpenedAreDerived → (keys : KeyMap) (paths : List (List ℕ)) (m told : KeyMeta) (found : Keys)
+    → trusted_meta paths m ≡ Ok told → open_key keys told ≡ Ok found → AreTrusted keys paths found
 trusted_found derived keys paths m told found t e =
     let d = derived keys told found (seen_ok (store.open_key keys told) found e) in
-    let kept = kept_values paths m told (filter (λ (value : KeyValue). is_trusted paths value.path) (each_of m.values)) (all_kept (λ (value : KeyValue). is_trusted paths value.path) (each_of m.values)) t in
+    let kept = kept_values paths m told (filter (λ (value : KeyValue). is_trusted paths value.path) (each_of m.values))
+    (all_kept (λ (value : KeyValue). is_trusted paths value.path) (each_of m.values)) t in
     record {
       value = d.3.0;
       path = All-contains (HasTrustedPath paths) (each_of told.values) d.3.0 kept d.3.1;
@@ -105,7 +108,8 @@ plain_long value.Null (value.Is e) = refl
 plain_long (value.Is d) value.Null = refl
 plain_long (value.Is d) (value.Is e) = refl
 
-rnd_long : CellLaws → (keys : KeyMap) (paths : List (List ℕ)) (found : Keys) → AreTrusted keys paths found → (forced : Bool) (ty : Ty) (d e : Datum) → Fits forced ty (value.Is d) (value.Is e) → (iv : List ℕ) → IsBlock iv
+rnd_long : CellLaws → (keys : KeyMap) (paths : List (List ℕ)) (found : Keys) → AreTrusted keys paths found
+    → (forced : Bool) (ty : Ty) (d e : Datum) → Fits forced ty (value.Is d) (value.Is e) → (iv : List ℕ) → IsBlock iv
     → length (cell_bytes (rnd_atom found ty e iv)) ≡ length (cell_bytes (rnd_atom found ty d iv))
 rnd_long below keys paths found t forced ty d e (inl s) iv n = let same : e ≡ d = cc in ap (λ x. length (cell_bytes (rnd_atom found ty x iv))) same
 rnd_long below keys paths found t forced ty d e (inr h) iv n = as_long below found t.key t.derived iv iv n n ty d e h.1
@@ -159,7 +163,8 @@ module _ (below : CellLaws) (keys : KeyMap) (Pairs : Request → Request → Typ
   closed_first true name rest e = absurd cc
   closed_first false name rest e = (refl, e)
 
-  pub sealing_goes : (forced : List (List ℕ)) (ps qs : List Param) (encs : List (Option Enc)) → Differ forced ps qs → first_open forced ps encs ≡ None → (k j : List SentParam → Talk) (fails lacks : DriverFault → Talk)
+  pub sealing_goes : (forced : List (List ℕ)) (ps qs : List Param) (encs : List (Option Enc)) → Differ forced ps qs
+      → first_open forced ps encs ≡ None → (k j : List SentParam → Talk) (fails lacks : DriverFault → Talk)
       → ((sent others : List SentParam) → AreSentAlike keys paths forced ps qs sent others → Good keys Pairs (k sent) (j others)) → ((f : DriverFault) → Good keys Pairs (fails f) (lacks f))
       → Good keys Pairs (sealing paths metas (uses_in ps encs) k fails) (sealing paths metas (uses_in qs encs) j lacks)
   sealing_goes forced [] [] encs d c k j fails lacks h g = h [] [] none_left

@@ -30,7 +30,8 @@ use Rattle.script_talk.proofs.Running.{ArePending, Held, begins, executes, held_
 -- half a batch is described to both
 module _ (keys : KeyMap) (Pairs : Request → Request → Type 0) (pairs : List Pair) (number : ℕ) (k j : Session → Talk) (go : (s t : Session) → Held pairs number s t → Good keys Pairs (k s) (j t)) where
   waits : (p q : Pending) → ArePending pairs number p q
-      → Good keys Pairs (Prints (outcome.Described (described_params p.keys (uses_of p))) (k (session.Pending p))) (Prints (outcome.Described (described_params q.keys (uses_of q))) (j (session.Pending q)))
+      → Good keys Pairs (Prints (outcome.Described (described_params p.keys (uses_of p))) (k (session.Pending p)))
+      (Prints (outcome.Described (described_params q.keys (uses_of q))) (j (session.Pending q)))
   waits p q h =
       let batch = h.pair.batch in
       let told : List (Option Enc) → List Param → outcomes.Outcome = λ encs ps. outcome.Described (described_params p.keys (uses_in ps encs)) in
@@ -39,7 +40,8 @@ module _ (keys : KeyMap) (Pairs : Request → Request → Type 0) (pairs : List 
       ∙ ap (λ x. outcome.Described x) (told_same batch.forced p.keys batch.params h.pair.other.params h.differ.params p.encs)
       ∙ ap (λ (b : Batch). told p.encs b.params) (sym h.batch) in
       subst (λ o. Good keys Pairs (Prints (outcome.Described (described_params p.keys (uses_of p))) (k (session.Pending p))) (Prints o (j (session.Pending q)))) (sym is)
-      (says keys Pairs (outcome.Described (described_params p.keys (uses_of p))) (k (session.Pending p)) (j (session.Pending q)) (go (session.Pending p) (session.Pending q) (inr (p, q, refl, refl, h))))
+      (says keys Pairs (outcome.Described (described_params p.keys (uses_of p))) (k (session.Pending p))
+      (j (session.Pending q)) (go (session.Pending p) (session.Pending q) (inr (p, q, refl, refl, h))))
 
 -- a rotation, which a session that holds a batch doesn't begin
 module _ (below : CellLaws) (keys : KeyMap) (Pairs : Request → Request → Type 0) (paths : List (List ℕ)) (pairs : List Pair) (number : ℕ) (k j : Session → Talk)
@@ -65,18 +67,23 @@ module _ (below : CellLaws) (keys : KeyMap) (Pairs : Request → Request → Typ
   turn_goes (act.Whole batch) (act.Whole other) d s t h asked_so go =
       let pair : Pair = record { session = number; batch = batch; other = other } in
       let pairs = before ++ pair ∷ [] in
-      begins below keys Pairs paths pairs number asked_so true (Held pairs number) (λ s i. inl (refl, i)) (after_all k) (after_all j) (λ comes accepted. go) pair (Contains-append_right before (pair ∷ []) pair (0, omega arith, refl)) refl d
+      begins below keys Pairs paths pairs number asked_so true (Held pairs number) (λ s i. inl (refl, i))
+      (after_all k) (after_all j) (λ comes accepted. go) pair (Contains-append_right before (pair ∷ []) pair (0, omega arith, refl)) refl d
       (λ p. executing true paths number (session.Pending p) (after_all k)) (λ p. executing true paths number (session.Pending p) (after_all j))
-      (pair_executes below keys Pairs paths pairs number asked_so true (Held pairs number) (λ s i. inl (refl, i)) (after_all k) (after_all j) (λ comes accepted. go)) (λ s t h. h) s t (held_more before (pair ∷ []) number s t h)
+      (pair_executes below keys Pairs paths pairs number asked_so true (Held pairs number) (λ s i. inl (refl, i)) (after_all k) (after_all j) (λ comes accepted. go))
+      (λ s t h. h) s t (held_more before (pair ∷ []) number s t h)
   turn_goes (act.Half batch) (act.Half other) d s t h asked_so go =
       let pair : Pair = record { session = number; batch = batch; other = other } in
       let pairs = before ++ pair ∷ [] in
-      begins below keys Pairs paths pairs number asked_so true (Held pairs number) (λ s i. inl (refl, i)) (after_all k) (after_all j) (λ comes accepted. go) pair (Contains-append_right before (pair ∷ []) pair (0, omega arith, refl)) refl d
+      begins below keys Pairs paths pairs number asked_so true (Held pairs number) (λ s i. inl (refl, i))
+      (after_all k) (after_all j) (λ comes accepted. go) pair (Contains-append_right before (pair ∷ []) pair (0, omega arith, refl)) refl d
       (λ p. Prints (outcome.Described (described_params p.keys (uses_of p))) (k (session.Pending p))) (λ p. Prints (outcome.Described (described_params p.keys (uses_of p))) (j (session.Pending p)))
       (waits keys Pairs pairs number k j go) (λ s t h. h) s t (held_more before (pair ∷ []) number s t h)
   turn_goes act.Execute act.Execute d s t h asked_so go =
-      executes below keys Pairs paths (before ++ []) number asked_so true (Held (before ++ []) number) (λ s i. inl (refl, i)) (after_all k) (after_all j) (λ comes accepted. go) s t (held_more before [] number s t h)
+      executes below keys Pairs paths (before ++ []) number asked_so true (Held (before ++ []) number)
+      (λ s i. inl (refl, i)) (after_all k) (after_all j) (λ comes accepted. go) s t (held_more before [] number s t h)
   turn_goes (act.Rotate old new) (act.Rotate other by) d s t h asked_so go =
       subst (λ o. Good keys Pairs (rotates paths number old new s k) (rotates paths number o by t j)) (sym d.0)
-      (subst (λ n. Good keys Pairs (rotates paths number old new s k) (rotates paths number old n t j)) (sym d.1) (rotates_goes below keys Pairs paths (before ++ []) number k j go old new asked_so s t (held_more before [] number s t h)))
+      (subst (λ n. Good keys Pairs (rotates paths number old new s k) (rotates paths number old n t j)) (sym d.1)
+      (rotates_goes below keys Pairs paths (before ++ []) number k j go old new asked_so s t (held_more before [] number s t h)))
   turn_goes a b d s t h asked_so go = absurd d

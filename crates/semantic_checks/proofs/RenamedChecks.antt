@@ -16,13 +16,78 @@ use Rattle.sql_tree.specs.Conditions.{Condition, Conditions}
 use Rattle.sql_tree.specs.Conditions as conditions
 use Rattle.sql_tree.specs.Bound.{BoundRow, BoundAssignment, BoundJoin, BoundItem, BoundItemValue, BoundQuery, BoundStatement, Bound}
 use Rattle.sql_tree.specs.Bound as bound
-use Rattle.sql_tree.specs.Uses.{uses_in, uses_in_terms, uses_in_condition, uses_in_conditions, uses_in_filter, uses_in_row, uses_in_assignment, uses_in_value, uses_in_item, uses_in_join, uses_in_statement, uses, renamed_operand, renamed_terms, renamed_condition, renamed_conditions, renamed_filter, renamed_row, renamed_assignment, renamed_value, renamed_item, renamed_join, renamed_query, renamed_statement, renamed}
+use Rattle.sql_tree.specs.Uses.{
+  uses_in,
+  uses_in_terms,
+  uses_in_condition,
+  uses_in_conditions,
+  uses_in_filter,
+  uses_in_row,
+  uses_in_assignment,
+  uses_in_value,
+  uses_in_item,
+  uses_in_join,
+  uses_in_statement,
+  uses,
+  renamed_operand,
+  renamed_terms,
+  renamed_condition,
+  renamed_conditions,
+  renamed_filter,
+  renamed_row,
+  renamed_assignment,
+  renamed_value,
+  renamed_item,
+  renamed_join,
+  renamed_query,
+  renamed_statement,
+  renamed,
+}
 use Rattle.enc_types.specs.Rules.{rules}
 use Rattle.enc_types.specs.Renamed.{renamed_rule}
 use Rattle.enc_types.proofs.Interface.{rules_renamed, place_renamed}
 use Rattle.semantic_checks.specs.declared.kinds.Kind.TheVariants.{Numbers}
-use Rattle.semantic_checks.specs.Clashes.{Types, kind_of, column_kind, operand_kind, clash_at, no_number, first_clash, operand_clashes, terms_clashes, sides_clash, listed_clash, condition_clashes, conditions_clashes, filter_clashes, value_clashes, paired_clashes, row_clashes, assignment_clashes, item_value_clashes, item_clashes, join_clashes, query_clashes, statement_clashes, clashes}
-use Rattle.semantic_checks.specs.Grouping.{value_counts, counts, groups, operand_ungrouped, value_ungrouped, item_ungrouped, operand_selects, value_selects, selects, key_unselected, query_ungrouped, statement_ungrouped, ungrouped_places}
+use Rattle.semantic_checks.specs.Clashes.{
+  Types,
+  kind_of,
+  column_kind,
+  operand_kind,
+  clash_at,
+  no_number,
+  first_clash,
+  operand_clashes,
+  terms_clashes,
+  sides_clash,
+  listed_clash,
+  condition_clashes,
+  conditions_clashes,
+  filter_clashes,
+  value_clashes,
+  paired_clashes,
+  row_clashes,
+  assignment_clashes,
+  item_value_clashes,
+  item_clashes,
+  join_clashes,
+  query_clashes,
+  statement_clashes,
+  clashes,
+}
+use Rattle.semantic_checks.specs.Grouping.{
+  value_counts,
+  counts,
+  groups,
+  operand_ungrouped,
+  value_ungrouped,
+  item_ungrouped,
+  operand_selects,
+  value_selects,
+  selects,
+  key_unselected,
+  query_ungrouped,
+  statement_ungrouped,
+  ungrouped_places,
+}
 use Rattle.semantic_checks.specs.Checks.{least, none_at, is_long_statement, is_too_long, check_of}
 use Rattle.semantic_checks.specs.Laws.{ChecksKeepTheUsed}
 
@@ -54,7 +119,8 @@ module _ (f : ℕ → ℕ) (columns : List ColumnSite) (params others : List Ty)
       → flat_map g' (map r xs) ≡ flat_map g xs
   each used r g g' one [] h = refl
   each used r g g' one (x ∷ xs) h =
-      both (g x) (flat_map g xs) (g' (r x)) (flat_map g' (map r xs)) (one x (left (λ p. used p x) (λ p. list_any (used p) xs) h)) (each used r g g' one xs (right (λ p. used p x) (λ p. list_any (used p) xs) h))
+      both (g x) (flat_map g xs) (g' (r x)) (flat_map g' (map r xs)) (one x (left (λ p. used p x) (λ p. list_any (used p) xs) h))
+      (each used r g g' one xs (right (λ p. used p x) (λ p. list_any (used p) xs) h))
 
   -- ---- kinds
 
@@ -99,7 +165,8 @@ module _ (f : ℕ → ℕ) (columns : List ColumnSite) (params others : List Ty)
   sides : (at : ℕ) (x y : Operand ℕ ℕ) → HaveTypes (λ p. uses_in p x) → HaveTypes (λ p. uses_in p y) → sides_clash of_others at (renamed_operand f x) (renamed_operand f y) ≡ sides_clash of_all at x y
   sides at x y h k = ap (λ z. clash_at at z (operand_kind of_others (renamed_operand f y))) (kind x h) ∙ ap (λ z. clash_at at (operand_kind of_all x) z) (kind y k)
 
-  listed : (at : ℕ) (x y : Operand ℕ ℕ) → HaveTypes (λ p. uses_in p x) → HaveTypes (λ p. uses_in p y) → listed_clash of_others at (renamed_operand f x) (renamed_operand f y) ≡ listed_clash of_all at x y
+  listed : (at : ℕ) (x y : Operand ℕ ℕ) → HaveTypes (λ p. uses_in p x) → HaveTypes (λ p. uses_in p y)
+      → listed_clash of_others at (renamed_operand f x) (renamed_operand f y) ≡ listed_clash of_all at x y
   listed at x y h k = both (sides_clash of_all at x y) (operand_clashes of_all y) _ _ (sides at x y h k) (operand y k)
 
   mutual
@@ -132,23 +199,27 @@ module _ (f : ℕ → ℕ) (columns : List ColumnSite) (params others : List Ty)
   value : (at : ℕ) (v : Operand ℕ ℕ) → HaveTypes (λ p. uses_in p v) → value_clashes of_others at (renamed_operand f v) ≡ value_clashes of_all at v
   value at v h =
       both (clash_at (place_of v) (column_kind of_all at) (operand_kind of_all v)) (operand_clashes of_all v) _ _
-      (ap (λ z. clash_at z (column_kind of_all at) (operand_kind of_others (renamed_operand f v))) (place_renamed f v) ∙ ap (λ z. clash_at (place_of v) (column_kind of_all at) z) (kind v h)) (operand v h)
+      (ap (λ z. clash_at z (column_kind of_all at) (operand_kind of_others (renamed_operand f v))) (place_renamed f v)
+      ∙ ap (λ z. clash_at (place_of v) (column_kind of_all at) z) (kind v h)) (operand v h)
 
   paired : (named : List ℕ) (vs : List (Operand ℕ ℕ)) → HaveTypes (λ p. list_any (uses_in p) vs) → paired_clashes of_others named (map (renamed_operand f) vs) ≡ paired_clashes of_all named vs
   paired [] [] h = refl
   paired (at ∷ named) [] h = refl
   paired [] (v ∷ vs) h = refl
   paired (at ∷ named) (v ∷ vs) h =
-      both (value_clashes of_all at v) (paired_clashes of_all named vs) _ _ (value at v (left (λ p. uses_in p v) (λ p. list_any (uses_in p) vs) h)) (paired named vs (right (λ p. uses_in p v) (λ p. list_any (uses_in p) vs) h))
+      both (value_clashes of_all at v) (paired_clashes of_all named vs) _ _
+      (value at v (left (λ p. uses_in p v) (λ p. list_any (uses_in p) vs) h)) (paired named vs (right (λ p. uses_in p v) (λ p. list_any (uses_in p) vs) h))
 
   row : (named : List ℕ) (r : BoundRow) → HaveTypes (λ p. uses_in_row p r) → row_clashes of_others named (renamed_row f r) ≡ row_clashes of_all named r
   row named r h =
-      ap (λ n. cond (n == length named) (paired_clashes of_others named (map (renamed_operand f) r.values)) (r.at ∷ flat_map (operand_clashes of_others) (map (renamed_operand f) r.values))) (length-map r.values (renamed_operand f))
+      ap (λ n. cond (n == length named) (paired_clashes of_others named (map (renamed_operand f) r.values))
+      (r.at ∷ flat_map (operand_clashes of_others) (map (renamed_operand f) r.values))) (length-map r.values (renamed_operand f))
       ∙ choice (length r.values == length named) (paired_clashes of_all named r.values) (r.at ∷ flat_map (operand_clashes of_all) r.values) _ _ (paired named r.values h)
       (ap (λ z. r.at ∷ z) (each uses_in (renamed_operand f) (operand_clashes of_all) (operand_clashes of_others) operand r.values h))
 
   assignment : (a : BoundAssignment) → HaveTypes (λ p. uses_in_assignment p a) → assignment_clashes of_others (renamed_assignment f a) ≡ assignment_clashes of_all a
-  assignment a h = both (clash_at a.at (column_kind of_all a.place) (operand_kind of_all a.value)) (operand_clashes of_all a.value) _ _ (ap (λ z. clash_at a.at (column_kind of_all a.place) z) (kind a.value h)) (operand a.value h)
+  assignment a h = both (clash_at a.at (column_kind of_all a.place) (operand_kind of_all a.value))
+      (operand_clashes of_all a.value) _ _ (ap (λ z. clash_at a.at (column_kind of_all a.place) z) (kind a.value h)) (operand a.value h)
 
   item_value : (v : BoundItemValue) → HaveTypes (λ p. uses_in_value p v) → item_value_clashes of_others (renamed_value f v) ≡ item_value_clashes of_all v
   item_value (bound.Value o) h = operand o h
@@ -169,7 +240,8 @@ module _ (f : ℕ → ℕ) (columns : List ColumnSite) (params others : List Ty)
       both (flat_map (item_clashes of_all) q.items) (flat_map (join_clashes of_all) q.joins ++ filter_clashes of_all q.filter) _ _
       (each uses_in_item (renamed_item f) (item_clashes of_all) (item_clashes of_others) (λ i k. item_value i.value k) q.items items)
       (both (flat_map (join_clashes of_all) q.joins) (filter_clashes of_all q.filter) _ _
-      (each uses_in_join (renamed_join f) (join_clashes of_all) (join_clashes of_others) (λ j k. condition j.on k) q.joins (left (λ p. list_any (uses_in_join p) q.joins) (λ p. uses_in_filter p q.filter) later))
+      (each uses_in_join (renamed_join f) (join_clashes of_all) (join_clashes of_others) (λ j k. condition j.on k)
+      q.joins (left (λ p. list_any (uses_in_join p) q.joins) (λ p. uses_in_filter p q.filter) later))
       (filter q.filter (right (λ p. list_any (uses_in_join p) q.joins) (λ p. uses_in_filter p q.filter) later)))
   statement (bound.Control control) h = refl
 
@@ -252,6 +324,8 @@ module _ (f : ℕ → ℕ) where
 pub checks_keep_the_used : ChecksKeepTheUsed
 unfolding check_of
 checks_keep_the_used f params b h =
-    ap (λ z. none_at fault.TypeClash (least z) >>= λ one. none_at fault.NotGrouped (least (ungrouped_places (renamed f params b))) >>= λ grouped. cond (is_too_long (renamed f params b)) (Err fault.TooLong) (Ok tt)) (statement f b.columns b.params params b.statement h)
-    ∙ ap (λ z. none_at fault.TypeClash (least (clashes b)) >>= λ one. none_at fault.NotGrouped (least z) >>= λ grouped. cond (is_too_long (renamed f params b)) (Err fault.TooLong) (Ok tt)) (statement_alone f b.statement)
+    ap (λ z. none_at fault.TypeClash (least z) >>= λ one. none_at fault.NotGrouped (least (ungrouped_places (renamed f params b)))
+    >>= λ grouped. cond (is_too_long (renamed f params b)) (Err fault.TooLong) (Ok tt)) (statement f b.columns b.params params b.statement h)
+    ∙ ap (λ z. none_at fault.TypeClash (least (clashes b)) >>= λ one. none_at fault.NotGrouped (least z) >>= λ
+    grouped. cond (is_too_long (renamed f params b)) (Err fault.TooLong) (Ok tt)) (statement_alone f b.statement)
     ∙ ap (λ z. none_at fault.TypeClash (least (clashes b)) >>= λ one. none_at fault.NotGrouped (least (ungrouped_places b)) >>= λ grouped. cond z (Err fault.TooLong) (Ok tt)) (too_long f params b)

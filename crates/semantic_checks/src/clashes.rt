@@ -7,7 +7,24 @@ ghost use Rattle.sql_tree.specs.Operands.{operand_of};
 ghost use Rattle.sql_tree.specs.Conditions.{condition_of};
 ghost use Rattle.sql_tree.specs.Listed.{terms_listed, conditions_listed};
 ghost use Rattle.sql_tree.specs.Bound as bound;
-ghost use Rattle.semantic_checks.specs.Clashes.{assignment_clashes, clash_at, condition_clashes, conditions_clashes, filter_clashes, first_clash, item_clashes, join_clashes, listed_clash, operand_clashes, paired_clashes, query_clashes, row_clashes, statement_clashes, terms_clashes, value_clashes};
+ghost use Rattle.semantic_checks.specs.Clashes.{
+  assignment_clashes,
+  clash_at,
+  condition_clashes,
+  conditions_clashes,
+  filter_clashes,
+  first_clash,
+  item_clashes,
+  join_clashes,
+  listed_clash,
+  operand_clashes,
+  paired_clashes,
+  query_clashes,
+  row_clashes,
+  statement_clashes,
+  terms_clashes,
+  value_clashes,
+};
 ghost use Rattle.semantic_checks.specs.Types.{types_seen};
 
 use crate::kinds::{Kind, Types, column_kind, differ, operand_kind};

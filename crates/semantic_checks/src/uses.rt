@@ -7,7 +7,19 @@ ghost use Rattle.sql_tree.specs.Operands.{operand_of};
 ghost use Rattle.sql_tree.specs.Conditions.{condition_of};
 ghost use Rattle.sql_tree.specs.Listed.{terms_listed, conditions_listed, uses_in_term};
 ghost use Rattle.sql_tree.specs.Bound as bound;
-ghost use Rattle.sql_tree.specs.Uses.{uses, uses_in, uses_in_terms, uses_in_condition, uses_in_conditions, uses_in_filter, uses_in_row, uses_in_assignment, uses_in_item, uses_in_join, uses_in_statement};
+ghost use Rattle.sql_tree.specs.Uses.{
+  uses,
+  uses_in,
+  uses_in_terms,
+  uses_in_condition,
+  uses_in_conditions,
+  uses_in_filter,
+  uses_in_row,
+  uses_in_assignment,
+  uses_in_item,
+  uses_in_join,
+  uses_in_statement,
+};
 
 use sql_tree::bound::{
     Bound, BoundAssignment, BoundCondition, BoundItem, BoundItemValue, BoundJoin, BoundOperand,

@@ -22,7 +22,8 @@ pub begins_none : (bytes : List ℕ) → Begins bytes [] bytes
 begins_none bytes = record { whole = refl; proper = All-nil IsProper }
 
 -- the next request is one of those that it begins with
-pub begins_more : (bytes : List ℕ) (requests : List (Versioned Request)) (held : List ℕ) (used : ℕ) (r : Versioned Request) → Begins bytes requests held → SpellsRequest r (take used held) → Begins bytes (requests ++ r ∷ []) (drop used held)
+pub begins_more : (bytes : List ℕ) (requests : List (Versioned Request)) (held : List ℕ) (used : ℕ) (r : Versioned Request)
+    → Begins bytes requests held → SpellsRequest r (take used held) → Begins bytes (requests ++ r ∷ []) (drop used held)
 begins_more bytes requests held used r b s = record {
   whole =
       b.whole ∙ ap (λ (l : List ℕ). flat_map asked_frame requests ++ l) (sym (take-append-drop used held) ∙ ap (λ (l : List ℕ). l ++ drop used held) s.1)
@@ -165,11 +166,13 @@ module _ (reading : HasOneReading SpellsRequest) (once : IsReadOnce is_request_h
       let some : 0 < length (asked_frame r) = omega arith in
       let short = ends_shorter at (asked_frame r) more end some h in
       let whole : ReadsAs is_request_head SpellsRequest at (asked_frame r) (placed_from asked_frame at (r ∷ [])) Whole =
-      subst (λ (l : List ℕ). ReadsAs is_request_head SpellsRequest at l (placed_from asked_frame at (r ∷ [])) Whole) (append-nil (asked_frame r)) (back at (r ∷ []) (All-cons IsProper r [] good (All-nil IsProper))) in
+      subst (λ (l : List ℕ). ReadsAs is_request_head SpellsRequest at l (placed_from asked_frame at (r ∷ [])) Whole)
+      (append-nil (asked_frame r)) (back at (r ∷ []) (All-cons IsProper r [] good (All-nil IsProper))) in
       let same = once at (asked_frame r) [] (placed_from asked_frame at (r ∷ [])) short.0 Whole short.1 whole in
       absurd (none_some _ _ same.0)
 
-  front_from : (at : ℕ) (requests : List (Versioned Request)) (others bytes : List ℕ) (placed : List (Placed (Versioned Request))) (end : End) → bytes ≡ flat_map asked_frame requests ++ others → All IsProper requests
+  front_from : (at : ℕ) (requests : List (Versioned Request)) (others bytes : List ℕ) (placed : List (Placed (Versioned Request))) (end : End)
+      → bytes ≡ flat_map asked_frame requests ++ others → All IsProper requests
       → ReadsAs is_request_head SpellsRequest at bytes placed end → IsFront requests (requests_of placed)
   front_from at [] others bytes placed end whole good h = front_none (requests_of placed)
   front_from at (r ∷ requests) others bytes [] end whole good h =
@@ -185,6 +188,7 @@ module _ (reading : HasOneReading SpellsRequest) (once : IsReadOnce is_request_h
       record { rest = front.rest; is = ap (λ (x : Versioned Request). x ∷ requests_of placed) (sym one.0) ∙ ap (λ (l : List (Versioned Request)). r ∷ l) front.is }
 
   -- requests that the bytes begin with are the first of all
-  pub requests_front : (bytes : List ℕ) (requests : List (Versioned Request)) (others : List ℕ) (placed : List (Placed (Versioned Request))) (end : End) → Begins bytes requests others → RequestFrames bytes placed end
+  pub requests_front : (bytes : List ℕ) (requests : List (Versioned Request)) (others : List ℕ) (placed : List (Placed (Versioned Request))) (end : End)
+      → Begins bytes requests others → RequestFrames bytes placed end
       → IsFront requests (requests_of placed)
   requests_front bytes requests others placed end b h = front_from 0 requests others bytes placed end b.whole b.proper h

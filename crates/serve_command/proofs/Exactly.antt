@@ -42,7 +42,8 @@ left_of taken bytes None h = absurd h
 
 -- ---- readings
 
-reads_begin : (at : ℕ) (bytes : List ℕ) (placed : List (Placed (Versioned Request))) (end : End) → ReadsAs is_request_head SpellsRequest at bytes placed end → (others : List ℕ) × Begins bytes (requests_of placed) others
+reads_begin : (at : ℕ) (bytes : List ℕ) (placed : List (Placed (Versioned Request))) (end : End)
+    → ReadsAs is_request_head SpellsRequest at bytes placed end → (others : List ℕ) × Begins bytes (requests_of placed) others
 reads_begin at bytes [] end h = (bytes, begins_none bytes)
 reads_begin at bytes (p ∷ placed) end h =
     let more = reads_begin (at + length h.0) h.1 placed end h.5 in (

@@ -113,7 +113,8 @@ module _ (law : RequestsAreSerial) (count : ℕ) (feed : Feeding) (state : State
       serial = serially (g.taken ++ piece);
     }
 
-    pub ends_unheld : (new : Option (List ℕ)) → After (λ bytes first. AnswersFirst empty_state bytes first new ⊎ BreaksOff empty_state bytes first new) → ServesStream served.OutOfMemory source after out new
+    pub ends_unheld : (new : Option (List ℕ)) → After (λ bytes first. AnswersFirst empty_state bytes first new ⊎ BreaksOff empty_state bytes first new)
+        → ServesStream served.OutOfMemory source after out new
     ends_unheld new f = record {
       taken = g.taken ++ piece;
       lost = lost_more piece after took;
@@ -130,7 +131,11 @@ module _ (law : RequestsAreSerial) (count : ℕ) (feed : Feeding) (state : State
       record {
         taken = g.taken ++ piece;
         lost = lost_more piece after took;
-        ends = (omega (arith, all, one, length-append g.taken piece), subst (λ (l : List ℕ). AnswersOpen empty_state l out now) (sym front) (answers_open empty_state g.taken feed state out now g.stands g.waits));
+        ends = (
+          omega (arith, all, one, length-append g.taken piece),
+          subst (λ (l : List ℕ). AnswersOpen empty_state l out now)
+              (sym front) (answers_open empty_state g.taken feed state out now g.stands g.waits),
+        );
         serial = serially (g.taken ++ piece);
       }
 

@@ -22,7 +22,8 @@ frames_then first (r ∷ requests) others =
 pub state_more : (first : State) (requests : List (Versioned Request)) (r : Versioned Request) → state_after first (requests ++ r ∷ []) ≡ (serve (state_after first requests) r.message).after
 state_more first requests r = state_then first requests (r ∷ [])
 
-pub frames_more : (first : State) (requests : List (Versioned Request)) (r : Versioned Request) → reply_frames first (requests ++ r ∷ []) ≡ reply_frames first requests ++ answer_frames (state_after first requests) r
+pub frames_more : (first : State) (requests : List (Versioned Request)) (r : Versioned Request)
+    → reply_frames first (requests ++ r ∷ []) ≡ reply_frames first requests ++ answer_frames (state_after first requests) r
 frames_more first requests r =
     frames_then first requests (r ∷ []) ∙ ap (λ (l : List ℕ). reply_frames first requests ++ l) (append-nil (answer_frames (state_after first requests) r))
 

@@ -37,7 +37,8 @@ refused_so way held e h =
     let asks : IsRefused is_request_head (SpellsMessage ToServer) held = subst (λ (w : Way). IsRefused (has_head w) (SpellsMessage w) held) e h in
     (asks.0, elim asks.1 [ inl header ↦ inl header | inr frame ↦ inr (frame.0, λ (r : Versioned Request) s. frame.1 (Asks r) s) ])
 
-pub turns_refused : (place : ℕ) (feed new : Feeding) (state : State) (old : Option (List ℕ)) → feed.way ≡ ToServer → Steps (next.Bad place) feed new → Turns (turn.Refused place) feed state state old old
+pub turns_refused : (place : ℕ) (feed new : Feeding) (state : State) (old : Option (List ℕ)) → feed.way ≡ ToServer
+    → Steps (next.Bad place) feed new → Turns (turn.Refused place) feed state state old old
 turns_refused place feed new state old e s = (s.0, refused_so feed.way feed.held e s.1, refl)
 
 -- ---- all that was taken
@@ -64,7 +65,8 @@ held_fed feed piece waits = unless feed.failed (feed.held ++ piece) feed.held wa
 unfoldable pub stands_first : (start : State) (out : Option (List ℕ)) → Stands start [] (empty_feed ToServer) start out out
 stands_first start out = record { answered = []; begins = begins_none []; place = refl; way = refl; waits = refl; left = refl; put = adds_none out }
 
-unfoldable pub stands_fed : (start : State) (taken piece : List ℕ) (feed : Feeding) (state : State) (first now : Option (List ℕ)) → Stands start taken feed state first now → Stands start (taken ++ piece) (with_piece feed piece) state first now
+unfoldable pub stands_fed : (start : State) (taken piece : List ℕ) (feed : Feeding) (state : State) (first now : Option (List ℕ))
+    → Stands start taken feed state first now → Stands start (taken ++ piece) (with_piece feed piece) state first now
 stands_fed start taken piece feed state first now s = record {
   answered = s.answered;
   begins = subst (λ (l : List ℕ). Begins (taken ++ piece) s.answered l) (held_fed feed piece s.waits) (begins_fed taken s.answered feed.held piece s.begins);
@@ -76,7 +78,8 @@ stands_fed start taken piece feed state first now s = record {
 }
 
 module _ (start : State) (taken : List ℕ) (feed : Feeding) (state : State) (first now : Option (List ℕ)) (s : Stands start taken feed state first now) where
-  unfoldable pub stands_more : (used : ℕ) (after : State) (new : Option (List ℕ)) → length taken < 2 ^ 64 → AnswersNext feed used state after now new → Stands start taken (behind feed used) after first new
+  unfoldable pub stands_more : (used : ℕ) (after : State) (new : Option (List ℕ)) → length taken < 2 ^ 64
+      → AnswersNext feed used state after now new → Stands start taken (behind feed used) after first new
   stands_more used after new short a =
       let more = begins_more taken s.answered feed.held used a.request s.begins a.next.spells in
       let frame : length (asked_frame a.request) ≡ used = ap length (sym a.next.spells.1) ∙ length-take-le used feed.held a.next.held in

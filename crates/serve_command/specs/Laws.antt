@@ -34,6 +34,7 @@ pub record FramesCorrespond (R : Class → Atom → Atom → Type 0) (requests s
 -- two streams of whole frames, whose requests are renamed one by one, are served with renamed replies in frames that carry them
 -- alike, and leave renamed states
 abbrev pub StreamsAreServedAlike : Type 0
-StreamsAreServedAlike = (entries : List Entry) → IsRenaming entries → (bytes others frames more : List ℕ) (after later : State) (left : ServeAll empty_state bytes Whole frames after) (right : ServeAll empty_state others Whole more later)
+StreamsAreServedAlike = (entries : List Entry) → IsRenaming entries
+    → (bytes others frames more : List ℕ) (after later : State) (left : ServeAll empty_state bytes Whole frames after) (right : ServeAll empty_state others Whole more later)
     → AllZip (PlacedCorrespond (Listing entries)) left.requests right.requests
     → FramesCorrespond (Listing entries) (requests_of left.requests) (requests_of right.requests) frames more × StatesCorrespond (Listing entries) after later

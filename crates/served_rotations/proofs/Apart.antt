@@ -11,7 +11,24 @@ use Rattle.engine.specs.Step.{Answer, Defined}
 use Rattle.sql_tree.specs.Sorts.{is_definition}
 use Rattle.statement_analysis.specs.Describing.{Meant, describe}
 use Rattle.transactions.specs.Counted.{Counted, Execution, alone, counted_step}
-use Rattle.transactions.specs.Stores.{Ask, Begins, Commits, Executes, RollsBack, Store, Transacted, Transaction, begun_over, seen_by, stepped_in, taken_over, transact, transacted, transaction_at, why_not}
+use Rattle.transactions.specs.Stores.{
+  Ask,
+  Begins,
+  Commits,
+  Executes,
+  RollsBack,
+  Store,
+  Transacted,
+  Transaction,
+  begun_over,
+  seen_by,
+  stepped_in,
+  taken_over,
+  transact,
+  transacted,
+  transaction_at,
+  why_not,
+}
 use Rattle.wire_messages.specs.Conditions.{IsRequest}
 use Rattle.wire_messages.specs.Messages.{Description}
 use Rattle.wire_messages.specs.declared.requests.Request.{Request}
@@ -69,7 +86,8 @@ by_slot store session (Some t) Commits = by (why_not store.shared t) refl
     by (Some f) e = rw e refl
 by_slot store session (Some t) (Executes e) = by (is_definition e.bound.statement) refl
   where
-    by : (b : Bool) → is_definition e.bound.statement ≡ b → transacted store session (Some t) (Executes e) ≡ with_effect store session (executed_effect store.shared t e (is_definition e.bound.statement))
+    by : (b : Bool) → is_definition e.bound.statement ≡ b
+        → transacted store session (Some t) (Executes e) ≡ with_effect store session (executed_effect store.shared t e (is_definition e.bound.statement))
     by true h = rw h refl
     by false h = rw h refl
 
@@ -115,7 +133,8 @@ module _ (number : ℕ) where
   same_effect : (s t : State) (session : ℕ) (e : Effect) → AlikeBut number s t → AlikeBut number (with_effect s session e).after (with_effect t session e).after
   same_effect s t session e h = by e.slot
     where
-      by : (slot : Option (Option Transaction)) → AlikeBut number (record { shared = e.shared; sessions = with_slot s.sessions session slot }) (record { shared = e.shared; sessions = with_slot t.sessions session slot })
+      by : (slot : Option (Option Transaction))
+          → AlikeBut number (record { shared = e.shared; sessions = with_slot s.sessions session slot }) (record { shared = e.shared; sessions = with_slot t.sessions session slot })
       by None = record { shared = refl; long = h.long; others = h.others }
       by (Some x) = record {
         shared = refl;

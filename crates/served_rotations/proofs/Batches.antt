@@ -1,5 +1,34 @@
 -- What a batch that is run quietly does over a server among other sessions: it isn't sent, or it breaks off, or it is answered and goes on.
-use Rattle.std.proofs.Common.{◌≡◌, ℕ, suc, ◌+◌, List, [], ◌∷◌, ◌++◌, map, length, take, drop, Option, Some, None, Result, Ok, Err, Bool, true, false, refl, sym, ap, subst, arith, append-nil, append_assoc}
+use Rattle.std.proofs.Common.{
+  ◌≡◌,
+  ℕ,
+  suc,
+  ◌+◌,
+  List,
+  [],
+  ◌∷◌,
+  ◌++◌,
+  map,
+  length,
+  take,
+  drop,
+  Option,
+  Some,
+  None,
+  Result,
+  Ok,
+  Err,
+  Bool,
+  true,
+  false,
+  refl,
+  sym,
+  ap,
+  subst,
+  arith,
+  append-nil,
+  append_assoc,
+}
 use Rattle.std.specs.Prelude.{nat_lt, ◌==◌, ◌<◌, ◌≤◌, if◌then◌else◌}
 use Rattle.std.proofs.lemmas.Bool.Decides.{nat_tests}
 use Rattle.std.proofs.lemmas.List.{length-take-le}
@@ -41,7 +70,26 @@ use Rattle.conversation.specs.Sessions as sessions
 use Rattle.conversation.specs.Sessions.{titles_of, types_of, row_read}
 use Rattle.conversation.specs.declared.answers.ReplyAnswer.TheVariants as answer
 use Rattle.conversation.specs.Talk.{Talk, Asks, Draws, Heard, Notes, Opens, Said, described_outcome, heard_answer, heard_description, nothing_broken, nothing_shown}
-use Rattle.conversation.specs.Turns.{Onward, answered_on, asked, described_on, drawing, executing, on_result, opening, opening_by, opening_one, over_on, reading, rested, rows_on, running, sealing, sealing_value, sent_param}
+use Rattle.conversation.specs.Turns.{
+  Onward,
+  answered_on,
+  asked,
+  described_on,
+  drawing,
+  executing,
+  on_result,
+  opening,
+  opening_by,
+  opening_one,
+  over_on,
+  reading,
+  rested,
+  rows_on,
+  running,
+  sealing,
+  sealing_value,
+  sent_param,
+}
 use Rattle.conversation.specs.declared.faults.DriverFault.{DriverFault}
 use Rattle.conversation.specs.declared.faults.DriverFault.TheVariants.{NotEncrypted}
 use Rattle.conversation.specs.declared.outcomes.Listing.{Listing}
@@ -157,20 +205,23 @@ module _ (keys : KeyMap) (R : Walk → Passed Beside → Type 0) where
     drawn ks ty value.Null k h = h atom.Null refl
     drawn ks ty (value.Is datum) k h = draws (λ iv. k (rnd_atom ks ty datum iv)) (λ iv b. h (rnd_atom ks ty datum iv) (iv, b, refl))
 
-    atom_sent : (e : Enc) (ty : Ty) (v : Value) (k : Atom → Talk) (fails : DriverFault → Talk) → ((a : Atom) → IsSent keys trusted metas e ty v a → Goes w queue (k a)) → ((f : DriverFault) → Goes w queue (fails f))
+    atom_sent : (e : Enc) (ty : Ty) (v : Value) (k : Atom → Talk) (fails : DriverFault → Talk)
+        → ((a : Atom) → IsSent keys trusted metas e ty v a → Goes w queue (k a)) → ((f : DriverFault) → Goes w queue (fails f))
         → Goes w queue (sealing_value trusted metas e ty v k fails)
     atom_sent enc.Plain ty v k fails h g = h (plain_atom v) refl
     atom_sent (enc.Det id) ty v k fails h g = opens id (λ ks. k (det_atom ks ty v)) fails (λ ks o. h (det_atom ks ty v) (ks, o, refl)) g
     atom_sent (enc.Rnd id) ty v k fails h g = opens id (λ ks. drawing ks ty v k) fails (λ ks o. drawn ks ty v k (λ a d. h a (ks, o, d))) g
 
-    sealed : (uses : List Use) (k : List SentParam → Talk) (fails : DriverFault → Talk) → ((sent : List SentParam) → AreSent keys trusted metas uses sent → Goes w queue (k sent)) → ((f : DriverFault) → Goes w queue (fails f))
+    sealed : (uses : List Use) (k : List SentParam → Talk) (fails : DriverFault → Talk)
+        → ((sent : List SentParam) → AreSent keys trusted metas uses sent → Goes w queue (k sent)) → ((f : DriverFault) → Goes w queue (fails f))
         → Goes w queue (sealing trusted metas uses k fails)
     sealed [] k fails h g = h [] tt
     sealed (u ∷ uses) k fails h g =
         atom_sent u.enc u.param.declaration.ty u.param.value (λ a. sealing trusted metas uses (λ ps. k (sent_param u a ∷ ps)) fails) fails
         (λ a s. sealed uses (λ ps. k (sent_param u a ∷ ps)) fails (λ ps all. h (sent_param u a ∷ ps) ((a, s, refl), all)) g) g
 
-    key_opened : (e : Enc) (k : Option Keys → Talk) (fails : DriverFault → Talk) → ((o : Option Keys) → IsKeyOf keys trusted metas e o → Goes w queue (k o)) → ((f : DriverFault) → Goes w queue (fails f))
+    key_opened : (e : Enc) (k : Option Keys → Talk) (fails : DriverFault → Talk)
+        → ((o : Option Keys) → IsKeyOf keys trusted metas e o → Goes w queue (k o)) → ((f : DriverFault) → Goes w queue (fails f))
         → Goes w queue (opening_one trusted metas e k fails)
     key_opened enc.Plain k fails h g = h None refl
     key_opened (enc.Det id) k fails h g = opens id (λ ks. k (Some ks)) fails (λ ks o. h (Some ks) (ks, o, refl)) g
@@ -202,7 +253,8 @@ module _ (keys : KeyMap) (R : Walk → Passed Beside → Type 0) where
         at false = stops entropy (BadReply taken)
     skipped k h (row ∷ rows) count shown taken entropy bytes = at (skipped k h rows (count + 1) shown (suc taken) entropy bytes) (is_row_of columns row)
       where
-        at : R w (over serve_beside keys (Notes (session.Skipping columns (count + 1)) shown (over_on false k)) (suc taken) entropy w.beside (queue_of rows total)) → (b : Bool) → Heard_on (over_on false k) entropy
+        at : R w (over serve_beside keys (Notes (session.Skipping columns (count + 1)) shown (over_on false k)) (suc taken) entropy w.beside (queue_of rows total))
+            → (b : Bool) → Heard_on (over_on false k) entropy
             (heard_one (λ after more. listen nothing_broken (queue_of rows total) after more (suc taken)) None taken (queue_of rows total)
             (heard_answer shown (if b then sessions.Tells answer.Skipped (session.Skipping columns (count + 1)) else sessions.Stray)))
         at more true = more
@@ -231,16 +283,19 @@ module _ (keys : KeyMap) (R : Walk → Passed Beside → Type 0) where
           (is_row_of columns row) refl
         where
           read : ((v : List Value) → read_atoms (count + 1) 1 columns os row ≡ Ok v
-              → R w (over serve_beside keys (Notes (session.Reading columns os (count + 1)) (record { titles = titles; rows = before ++ v ∷ [] }) (rows_on false k)) (suc taken) entropy w.beside (queue_of rows total)))
+              → R w (over serve_beside keys (Notes (session.Reading columns os (count + 1)) (record { titles = titles; rows = before ++ v ∷ [] }) (rows_on false k))
+              (suc taken) entropy w.beside (queue_of rows total)))
               → (r : Result (List Value) DriverFault) → read_atoms (count + 1) 1 columns os row ≡ r → Heard_on (rows_on false k) entropy
               (heard_one (λ after more. listen nothing_broken (queue_of rows total) after more (suc taken)) None taken (queue_of rows total)
               (heard_answer (record { titles = titles; rows = before }) (row_read columns os (count + 1) r)))
           read more (Ok v) e = more v e
           read more (Err f) e =
-              skipped (k (outcome.Broken (record { titles = titles; rows = before }) (Some f))) (g (record { titles = titles; rows = before }) f) rows (count + 1) nothing_shown (suc taken) entropy bytes
+              skipped (k (outcome.Broken (record { titles = titles; rows = before }) (Some f)))
+              (g (record { titles = titles; rows = before }) f) rows (count + 1) nothing_shown (suc taken) entropy bytes
 
           at : (is_row_of columns row ≡ true → (v : List Value) → read_atoms (count + 1) 1 columns os row ≡ Ok v
-              → R w (over serve_beside keys (Notes (session.Reading columns os (count + 1)) (record { titles = titles; rows = before ++ v ∷ [] }) (rows_on false k)) (suc taken) entropy w.beside (queue_of rows total)))
+              → R w (over serve_beside keys (Notes (session.Reading columns os (count + 1)) (record { titles = titles; rows = before ++ v ∷ [] }) (rows_on false k))
+              (suc taken) entropy w.beside (queue_of rows total)))
               → (b : Bool) → is_row_of columns row ≡ b → Heard_on (rows_on false k) entropy
               (heard_one (λ after more. listen nothing_broken (queue_of rows total) after more (suc taken)) None taken (queue_of rows total)
               (heard_answer (record { titles = titles; rows = before })
@@ -316,7 +371,8 @@ module _ (keys : KeyMap) (R : Walk → Passed Beside → Type 0) where
         pub stops : StopsAt R (next w describe_of)
         pub refused : (f : SqlFault) → Goes (next w describe_of) [] (k (outcome.Refused f) None session.Idle)
         pub failed : (f : DriverFault) → Goes (next w describe_of) [] (k (outcome.Failed f) None session.Idle)
-        pub executes : (d : Description) (encs : List (Option Enc)) (sent : List SentParam) → describe (catalog_of (now w) number) batch.text declared ≡ Ok d → sessions.encs_of batch.params d.params ≡ Some encs
+        pub executes : (d : Description) (encs : List (Option Enc)) (sent : List SentParam)
+            → describe (catalog_of (now w) number) batch.text declared ≡ Ok d → sessions.encs_of batch.params d.params ≡ Some encs
             → AreSent keys trusted d.keys (uses_of (pending_of d encs)) sent
             → OnServed (next (next w describe_of) (execute_of d.version batch.text sent)) (now (next w describe_of)) (prepared (catalog_of (now (next w describe_of)) number) d.version batch.text sent)
 
@@ -331,7 +387,8 @@ module _ (keys : KeyMap) (R : Walk → Passed Beside → Type 0) where
             (λ sent. Asks (execute_of d.version batch.text sent) hears) (λ f. k (outcome.Failed f) None session.Idle)
             (λ sent all. executed_goes (next w describe_of) d.version batch.text sent h.stops (h.executes d encs sent e n all)) h.failed
 
-        readied_goes : (d : Description) (encs : List (Option Enc)) → describe (catalog_of (now w) number) batch.text declared ≡ Ok d → sessions.encs_of batch.params d.params ≡ Some encs → (o : Option (List ℕ))
+        readied_goes : (d : Description) (encs : List (Option Enc)) → describe (catalog_of (now w) number) batch.text declared ≡ Ok d
+            → sessions.encs_of batch.params d.params ≡ Some encs → (o : Option (List ℕ))
             → let t = sessions.readied batch d encs o in Goes (next w describe_of) [] (described_on false ready k (Said (described_outcome t.answer) t.after))
         readied_goes d encs e n None = pending_goes d encs e n
         readied_goes d encs e n (Some name) = h.failed (NotEncrypted name)
@@ -341,7 +398,8 @@ module _ (keys : KeyMap) (R : Walk → Passed Beside → Type 0) where
 
         description_heard : (d : Description) → describe (catalog_of (now w) number) batch.text declared ≡ Ok d → (o : Option (List (Option Enc))) → sessions.encs_of batch.params d.params ≡ o
             → (taken : ℕ) (entropy : List ℕ) → AreBytes entropy
-            → R (next w describe_of) (passed_on (λ heard n left. over serve_beside keys (described_on false ready k heard) n entropy (next w describe_of).beside left) entropy (next w describe_of).beside
+            → R (next w describe_of)
+            (passed_on (λ heard n left. over serve_beside keys (described_on false ready k heard) n entropy (next w describe_of).beside left) entropy (next w describe_of).beside
             (heard_one (λ after more. listen nothing_broken [] after more (suc taken)) None taken [] (heard_description (sessions.described_as batch d o))))
         description_heard d e (Some encs) n taken entropy bytes = readied_goes d encs e n (sessions.first_open batch.forced batch.params encs) (suc taken) entropy bytes
         description_heard d e None n taken entropy bytes = h.stops entropy (BadReply taken)

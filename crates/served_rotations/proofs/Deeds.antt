@@ -68,11 +68,14 @@ counted_answer : (c : Counted) (s : BoundStatement) (a : Result Answer SqlFault)
 counted_answer c s (Err f) w x h = h
 counted_answer c s (Ok answer) w x h = by (is_at_last_count c (target s)) h
   where
-    by : (b : Bool) → (let o : CountedOutcome = if b then record { answer = Err fault.Full; after = c } else record { answer = Ok answer; after = record { world = w; counts = counts_behind c s } } in o.answer) ≡ Ok x → let y : Result Answer SqlFault = Ok answer in y ≡ Ok x
+    by : (b : Bool)
+        → (let o : CountedOutcome = if b then record { answer = Err fault.Full; after = c } else record
+        { answer = Ok answer; after = record { world = w; counts = counts_behind c s } } in o.answer) ≡ Ok x → let y : Result Answer SqlFault = Ok answer in y ≡ Ok x
     by true h = absurd cc
     by false h = h
 
-done_answer : {A : Type 0} (w : World) (P : Answer → Type 0) (r : Result A SqlFault) (f : A → Done) → ((y : A) → r ≡ Ok y → P (f y).answer) → (a : Answer) → (outcome w (r >>= λ y. Ok (f y))).answer ≡ Ok a → P a
+done_answer : {A : Type 0} (w : World) (P : Answer → Type 0) (r : Result A SqlFault) (f : A → Done)
+    → ((y : A) → r ≡ Ok y → P (f y).answer) → (a : Answer) → (outcome w (r >>= λ y. Ok (f y))).answer ≡ Ok a → P a
 done_answer w P (Ok y) f g a h = let e : (f y).answer ≡ a = cc in subst P e (g y refl)
 done_answer w P (Err e) f g a h = absurd cc
 
@@ -93,7 +96,8 @@ module _ (c : Counted) (e : Execution) (a : Answer) (answers : (counted_step c e
   untwinned None x y h = cc
   untwinned (Some n) x y h = absurd cc
 
-  one_made : (r : Result (List Atom) SqlFault) (rows : List (List Atom)) → (r >>= λ new. let rest : Result (List (List Atom)) SqlFault = Ok [] in rest >>= λ rest. Ok (new ∷ rest)) ≡ Ok rows → length rows ≡ 1
+  one_made : (r : Result (List Atom) SqlFault) (rows : List (List Atom))
+      → (r >>= λ new. let rest : Result (List (List Atom)) SqlFault = Ok [] in rest >>= λ rest. Ok (new ∷ rest)) ≡ Ok rows → length rows ≡ 1
   one_made (Ok new) rows h = let f : new ∷ [] ≡ rows = cc in ap length (sym f)
   one_made (Err f) rows h = absurd cc
 
@@ -112,7 +116,8 @@ module _ (c : Counted) (e : Execution) (a : Answer) (answers : (counted_step c e
 
 -- ---- what is prepared
 
-pub prepared_means : (catalog : Catalog) (version : ℕ) (text : List ℕ) (sent : List SentParam) (ready : Meant × List Atom) → prepared catalog version text sent ≡ Ok ready → understood catalog text (map declaration_of sent) ≡ Ok ready.0
+pub prepared_means : (catalog : Catalog) (version : ℕ) (text : List ℕ) (sent : List SentParam) (ready : Meant × List Atom)
+    → prepared catalog version text sent ≡ Ok ready → understood catalog text (map declaration_of sent) ≡ Ok ready.0
 prepared_means catalog version text sent ready e =
     let c = came (understood_at catalog version text sent) (λ meant. suited meant.encs sent >>= λ atoms. Ok (meant, atoms)) ready e in
     let d = came (suited c.value.encs sent) (λ atoms. Ok (c.value, atoms)) ready c.then in
@@ -120,7 +125,9 @@ prepared_means catalog version text sent ready e =
     let f : (c.value, d.value) ≡ ready = cc in
     at (version == catalog.version) c.is ∙ ap (λ (r : Meant × List Atom). Ok r.0) f
   where
-    at : {meant : Meant} (b : Bool) → (if b then understood catalog text (map declaration_of sent) else Err (fault.Moved (record { seen = version; now = catalog.version }))) ≡ Ok meant → understood catalog text (map declaration_of sent) ≡ Ok meant
+    at : {meant : Meant} (b : Bool)
+        → (if b then understood catalog text (map declaration_of sent) else Err (fault.Moved (record { seen = version; now = catalog.version }))) ≡ Ok meant
+        → understood catalog text (map declaration_of sent) ≡ Ok meant
     at true h = h
     at false h = absurd cc
 
@@ -139,7 +146,8 @@ pub record IsDone (catalog : Catalog) (batch : Batch) (sent : List SentParam) (r
   pub asks : ask_of ready ≡ Executes e
   pub is : e ≡ execution ready.0.bound ready.0.encs ready.1
 
-pub deed_of : (catalog : Catalog) (batch : Batch) (sent : List SentParam) (ready : Meant × List Atom) (e : Execution) (a : Result Answer SqlFault) → IsDone catalog batch sent ready e → map declaration_of sent ≡ declared batch
+pub deed_of : (catalog : Catalog) (batch : Batch) (sent : List SentParam) (ready : Meant × List Atom) (e : Execution) (a : Result Answer SqlFault)
+    → IsDone catalog batch sent ready e → map declaration_of sent ≡ declared batch
     → IsDeedOf catalog batch (deed e a)
 deed_of catalog batch sent ready e a h k = record {
   sent = sent;
@@ -160,7 +168,8 @@ pub record ReadSays (catalog : Catalog) (name : List ℕ) (e : Execution) (a : A
   pub works : is_defining e.bound.statement ≡ false
   pub read : IsRead catalog name rows (deed e (Ok a))
 
-pub read_says : TextsParse → ReadingIsWhole → (catalog : Catalog) (name : List ℕ) → IsIdentifier name → HasProperTables catalog → (ready : Meant × List Atom) (e : Execution) → IsDone catalog (reads_all name) [] ready e
+pub read_says : TextsParse → ReadingIsWhole → (catalog : Catalog) (name : List ℕ) → IsIdentifier name
+    → HasProperTables catalog → (ready : Meant × List Atom) (e : Execution) → IsDone catalog (reads_all name) [] ready e
     → (c : Counted) (a : Answer) → (counted_step c e).answer ≡ Ok a → ReadSays catalog name e a
 read_says parse whole catalog name named proper ready e h c a k =
     let m = read_meant parse whole catalog name named proper catalog.version ready h.ready_at in
@@ -251,14 +260,16 @@ pub record AreBoth (catalog : Catalog) (old new : List ℕ) (columns : List Sent
   pub few : length columns ≤ 64
   pub columns_named : AreIdentifiers columns
 
-pub both_alike : (catalog : Catalog) (old new : List ℕ) (olds news : List ResultColumn) → IsTold catalog old olds → IsTold catalog new news → are_alike (Some (map sent_column olds)) (Some (map sent_column news)) ≡ true
+pub both_alike : (catalog : Catalog) (old new : List ℕ) (olds news : List ResultColumn) → IsTold catalog old olds
+    → IsTold catalog new news → are_alike (Some (map sent_column olds)) (Some (map sent_column news)) ≡ true
     → AreBoth catalog old new (map sent_column olds)
 both_alike catalog old new olds news o n h =
     let p = and_parts (are_same_columns (map sent_column olds) (map sent_column news)) (nat_le (length (map sent_column olds)) 64) h in
     let s = same_columns (map sent_column olds) (map sent_column news) p.0 in
     let shown : map sent_column olds ≡ map sent_column (map shown_column o.def.columns) = ap (map sent_column) o.told in
     let shown_new : map sent_column news ≡ map sent_column (map shown_column n.def.columns) = ap (map sent_column) n.told in
-    let titles : map (λ (c : SentColumn). c.title) (map sent_column olds) ≡ map (λ (column : ColumnDef). column.name) o.def.columns = ap (map (λ (c : SentColumn). c.title)) shown ∙ shown_titles o.def.columns in
+    let titles : map (λ (c : SentColumn). c.title) (map sent_column olds) ≡ map (λ (column : ColumnDef). column.name)
+    o.def.columns = ap (map (λ (c : SentColumn). c.title)) shown ∙ shown_titles o.def.columns in
     let long : length (map sent_column olds) ≡ length o.def.columns =
     sym (length-map (map sent_column olds) (λ (c : SentColumn). c.title)) ∙ ap length titles ∙ length-map o.def.columns (λ (column : ColumnDef). column.name) in
     let least = o.proper.some in
@@ -298,7 +309,8 @@ with_some e None encs h = absurd cc
 
 module _ (keys : KeyMap) (trusted : List (List ℕ)) (metas : List KeyMeta) where
   all_sent : (place : ℕ) (b : Bound) (params : List Param) (es : List Enc) (encs : List (Option Enc)) (sent : List SentParam) → AreUsed place b params → length es ≡ length params
-      → encs_of params (used_from place b (map (λ (p : Param). p.declaration) params) es) ≡ Some encs → AreSent keys trusted metas (uses_in params encs) sent → map declaration_of sent ≡ map (λ (p : Param). p.declaration) params
+      → encs_of params (used_from place b (map (λ (p : Param). p.declaration) params) es) ≡ Some encs
+      → AreSent keys trusted metas (uses_in params encs) sent → map declaration_of sent ≡ map (λ (p : Param). p.declaration) params
   all_sent place b [] es encs [] used long h all = refl
   all_sent place b [] [] encs (p ∷ sent) used long h all = let f : [] ≡ encs = cc in absurd (subst (λ encs. AreSent keys trusted metas (uses_in [] encs) (p ∷ sent)) (sym f) all)
   all_sent place b [] (e ∷ es) encs (p ∷ sent) used long h all = absurd (omega arith)
@@ -353,9 +365,11 @@ pub record PutSays (catalog : Catalog) (table : List ℕ) (columns : List SentCo
   pub works : is_defining e.bound.statement ≡ false
   pub put : IsRowPut catalog table columns row (deed e (Ok a))
 
-module _ (keys : KeyMap) (trusted : List (List ℕ)) (metas : List KeyMeta) (catalog : Catalog) (table : List ℕ) (def : TableDef) (columns : List SentColumn) (row : List Value) (wide : length row ≡ length columns) (p : IsPut catalog table def columns row) where
+module _ (keys : KeyMap) (trusted : List (List ℕ)) (metas : List KeyMeta) (catalog : Catalog) (table : List ℕ)
+    (def : TableDef) (columns : List SentColumn) (row : List Value) (wide : length row ≡ length columns) (p : IsPut catalog table def columns row) where
   pub put_declares : (d : Description) (encs : List (Option Enc)) (sent : List SentParam) → describe catalog (puts table columns row).text (declared (puts table columns row)) ≡ Ok d
-      → encs_of (puts table columns row).params d.params ≡ Some encs → AreSent keys trusted metas (uses_in (puts table columns row).params encs) sent → map declaration_of sent ≡ declared (puts table columns row)
+      → encs_of (puts table columns row).params d.params ≡ Some encs → AreSent keys trusted metas (uses_in (puts table columns row).params encs) sent
+      → map declaration_of sent ≡ declared (puts table columns row)
   put_declares d encs sent e h all =
       let m = described_means catalog (puts table columns row).text (declared (puts table columns row)) d e in
       let same : p.meant ≡ m.0 = same_ok p.meant m.0 (sym p.means ∙ m.1) in
@@ -368,7 +382,8 @@ module _ (keys : KeyMap) (trusted : List (List ℕ)) (metas : List KeyMeta) (cat
       (all_used 0 p.meant.bound params (λ i a b. insert_uses p.meant.bound table (length columns) p.insert p.is p.put i (omega (arith, b, long)))) (omega (arith, typed, long))
       (ap (encs_of params) (sym ds) ∙ h) all
 
-  pub put_says : (sent : List SentParam) (ready : Meant × List Atom) (e : Execution) → map declaration_of sent ≡ declared (puts table columns row) → IsDone catalog (puts table columns row) sent ready e
+  pub put_says : (sent : List SentParam) (ready : Meant × List Atom) (e : Execution)
+      → map declaration_of sent ≡ declared (puts table columns row) → IsDone catalog (puts table columns row) sent ready e
       → (c : Counted) (a : Answer) → (counted_step c e).answer ≡ Ok a → PutSays catalog table columns row e a
   put_says sent ready e k h c a answers =
       let means = prepared_means catalog catalog.version (puts table columns row).text sent ready h.ready_at in
@@ -393,7 +408,8 @@ module _ (parse : TextsParse) (replacing : ReplacingIsReplacement) (catalog : Ca
       let g : Err (fault.Ambiguous old) ≡ Ok meant = sym f ∙ h in
       absurd cc
 
-  pub swap_says : (ready : Meant × List Atom) (e : Execution) → IsDone catalog (replaces old new) [] ready e → (c : Counted) (a : Answer) → (counted_step c e).answer ≡ Ok a → SwapSays catalog old new e a
+  pub swap_says : (ready : Meant × List Atom) (e : Execution) → IsDone catalog (replaces old new) [] ready e
+      → (c : Counted) (a : Answer) → (counted_step c e).answer ≡ Ok a → SwapSays catalog old new e a
   swap_says ready e h c a answers =
       let means = prepared_means catalog catalog.version (replaces old new).text [] ready h.ready_at in
       let two : old ≢ new = λ same. not_itself ((bytes_eq-Decides old new).1 same) ready.0 means in

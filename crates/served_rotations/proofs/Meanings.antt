@@ -85,7 +85,8 @@ module _ (catalog : Catalog) (declarations : List ParamDecl) where
   typed_same b (Err at) meant e = absurd cc
 
   -- what a text is understood as is the control that it parses to, or none
-  understood_control : (text : List ℕ) (s : Statement) (meant : Meant) → statement_in (encode_utf8_all text) ≡ Ok s → understood catalog text declarations ≡ Ok meant → control_in meant.bound.statement ≡ control_of s
+  understood_control : (text : List ℕ) (s : Statement) (meant : Meant) → statement_in (encode_utf8_all text) ≡ Ok s
+      → understood catalog text declarations ≡ Ok meant → control_in meant.bound.statement ≡ control_of s
   unfolding understood
   understood_control text s meant p e =
       let c = came (binding_of catalog text declarations) typed meant e in
@@ -118,7 +119,9 @@ asks catalog version text params s ready p e =
     subst (λ (r : Meant × List Atom). IsAsked (control_of s) (ask_of r)) f
     (asked_so (control_of s) (control_in c.value.bound.statement) (execution c.value.bound c.value.encs d.value) (at (version == catalog.version) c.is))
   where
-    at : {meant : Meant} (b : Bool) → (if b then understood catalog text (map declaration_of params) else Err (fault.Moved (record { seen = version; now = catalog.version }))) ≡ Ok meant → control_in meant.bound.statement ≡ control_of s
+    at : {meant : Meant} (b : Bool)
+        → (if b then understood catalog text (map declaration_of params) else Err (fault.Moved (record { seen = version; now = catalog.version }))) ≡ Ok meant
+        → control_in meant.bound.statement ≡ control_of s
     at {meant} true h = understood_control catalog (map declaration_of params) text s meant p h
     at {meant} false h = absurd cc
 

@@ -127,7 +127,8 @@ module _ (history : List Request) (old new : List ℕ) (keys : KeyMap) (key_for 
         served w state (Err g) = fails w f
 
     -- a refusal goes the way of failures
-    pub refused : (w : Walk) (F : Fault → Session → Talk) (G : Told → Session → Talk) (t : Told) → IsRefusal t → ((f : Fault) → Ready w (F f session.Idle)) → Ready w (unless_refused F G t session.Idle)
+    pub refused : (w : Walk) (F : Fault → Session → Talk) (G : Told → Session → Talk) (t : Told) → IsRefusal t
+        → ((f : Fault) → Ready w (F f session.Idle)) → Ready w (unless_refused F G t session.Idle)
     refused w F G (told.Refused f) r a = a f
     refused w F G (told.Rows rows) r a = absurd r
     refused w F G (told.Changed count) r a = absurd r
@@ -186,7 +187,8 @@ module _ (history : List Request) (old new : List ℕ) (keys : KeyMap) (key_for 
       pub slot_now : (w : Walk) (catalog : Catalog) (t : Transaction) (log : List Deed) → Within w catalog t log → transaction_at (now w) number ≡ Some t
       slot_now w catalog t log h = ap (λ (x : State). transaction_at x number) (now_at w h.stands) ∙ (inside_now w catalog t log h).slot
 
-      pub within_same : (w : Walk) (request : Request) (catalog : Catalog) (t : Transaction) (log : List Deed) → IsProperRequest request → called (state_of (up_to w)) request ≡ [] → Within w catalog t log → Within (next w request) catalog t log
+      pub within_same : (w : Walk) (request : Request) (catalog : Catalog) (t : Transaction) (log : List Deed)
+          → IsProperRequest request → called (state_of (up_to w)) request ≡ [] → Within w catalog t log → Within (next w request) catalog t log
       within_same w request catalog t log p c h = record {
         stands = stands_next w request p h.stands;
         inside =
@@ -194,7 +196,8 @@ module _ (history : List Request) (old new : List ℕ) (keys : KeyMap) (key_for 
             (inside_same number is_session catalog (up_to w) request t log c (inside_now w catalog t log h));
       }
 
-      module _ (batch : Batch) (k : Onward) (sends : (metas : List KeyMeta) (encs : List (Option Enc)) (sent : List SentParam) → AreSent keys trusted metas (uses_in batch.params encs) sent → All IsProperSent sent) where
+      module _ (batch : Batch) (k : Onward)
+          (sends : (metas : List KeyMeta) (encs : List (Option Enc)) (sent : List SentParam) → AreSent keys trusted metas (uses_in batch.params encs) sent → All IsProperSent sent) where
         abbrev pub described_walk : Walk → Walk
         described_walk w = next w (describe_of keys Moves moves_pass trusted number k batch)
 
@@ -249,7 +252,8 @@ module _ (history : List Request) (old new : List ℕ) (keys : KeyMap) (key_for 
               version_of : d.version ≡ catalog.version
               version_of = let m = described_means catalog batch.text (map (λ p. p.declaration) batch.params) d described_there in ap (λ (d : Description). d.version) m.2
 
-              answered : (ready : Meant × List Atom) (e : Execution) → ready_at wd d.version sent ≡ Ok ready → ask_of ready ≡ Executes e → (x : Result Answer SqlFault) → (transact (now wd) number (Executes e)).answer ≡ x
+              answered : (ready : Meant × List Atom) (e : Execution) → ready_at wd d.version sent ≡ Ok ready
+                  → ask_of ready ≡ Executes e → (x : Result Answer SqlFault) → (transact (now wd) number (Executes e)).answer ≡ x
                   → OnAnswer keys Moves moves_pass trusted number k we catalog x
               answered ready e r a (Err f) g = fails (outcome.Refused f) _ we tt
               answered ready e r a (Ok x) g = by (is_definition e.bound.statement) refl
@@ -264,10 +268,12 @@ module _ (history : List Request) (old new : List ℕ) (keys : KeyMap) (key_for 
                       absurd cc
                   by false i =
                       let step : (counted_step t.own e).answer ≡ Ok x = sym (ap (λ (x : Transacted). x.answer) (step_in number is_session (now wd) t e slot i)) ∙ g in
-                      let inside = inside_executed number is_session catalog (up_to wd) (executing_it d.version sent) t log e (called_so wd hd.stands d.version sent ready (Executes e) r a) i (inside_now wd catalog t log hd) in
+                      let inside = inside_executed number is_session catalog (up_to wd) (executing_it d.version sent)
+                      t log e (called_so wd hd.stands d.version sent ready (Executes e) r a) i (inside_now wd catalog t log hd) in
                       goes d encs sent ready e x we described_there encoded all
                       (record {
-                        ready_at = ap (λ c. prepared c catalog.version batch.text sent) (sym (catalog_seen wd hd)) ∙ ap (λ v. prepared (catalog_of (now wd) number) v batch.text sent) (sym version_of) ∙ r;
+                        ready_at = ap (λ c. prepared c catalog.version batch.text sent) (sym (catalog_seen wd hd))
+                            ∙ ap (λ v. prepared (catalog_of (now wd) number) v batch.text sent) (sym version_of) ∙ r;
                         asks = a;
                         is = same_execution ready e a;
                       })
@@ -303,26 +309,31 @@ module _ (history : List Request) (old new : List ℕ) (keys : KeyMap) (key_for 
 
           module _ (control : control_of statement ≡ Some control.Begin) (w : Walk) (s : Stands w)
               (fails : (comes : Outcome) (columns : Accepted) (w : Walk) → IsRefusal (told_of comes) → Ready w (k comes columns session.Idle))
-              (goes : (requests : List Request) (w : Walk) → let shared = (state_of requests).shared in Within w shared.world.catalog (begun_over shared) [] → Ready w (k outcome.Defined None session.Idle)) where
+              (goes : (requests : List Request) (w : Walk) → let shared = (state_of requests).shared in Within w shared.world.catalog (begun_over shared) []
+              → Ready w (k outcome.Defined None session.Idle)) where
             abbrev wb : Walk
             wb = described_walk w
 
             sb : Stands wb
             sb = stands_next w (describe_of keys Moves moves_pass trusted number k batch) tt s
 
-            begun : (version : ℕ) (sent : List SentParam) → All IsProperSent sent → (ready : Meant × List Atom) → ready_at wb version sent ≡ Ok ready → ask_of ready ≡ Begins → (o : Option Transaction) → transaction_at (now wb) number ≡ o
+            begun : (version : ℕ) (sent : List SentParam) → All IsProperSent sent → (ready : Meant × List Atom)
+                → ready_at wb version sent ≡ Ok ready → ask_of ready ≡ Begins → (o : Option Transaction) → transaction_at (now wb) number ≡ o
                 → OnAnswer keys Moves moves_pass trusted number k (executed_walk wb version sent) (catalog_of (now wb) number) (transacted (now wb) number o Begins).answer
             begun version sent p ready r a (Some t) q = fails (outcome.Refused fault.InTransaction) _ (executed_walk wb version sent) tt
             begun version sent p ready r a None q =
                 let there = now_at wb sb in
-                let inside = inside_begun number is_session (up_to wb) (executing_it version sent) (called_so wb sb version sent ready Begins r a) (ap (λ (x : State). transaction_at x number) (sym there) ∙ q) in
+                let inside = inside_begun number is_session (up_to wb) (executing_it version sent)
+                (called_so wb sb version sent ready Begins r a) (ap (λ (x : State). transaction_at x number) (sym there) ∙ q) in
                 goes (up_to wb) (executed_walk wb version sent) (record {
                   stands = stands_next wb (executing_it version sent) p sb;
                   inside =
-                      subst (λ asked. let shared = (state_of (up_to wb)).shared in Inside number is_session shared.world.catalog asked (begun_over shared) []) (next_asked wb (executing_it version sent)) inside;
+                      subst (λ asked. let shared = (state_of (up_to wb)).shared in Inside number is_session shared.world.catalog asked (begun_over shared) [])
+                      (next_asked wb (executing_it version sent)) inside;
                 })
 
-            begin_served : (version : ℕ) (sent : List SentParam) → All IsProperSent sent → (r : Result (Meant × List Atom) SqlFault) → ready_at wb version sent ≡ r → OnServed keys Moves moves_pass trusted number k (executed_walk wb version sent) (now wb) r
+            begin_served : (version : ℕ) (sent : List SentParam) → All IsProperSent sent
+                → (r : Result (Meant × List Atom) SqlFault) → ready_at wb version sent ≡ r → OnServed keys Moves moves_pass trusted number k (executed_walk wb version sent) (now wb) r
             begin_served version sent p (Err f) r = fails (outcome.Refused f) _ (executed_walk wb version sent) tt
             begin_served version sent p (Ok ready) r =
                 let a : ask_of ready ≡ Begins = subst (λ o. IsAsked o (ask_of ready)) control (asked_at wb version sent ready r) in
@@ -343,7 +354,8 @@ module _ (history : List Request) (old new : List ℕ) (keys : KeyMap) (key_for 
 
           module _ (control : control_of statement ≡ Some control.Commit) (catalog : Catalog) (w : Walk) (t : Transaction) (log : List Deed) (h : Within w catalog t log)
               (fails : (comes : Outcome) (columns : Accepted) (w : Walk) → IsRefusal (told_of comes) → Ready w (k comes columns session.Idle))
-              (goes : (w : Walk) (request : Request) → Within w catalog t log → (transact (now w) number Commits).answer ≡ Ok Defined → (serve (now w) request).after ≡ (transact (now w) number Commits).after
+              (goes : (w : Walk) (request : Request) → Within w catalog t log → (transact (now w) number Commits).answer ≡ Ok Defined
+              → (serve (now w) request).after ≡ (transact (now w) number Commits).after
               → Ready (next w request) (k outcome.Defined None session.Idle)) where
             abbrev wc : Walk
             wc = described_walk w
@@ -356,18 +368,21 @@ module _ (history : List Request) (old new : List ℕ) (keys : KeyMap) (key_for 
             after_commit version sent ready r a =
                 executed_after number (now wc) number (ready_at wc version sent) ∙ ap (after_by number (now wc) number) r ∙ ap (λ ask. (transact (now wc) number ask).after) a
 
-            committed_answer : (version : ℕ) (sent : List SentParam) → (serve (now wc) (executing_it version sent)).after ≡ (transact (now wc) number Commits).after → (o : Option SqlFault) → why_not (now wc).shared t ≡ o
+            committed_answer : (version : ℕ) (sent : List SentParam)
+                → (serve (now wc) (executing_it version sent)).after ≡ (transact (now wc) number Commits).after → (o : Option SqlFault) → why_not (now wc).shared t ≡ o
                 → OnAnswer keys Moves moves_pass trusted number k (executed_walk wc version sent) (catalog_of (now wc) number) (committed (now wc) number t o).answer
             committed_answer version sent a (Some f) e = fails (outcome.Refused f) _ (executed_walk wc version sent) tt
             committed_answer version sent a None e =
                 goes wc (executing_it version sent) hc (ap (λ o. (transacted (now wc) number o Commits).answer) (slot_now wc catalog t log hc) ∙ ap (λ o. (committed (now wc) number t o).answer) e) a
 
-            commit_served : (version : ℕ) (sent : List SentParam) (r : Result (Meant × List Atom) SqlFault) → ready_at wc version sent ≡ r → OnServed keys Moves moves_pass trusted number k (executed_walk wc version sent) (now wc) r
+            commit_served : (version : ℕ) (sent : List SentParam) (r : Result (Meant × List Atom) SqlFault)
+                → ready_at wc version sent ≡ r → OnServed keys Moves moves_pass trusted number k (executed_walk wc version sent) (now wc) r
             commit_served version sent (Err f) r = fails (outcome.Refused f) _ (executed_walk wc version sent) tt
             commit_served version sent (Ok ready) r =
                 let a : ask_of ready ≡ Commits = subst (λ o. IsAsked o (ask_of ready)) control (asked_at wc version sent ready r) in
                 subst (λ ask. OnAnswer keys Moves moves_pass trusted number k (executed_walk wc version sent) (catalog_of (now wc) number) (transact (now wc) number ask).answer) (sym a)
-                (subst (λ o. OnAnswer keys Moves moves_pass trusted number k (executed_walk wc version sent) (catalog_of (now wc) number) (transacted (now wc) number o Commits).answer) (sym (slot_now wc catalog t log hc))
+                (subst (λ o. OnAnswer keys Moves moves_pass trusted number k (executed_walk wc version sent)
+                (catalog_of (now wc) number) (transacted (now wc) number o Commits).answer) (sym (slot_now wc catalog t log hc))
                 (committed_answer version sent (after_commit version sent ready r a) (why_not (now wc).shared t) refl))
 
             pub commit_goes : Ready w (running false trusted number batch session.Idle k)

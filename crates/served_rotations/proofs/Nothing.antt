@@ -1,5 +1,38 @@
 -- A rotation that isn't finished leaves the shared world to the other sessions.
-use Rattle.std.proofs.Common.{◌≡◌, ◌⊎◌, inl, inr, ℕ, ◌-◌, ◌≤◌, ◌<◌, List, [], ◌∷◌, ◌++◌, length, map, Option, Some, None, Result, Ok, Err, Bool, true, false, not, IsSome, refl, sym, ap, subst, ◌∙◌, arith, encode_utf8_all}
+use Rattle.std.proofs.Common.{
+  ◌≡◌,
+  ◌⊎◌,
+  inl,
+  inr,
+  ℕ,
+  ◌-◌,
+  ◌≤◌,
+  ◌<◌,
+  List,
+  [],
+  ◌∷◌,
+  ◌++◌,
+  length,
+  map,
+  Option,
+  Some,
+  None,
+  Result,
+  Ok,
+  Err,
+  Bool,
+  true,
+  false,
+  not,
+  IsSome,
+  refl,
+  sym,
+  ap,
+  subst,
+  ◌∙◌,
+  arith,
+  encode_utf8_all,
+}
 use Rattle.std.specs.List.{All}
 use Rattle.std.proofs.lemmas.List.Elements.{All-head, All-tail, All-nil}
 use Rattle.ae_base.specs.Atoms.{Atom}
@@ -49,7 +82,27 @@ use Rattle.proper_values.specs.Laws.{HasProperCatalogs, ProperTablesStay}
 use Rattle.proper_values.specs.Proper.{HasProperTables, IsIdentifier, IsProperColumn}
 use Rattle.rotation_laws.specs.Laws.{AreIdentifiers, BeginsCommitsAndRollsBack, ReadingIsWhole, TextsParse, shown_column}
 use Rattle.served_rotations.proofs.Reading.{IsTold, read_told}
-use Rattle.served_rotations.proofs.Apart.{AlikeBut, answered_within, Committing, Granted, Declined, HasBegun, IsOther, after_by, after_long, begin_alike, begun_opens, commit_alike, described_after, execute_alike, executed_after, executed_open, others_alike, others_keep, roll_back_alike}
+use Rattle.served_rotations.proofs.Apart.{
+  AlikeBut,
+  answered_within,
+  Committing,
+  Granted,
+  Declined,
+  HasBegun,
+  IsOther,
+  after_by,
+  after_long,
+  begin_alike,
+  begun_opens,
+  commit_alike,
+  described_after,
+  execute_alike,
+  executed_after,
+  executed_open,
+  others_alike,
+  others_keep,
+  roll_back_alike,
+}
 use Rattle.served_rotations.proofs.Batches.{AreSent, Goes, OnAnswer, OnServed, Passes, StopsAt, Walk, batch_goes, describe_of, execute_of, next, now}
 use Rattle.served_rotations.proofs.Meanings.{IsAsked, asks, control_of, same_execution}
 use Rattle.served_rotations.proofs.Requests.{behind_more}
@@ -74,7 +127,8 @@ module _ (stay : ProperTablesStay) (keys : KeyMap) (trusted : List (List ℕ)) (
   pub shared_of : (w : Walk) (p : Passed Beside) → IsFine w p → IsFinished p ⊎ (p.state.state.shared ≡ (others_behind w.alone w.beside.between (requests_in p.exchanges)).shared)
   shared_of w p h = of h.fine
     where
-      of : IsFinished p ⊎ AlikeBut number p.state.state (others_behind w.alone w.beside.between (requests_in p.exchanges)) → IsFinished p ⊎ (p.state.state.shared ≡ (others_behind w.alone w.beside.between (requests_in p.exchanges)).shared)
+      of : IsFinished p ⊎ AlikeBut number p.state.state (others_behind w.alone w.beside.between (requests_in p.exchanges))
+          → IsFinished p ⊎ (p.state.state.shared ≡ (others_behind w.alone w.beside.between (requests_in p.exchanges)).shared)
       of (inl f) = inl f
       of (inr a) = inr a.shared
 
@@ -155,7 +209,8 @@ module _ (stay : ProperTablesStay) (keys : KeyMap) (trusted : List (List ℕ)) (
       }
 
   -- behind a request of the session that leaves the others alike
-  stands_next : (w : Walk) (request : Request) → Stands w → AlikeBut number (serve (now w) request).after (serve_all w.alone (first_of w.beside.between)).1 → length (serve (now w) request).after.sessions ≡ length (now w).sessions
+  stands_next : (w : Walk) (request : Request) → Stands w → AlikeBut number (serve (now w) request).after (serve_all w.alone (first_of w.beside.between)).1
+      → length (serve (now w) request).after.sessions ≡ length (now w).sessions
       → Stands (next w request)
   stands_next w request s h l = record {
     tidy = let t = (stands_now w s).tidy in stay (now w) request t.0 t.1;
@@ -203,7 +258,8 @@ module _ (stay : ProperTablesStay) (keys : KeyMap) (trusted : List (List ℕ)) (
     refused_walk w version sent f e s = stands_executed w version sent (Err f) e s (stands_now w s).alike
 
     -- every way to be answered goes on, with columns that are told so
-    answers : (C : Accepted → Type 0) → C None → (w : Walk) (catalog : Catalog) (x : Result Answer SqlFault) → ((columns : List ResultColumn) (rows : List (List Atom)) → x ≡ Ok (Rows columns rows) → C (Some (map sent_column columns)))
+    answers : (C : Accepted → Type 0) → C None → (w : Walk) (catalog : Catalog) (x : Result Answer SqlFault)
+        → ((columns : List ResultColumn) (rows : List (List Atom)) → x ≡ Ok (Rows columns rows) → C (Some (map sent_column columns)))
         → Stands w → ((comes : Outcome) (columns : Accepted) → C columns → Goes keys IsFine w [] (k comes columns session.Idle))
         → OnAnswer keys IsFine fine_passes trusted number k w catalog x
     answers C none w catalog (Ok (Rows columns rows)) told s h = record {
@@ -281,7 +337,8 @@ module _ (stay : ProperTablesStay) (keys : KeyMap) (trusted : List (List ℕ)) (
         sb : Stands wb
         sb = stands_described w s
 
-        begun_answers : (w : Walk) (catalog : Catalog) (x : Result Answer SqlFault) → Stands w → ((a : Answer) → x ≡ Ok a → HasBegun number w.beside.state) → OnAnswer keys IsFine fine_passes trusted number k w catalog x
+        begun_answers : (w : Walk) (catalog : Catalog) (x : Result Answer SqlFault) → Stands w
+            → ((a : Answer) → x ≡ Ok a → HasBegun number w.beside.state) → OnAnswer keys IsFine fine_passes trusted number k w catalog x
         begun_answers w catalog (Ok (Rows columns rows)) s b = record {
           stops = stops_fine w s;
           read = λ os values own all. h _ _ w s (b _ refl);
@@ -292,17 +349,20 @@ module _ (stay : ProperTablesStay) (keys : KeyMap) (trusted : List (List ℕ)) (
         begun_answers w catalog (Ok Defined) s b = h _ _ w s (b _ refl)
         begun_answers w catalog (Err f) s b = fails (outcome.Refused f) _ w tt s
 
-        begin_served : (version : ℕ) (sent : List SentParam) (r : Result (Meant × List Atom) SqlFault) → ready_at wb version sent ≡ r → OnServed keys IsFine fine_passes trusted number k (executed_walk wb version sent) (now wb) r
+        begin_served : (version : ℕ) (sent : List SentParam) (r : Result (Meant × List Atom) SqlFault)
+            → ready_at wb version sent ≡ r → OnServed keys IsFine fine_passes trusted number k (executed_walk wb version sent) (now wb) r
         begin_served version sent (Err f) e = fails (outcome.Refused f) _ (executed_walk wb version sent) tt (refused_walk wb version sent f e sb)
         begin_served version sent (Ok ready) e =
             let a : ask_of ready ≡ Begins = subst (λ o. IsAsked o (ask_of ready)) control (asked_at wb version sent ready e) in
             let n = stands_now wb sb in
-            let quiet : AlikeBut number (transact (now wb) number (ask_of ready)).after (alone_now wb) = subst (λ ask. AlikeBut number (transact (now wb) number ask).after (alone_now wb)) (sym a) (begin_alike number (now wb) (alone_now wb) n.alike) in
+            let quiet : AlikeBut number (transact (now wb) number (ask_of ready)).after (alone_now wb) = subst
+            (λ ask. AlikeBut number (transact (now wb) number ask).after (alone_now wb)) (sym a) (begin_alike number (now wb) (alone_now wb) n.alike) in
             let se = stands_executed wb version sent (Ok ready) e sb quiet in
             let f = executed_state wb version sent ∙ ap (after_by number (now wb) number) e in
             let there : number - 1 < length (now wb).sessions = let l = n.long in omega (arith, some, l) in
             begun_answers (executed_walk wb version sent) (catalog_of (now wb) number) (transact (now wb) number (ask_of ready)).answer se
-            (λ x g. subst (HasBegun number) (sym f) (subst (λ ask. HasBegun number (transact (now wb) number ask).after) (sym a) (begun_opens number (now wb) x there (subst (λ ask. (transact (now wb) number ask).answer ≡ Ok x) a g))))
+            (λ x g. subst (HasBegun number) (sym f)
+            (subst (λ ask. HasBegun number (transact (now wb) number ask).after) (sym a) (begun_opens number (now wb) x there (subst (λ ask. (transact (now wb) number ask).answer ≡ Ok x) a g))))
 
         pub begin_goes : Goes keys IsFine w [] (running false trusted number batch session.Idle k)
         begin_goes = batch_goes keys IsFine fine_passes trusted number k batch w (record {
@@ -314,14 +374,16 @@ module _ (stay : ProperTablesStay) (keys : KeyMap) (trusted : List (List ℕ)) (
           executes = λ d encs sent e n all. begin_served d.version sent (ready_at wb d.version sent) refl;
         })
 
-      module _ (control : control_of statement ≡ Some control.Rollback) (w : Walk) (s : Stands w) (h : (comes : Outcome) (columns : Accepted) (w : Walk) → Stands w → Goes keys IsFine w [] (k comes columns session.Idle)) where
+      module _ (control : control_of statement ≡ Some control.Rollback) (w : Walk) (s : Stands w)
+          (h : (comes : Outcome) (columns : Accepted) (w : Walk) → Stands w → Goes keys IsFine w [] (k comes columns session.Idle)) where
         abbrev wr : Walk
         wr = described_walk w
 
         sr : Stands wr
         sr = stands_described w s
 
-        roll_served : (version : ℕ) (sent : List SentParam) (r : Result (Meant × List Atom) SqlFault) → ready_at wr version sent ≡ r → OnServed keys IsFine fine_passes trusted number k (executed_walk wr version sent) (now wr) r
+        roll_served : (version : ℕ) (sent : List SentParam) (r : Result (Meant × List Atom) SqlFault)
+            → ready_at wr version sent ≡ r → OnServed keys IsFine fine_passes trusted number k (executed_walk wr version sent) (now wr) r
         roll_served version sent (Err f) e = h _ _ (executed_walk wr version sent) (refused_walk wr version sent f e sr)
         roll_served version sent (Ok ready) e =
             let a : ask_of ready ≡ RollsBack = subst (λ o. IsAsked o (ask_of ready)) control (asked_at wr version sent ready e) in
@@ -350,14 +412,16 @@ module _ (stay : ProperTablesStay) (keys : KeyMap) (trusted : List (List ℕ)) (
         sc : Stands wc
         sc = stands_described w s
 
-        committed_answer : (version : ℕ) (sent : List SentParam) (ready : Meant × List Atom) → ready_at wc version sent ≡ Ok ready → (x : Transacted) → transact (now wc) number (ask_of ready) ≡ x → Committing number (now wc) (alone_now wc) x
+        committed_answer : (version : ℕ) (sent : List SentParam) (ready : Meant × List Atom)
+            → ready_at wc version sent ≡ Ok ready → (x : Transacted) → transact (now wc) number (ask_of ready) ≡ x → Committing number (now wc) (alone_now wc) x
             → OnAnswer keys IsFine fine_passes trusted number k (executed_walk wc version sent) (catalog_of (now wc) number) x.answer
         committed_answer version sent ready e _ f (Granted after) = ends (executed_walk wc version sent)
         committed_answer version sent ready e _ f (Declined why after alike) =
             fails (outcome.Refused why) _ (executed_walk wc version sent) tt
             (stands_executed wc version sent (Ok ready) e sc (subst (λ (x : Transacted). AlikeBut number x.after (alone_now wc)) (sym f) alike))
 
-        commit_served : (version : ℕ) (sent : List SentParam) (r : Result (Meant × List Atom) SqlFault) → ready_at wc version sent ≡ r → OnServed keys IsFine fine_passes trusted number k (executed_walk wc version sent) (now wc) r
+        commit_served : (version : ℕ) (sent : List SentParam) (r : Result (Meant × List Atom) SqlFault)
+            → ready_at wc version sent ≡ r → OnServed keys IsFine fine_passes trusted number k (executed_walk wc version sent) (now wc) r
         commit_served version sent (Err f) e = fails (outcome.Refused f) _ (executed_walk wc version sent) tt (refused_walk wc version sent f e sc)
         commit_served version sent (Ok ready) e =
             let a : ask_of ready ≡ Commits = subst (λ o. IsAsked o (ask_of ready)) control (asked_at wc version sent ready e) in
@@ -386,7 +450,8 @@ module _ (stay : ProperTablesStay) (keys : KeyMap) (trusted : List (List ℕ)) (
     ends : (w : Walk) → Stands w → (comes : Outcome) → Ready w (ending comes session.Idle)
     ends w s comes taken entropy bytes = record { one = omega arith; fine = inr s.alike; before = λ asked next left e. absurd (none_asked asked next left e) }
 
-    either : (w : Walk) (F : Fault → Session → Talk) (G : Told → Session → Talk) (t : Told) → ((f : Fault) → Ready w (F f session.Idle)) → ((t : Told) → Ready w (G t session.Idle)) → Ready w (unless_refused F G t session.Idle)
+    either : (w : Walk) (F : Fault → Session → Talk) (G : Told → Session → Talk) (t : Told)
+        → ((f : Fault) → Ready w (F f session.Idle)) → ((t : Told) → Ready w (G t session.Idle)) → Ready w (unless_refused F G t session.Idle)
     either w F G (told.Refused f) a b = a f
     either w F G (told.Rows rows) a b = b (told.Rows rows)
     either w F G (told.Changed count) a b = b (told.Changed count)
@@ -410,7 +475,8 @@ module _ (stay : ProperTablesStay) (keys : KeyMap) (trusted : List (List ℕ)) (
 
     commits_so : (w : Walk) → Stands w → (all : ℕ) → Ready w (committing trusted number old new ending all session.Idle)
     commits_so w s all =
-        commit_goes commits (λ comes columns. unless_refused (fails_with trusted number old new ending) (λ told after. ending (outcome.Rotated all) after) (told_of comes)) _ controls.committed refl w s
+        commit_goes commits
+        (λ comes columns. unless_refused (fails_with trusted number old new ending) (λ told after. ending (outcome.Rotated all) after) (told_of comes)) _ controls.committed refl w s
         (λ comes columns w r s. refused w (fails_with trusted number old new ending) (λ told after. ending (outcome.Rotated all) after) (told_of comes) r (fails w s)) (λ w. finishes w all)
 
     abbrev anything : Accepted → Type 0
@@ -418,24 +484,30 @@ module _ (stay : ProperTablesStay) (keys : KeyMap) (trusted : List (List ℕ)) (
 
     replaces_so : (w : Walk) → Stands w → HasBegun number w.beside.state → (all : ℕ) → Ready w (replacing trusted number old new ending all session.Idle)
     replaces_so w s b all =
-        statement_goes (replaces old new) (λ comes columns. unless_refused (rolling_back trusted number old new ending) (λ told after. committing trusted number old new ending all after) (told_of comes))
+        statement_goes (replaces old new)
+        (λ comes columns. unless_refused (rolling_back trusted number old new ending) (λ told after. committing trusted number old new ending all after) (told_of comes))
         _ (parse.replaced old new old_named new_named) refl anything tt (λ state version metas encs sent ready t g all e columns rows a. tt) w s b
-        (λ comes columns w c s b. either w (rolling_back trusted number old new ending) (λ told after. committing trusted number old new ending all after) (told_of comes) (rolls w s) (λ t. commits_so w s all))
+        (λ comes columns w c s b. either w (rolling_back trusted number old new ending)
+        (λ told after. committing trusted number old new ending all after) (told_of comes) (rolls w s) (λ t. commits_so w s all))
 
-    puts_so : (columns : List SentColumn) → AreIdentifiers columns → 1 ≤ length columns → length columns ≤ 64 → (all : ℕ) (rows : List (List Value)) (w : Walk) → Stands w → HasBegun number w.beside.state
+    puts_so : (columns : List SentColumn) → AreIdentifiers columns → 1 ≤ length columns → length columns ≤ 64
+        → (all : ℕ) (rows : List (List Value)) (w : Walk) → Stands w → HasBegun number w.beside.state
         → Ready w (putting_each trusted number old new ending columns all rows session.Idle)
     puts_so columns ids least most all [] w s b = replaces_so w s b all
     puts_so columns ids least most all (row ∷ rows) w s b =
-        statement_goes (puts new columns row) (λ comes others. unless_refused (rolling_back trusted number old new ending) (λ told after. putting_each trusted number old new ending columns all rows after) (told_of comes))
+        statement_goes (puts new columns row)
+        (λ comes others. unless_refused (rolling_back trusted number old new ending) (λ told after. putting_each trusted number old new ending columns all rows after) (told_of comes))
         _ (parse.put new columns row new_named ids least most).2 refl anything tt (λ state version metas encs sent ready t g all e columns rows a. tt) w s b
-        (λ comes others w c s b. either w (rolling_back trusted number old new ending) (λ told after. putting_each trusted number old new ending columns all rows after) (told_of comes) (rolls w s) (λ t. puts_so columns ids least most all rows w s b))
+        (λ comes others w c s b. either w (rolling_back trusted number old new ending)
+        (λ told after. putting_each trusted number old new ending columns all rows after) (told_of comes) (rolls w s) (λ t. puts_so columns ids least most all rows w s b))
 
     -- the columns that were accepted are those of a proper table
     abbrev AreProper : Accepted → Type 0
     AreProper None = Unit {0}
     AreProper (Some columns) = AreIdentifiers columns × (1 ≤ length columns) × (length columns ≤ 64)
 
-    compares : (news olds : Accepted) → AreProper olds → (empty : Bool) (rows : List (List Value)) (w : Walk) → Stands w → HasBegun number w.beside.state → Ready w (comparing trusted number old new ending news empty olds rows session.Idle)
+    compares : (news olds : Accepted) → AreProper olds → (empty : Bool) (rows : List (List Value)) (w : Walk)
+        → Stands w → HasBegun number w.beside.state → Ready w (comparing trusted number old new ending news empty olds rows session.Idle)
     compares news olds proper empty rows w s b = by olds proper (are_alike olds news) empty refl
       where
         by : (olds : Accepted) → AreProper olds → (same empty : Bool) → are_alike olds news ≡ same
@@ -454,7 +526,8 @@ module _ (stay : ProperTablesStay) (keys : KeyMap) (trusted : List (List ℕ)) (
     told_proper : (catalog : Catalog) (name : List ℕ) (columns : List ResultColumn) → IsTold catalog name columns → AreProper (Some (map sent_column columns))
     told_proper catalog name columns t =
         subst (λ cs. AreProper (Some (map sent_column cs))) (sym t.told)
-        (let long : length (map sent_column (map shown_column t.def.columns)) ≡ length t.def.columns = length-map (map shown_column t.def.columns) sent_column ∙ length-map t.def.columns shown_column in
+        (let long : length (map sent_column (map shown_column t.def.columns)) ≡ length t.def.columns = length-map
+        (map shown_column t.def.columns) sent_column ∙ length-map t.def.columns shown_column in
         let p = t.proper in
         let least = p.some in
         let most = p.few in
@@ -465,7 +538,8 @@ module _ (stay : ProperTablesStay) (keys : KeyMap) (trusted : List (List ℕ)) (
     none_sent metas (p ∷ sent) h = absurd h
 
     -- of a read the columns are
-    reads_told : (name : List ℕ) → IsIdentifier name → (state : State) (version : ℕ) (metas : List KeyMeta) (encs : List (Option Enc)) (sent : List SentParam) (ready : Meant × List Atom) → IsTidy state → HasBegun number state
+    reads_told : (name : List ℕ) → IsIdentifier name
+        → (state : State) (version : ℕ) (metas : List KeyMeta) (encs : List (Option Enc)) (sent : List SentParam) (ready : Meant × List Atom) → IsTidy state → HasBegun number state
         → AreSent keys trusted metas [] sent → prepared (catalog_of state number) version (reads_all name).text sent ≡ Ok ready
         → (columns : List ResultColumn) (rows : List (List Atom)) → (transact state number (ask_of ready)).answer ≡ Ok (Rows columns rows) → AreProper (Some (map sent_column columns))
     reads_told name named state version metas encs sent ready t b all e columns rows a =
@@ -476,19 +550,24 @@ module _ (stay : ProperTablesStay) (keys : KeyMap) (trusted : List (List ℕ)) (
         let executed : (transact state number (Executes asked.0)).answer ≡ Ok (Rows columns rows) = subst (λ ask. (transact state number ask).answer ≡ Ok (Rows columns rows)) asked.1 a in
         let c = answered_within number state asked.0 (Rows columns rows) b executed in
         told_proper (catalog_of state number) name columns
-        (read_told parse whole (catalog_of state number) name named (t.1 number) version ready e c.0 columns rows (subst (λ x. (counted_step c.0 x).answer ≡ Ok (Rows columns rows)) (same_execution ready asked.0 asked.1) c.1))
+        (read_told parse whole (catalog_of state number) name named (t.1 number) version ready e c.0 columns
+        rows (subst (λ x. (counted_step c.0 x).answer ≡ Ok (Rows columns rows)) (same_execution ready asked.0 asked.1) c.1))
 
     reads_old : (news : Accepted) (empty : Bool) (w : Walk) → Stands w → HasBegun number w.beside.state → Ready w (reading_old trusted number old new ending news empty session.Idle)
     reads_old news empty w s b =
-        statement_goes (reads_all old) (λ comes olds. unless_refused (rolling_back trusted number old new ending) (λ told after. comparing trusted number old new ending news empty olds (rows_told told) after) (told_of comes))
+        statement_goes (reads_all old)
+        (λ comes olds. unless_refused (rolling_back trusted number old new ending) (λ told after. comparing trusted number old new ending news empty olds (rows_told told) after) (told_of comes))
         _ (parse.reads old old_named).1 refl AreProper tt (reads_told old old_named) w s b
-        (λ comes olds w c s b. either w (rolling_back trusted number old new ending) (λ told after. comparing trusted number old new ending news empty olds (rows_told told) after) (told_of comes) (rolls w s) (λ t. compares news olds c empty (rows_told t) w s b))
+        (λ comes olds w c s b. either w (rolling_back trusted number old new ending)
+        (λ told after. comparing trusted number old new ending news empty olds (rows_told told) after) (told_of comes) (rolls w s) (λ t. compares news olds c empty (rows_told t) w s b))
 
     reads_new : (w : Walk) → Stands w → HasBegun number w.beside.state → Ready w (reading_new trusted number old new ending session.Idle)
     reads_new w s b =
-        statement_goes (reads_all new) (λ comes news. unless_refused (rolling_back trusted number old new ending) (λ told after. reading_old trusted number old new ending news (is_empty (rows_told told)) after) (told_of comes))
+        statement_goes (reads_all new)
+        (λ comes news. unless_refused (rolling_back trusted number old new ending) (λ told after. reading_old trusted number old new ending news (is_empty (rows_told told)) after) (told_of comes))
         _ (parse.reads new new_named).1 refl anything tt (λ state version metas encs sent ready t g all e columns rows a. tt) w s b
-        (λ comes news w c s b. either w (rolling_back trusted number old new ending) (λ told after. reading_old trusted number old new ending news (is_empty (rows_told told)) after) (told_of comes) (rolls w s) (λ t. reads_old news (is_empty (rows_told t)) w s b))
+        (λ comes news w c s b. either w (rolling_back trusted number old new ending)
+        (λ told after. reading_old trusted number old new ending news (is_empty (rows_told told)) after) (told_of comes) (rolls w s) (λ t. reads_old news (is_empty (rows_told t)) w s b))
 
     pub rotation_fine : (w : Walk) → Stands w → Ready w (rotation trusted number old new)
     rotation_fine w s =

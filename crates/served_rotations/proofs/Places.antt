@@ -79,7 +79,8 @@ types_told catalog defs = by defs
 
 -- ---- the parameters of a row that is put
 
-prepared_suits : (catalog : Catalog) (version : ℕ) (text : List ℕ) (sent : List SentParam) (ready : Meant × List Atom) → prepared catalog version text sent ≡ Ok ready → suited ready.0.encs sent ≡ Ok ready.1
+prepared_suits : (catalog : Catalog) (version : ℕ) (text : List ℕ) (sent : List SentParam) (ready : Meant × List Atom)
+    → prepared catalog version text sent ≡ Ok ready → suited ready.0.encs sent ≡ Ok ready.1
 prepared_suits catalog version text sent ready e =
     let c = came (understood_at catalog version text sent) (λ meant. suited meant.encs sent >>= λ atoms. Ok (meant, atoms)) ready e in
     let d = came (suited c.value.encs sent) (λ atoms. Ok (c.value, atoms)) ready c.then in
@@ -112,7 +113,8 @@ module _ (keys : KeyMap) (trusted : List (List ℕ)) where
   AreSentAs metas (c ∷ defs) (v ∷ row) (a ∷ atoms) = IsSent keys trusted metas c.enc c.ty v a × AreSentAs metas defs row atoms
 
   pub sent_as : (metas : List KeyMeta) (n : ℕ) (columns : List SentColumn) (row : List Value) (defs : List ColumnDef) (sent : List SentParam) → length row ≡ length columns
-      → map (λ (c : SentColumn). c.ty) columns ≡ map (λ (c : ColumnDef). c.ty) defs → AreSent keys trusted metas (uses_in (params_from n columns row) (map Some (map (λ (c : ColumnDef). c.enc) defs))) sent
+      → map (λ (c : SentColumn). c.ty) columns ≡ map (λ (c : ColumnDef). c.ty) defs
+      → AreSent keys trusted metas (uses_in (params_from n columns row) (map Some (map (λ (c : ColumnDef). c.enc) defs))) sent
       → AreSentAs metas defs row (map (λ (p : SentParam). p.atom) sent)
   sent_as metas n [] [] [] [] long types h = tt
   sent_as metas n [] [] [] (p ∷ sent) long types h = absurd h
@@ -124,8 +126,10 @@ module _ (keys : KeyMap) (trusted : List (List ℕ)) where
   sent_as metas n (c ∷ columns) (v ∷ row) (d ∷ defs) (p ∷ sent) long types h =
       let one : c.ty ≡ d.ty = cc in
       let rest : map (λ (c : SentColumn). c.ty) columns ≡ map (λ (c : ColumnDef). c.ty) defs = cc in
-      let is : p.atom ≡ h.0.0 = ap (λ (p : SentParam). p.atom) h.0.2 in
-      (subst (λ a. IsSent keys trusted metas d.enc d.ty v a) (sym is) (subst (λ t. IsSent keys trusted metas d.enc t v h.0.0) one h.0.1), sent_as metas (n + 1) columns row defs sent (omega arith) rest h.1)
+      let is : p.atom ≡ h.0.0 = ap (λ (p : SentParam). p.atom) h.0.2 in (
+        subst (λ a. IsSent keys trusted metas d.enc d.ty v a) (sym is) (subst (λ t. IsSent keys trusted metas d.enc t v h.0.0) one h.0.1),
+        sent_as metas (n + 1) columns row defs sent (omega arith) rest h.1,
+      )
 
   -- a deed whose parameters are so, by keys that the catalog tells
   pub record IsSealedRow (catalog : Catalog) (defs : List ColumnDef) (row : List Value) (d : Deed) : Type 0 where
@@ -138,16 +142,20 @@ module _ (keys : KeyMap) (trusted : List (List ℕ)) where
   AreRowsSealed catalog defs (row ∷ rows) [] = ⊥
   AreRowsSealed catalog defs (row ∷ rows) (d ∷ deeds) = IsSealedRow catalog defs row d × AreRowsSealed catalog defs rows deeds
 
-  pub sealed_more : (catalog : Catalog) (defs : List ColumnDef) (done : List (List Value)) (deeds : List Deed) (row : List Value) (d : Deed) → AreRowsSealed catalog defs done deeds → IsSealedRow catalog defs row d
+  pub sealed_more : (catalog : Catalog) (defs : List ColumnDef) (done : List (List Value)) (deeds : List Deed) (row : List Value) (d : Deed)
+      → AreRowsSealed catalog defs done deeds → IsSealedRow catalog defs row d
       → AreRowsSealed catalog defs (done ++ row ∷ []) (deeds ++ d ∷ [])
   sealed_more catalog defs [] [] row d h k = (k, tt)
   sealed_more catalog defs [] (x ∷ deeds) row d h k = absurd h
   sealed_more catalog defs (r ∷ done) [] row d h k = absurd h
   sealed_more catalog defs (r ∷ done) (x ∷ deeds) row d h k = (h.0, sealed_more catalog defs done deeds row d h.1 k)
 
-  pub put_sealed : (catalog : Catalog) (table : List ℕ) (def : TableDef) (columns : List SentColumn) (row : List Value) (wide : length row ≡ length columns) (p : IsPut catalog table def columns row) → AreColumnsOf columns def
-      → (d : Description) (encs : List (Option Enc)) (sent : List SentParam) (ready : Meant × List Atom) (e : Execution) (a : Result Answer SqlFault) → describe catalog (puts table columns row).text (declared (puts table columns row)) ≡ Ok d
-      → encs_of (puts table columns row).params d.params ≡ Some encs → AreSent keys trusted d.keys (uses_in (puts table columns row).params encs) sent → map declaration_of sent ≡ declared (puts table columns row)
+  pub put_sealed : (catalog : Catalog) (table : List ℕ) (def : TableDef) (columns : List SentColumn) (row : List Value)
+      (wide : length row ≡ length columns) (p : IsPut catalog table def columns row) → AreColumnsOf columns def
+      → (d : Description) (encs : List (Option Enc)) (sent : List SentParam) (ready : Meant × List Atom) (e : Execution) (a : Result Answer SqlFault)
+      → describe catalog (puts table columns row).text (declared (puts table columns row)) ≡ Ok d
+      → encs_of (puts table columns row).params d.params ≡ Some encs → AreSent keys trusted d.keys (uses_in (puts table columns row).params encs) sent
+      → map declaration_of sent ≡ declared (puts table columns row)
       → IsDone catalog (puts table columns row) sent ready e → IsSealedRow catalog def.columns row (deed e a)
   put_sealed catalog table def columns row wide p of d encs sent ready e a described encoded sealed declares done =
       let params = params_from 1 columns row in
@@ -176,10 +184,12 @@ module _ (keys : KeyMap) (trusted : List (List ℕ)) where
 
   module _ (laws : CellLaws) (key_for : ℕ → List ℕ) (metas : List KeyMeta) (opens : OpenAs keys key_for metas) where
     -- what was read
-    sealed_read : (id : ℕ) (o : Option Keys) (t : Ty) (cell : List ℕ) (v : Value) → (ks : Keys) → ks ≡ keys_of (key_for id) → o ≡ Some ks → read_atom o t (atom.Sealed cell) ≡ Ok v → value_in t (content_of (keys_of (key_for id)) cell) ≡ Ok v
+    sealed_read : (id : ℕ) (o : Option Keys) (t : Ty) (cell : List ℕ) (v : Value) → (ks : Keys) → ks ≡ keys_of (key_for id)
+        → o ≡ Some ks → read_atom o t (atom.Sealed cell) ≡ Ok v → value_in t (content_of (keys_of (key_for id)) cell) ≡ Ok v
     sealed_read id o t cell v ks k s e = subst (λ ks. value_in t (content_of ks cell) ≡ Ok v) k (ap (λ o. read_atom o t (atom.Sealed cell)) (sym s) ∙ e)
 
-    atom_means : (c : ColumnDef) (e : Enc) (o : Option Keys) (a : Atom) (v : Value) → IsKeyOf keys trusted metas e o → is_atom_of (record { ty = c.ty; enc = e }) a ≡ true → read_atom o c.ty a ≡ Ok v → MeansBy Opens key_for c e a v
+    atom_means : (c : ColumnDef) (e : Enc) (o : Option Keys) (a : Atom) (v : Value) → IsKeyOf keys trusted metas e o
+        → is_atom_of (record { ty = c.ty; enc = e }) a ≡ true → read_atom o c.ty a ≡ Ok v → MeansBy Opens key_for c e a v
     atom_means c enc.Plain o atom.Null v k fit h = let g : value.Null ≡ v = cc in sym g
     atom_means c enc.Plain o (atom.Plain d) v k fit h = let g : value.Is d ≡ v = cc in sym g
     atom_means c enc.Plain o (atom.Sealed cell) v k fit h = absurd cc
@@ -191,7 +201,8 @@ module _ (keys : KeyMap) (trusted : List (List ℕ)) where
     atom_means c (enc.Rnd id) o (atom.Sealed cell) v k fit h = sealed_read id o c.ty cell v k.0 (opens trusted id k.0 k.1) k.2 h
 
     -- what was sent
-    cell_seals : (id : ℕ) (t : Ty) (d : Datum) (ks : Keys) (iv : List ℕ) → ks ≡ keys_of (key_for id) → IsBlock iv → IsProper (value.Is d) → content_of (keys_of (key_for id)) (cell_of ks iv (norm d t)) ≡ Ok (norm d t)
+    cell_seals : (id : ℕ) (t : Ty) (d : Datum) (ks : Keys) (iv : List ℕ) → ks ≡ keys_of (key_for id) → IsBlock iv
+        → IsProper (value.Is d) → content_of (keys_of (key_for id)) (cell_of ks iv (norm d t)) ≡ Ok (norm d t)
     cell_seals id t d ks iv k b p =
         subst (λ own. content_of (keys_of (key_for id)) (cell_of own iv (norm d t)) ≡ Ok (norm d t)) (sym k)
         (laws.back (keys_of (key_for id)) iv (norm d t) (laws.keys (key_for id)) b (norm_bytes laws.bounded d t p))
@@ -211,14 +222,16 @@ module _ (keys : KeyMap) (trusted : List (List ℕ)) where
   -- ---- rows
 
   module _ (laws : CellLaws) (key_for : ℕ → List ℕ) (olds news : List KeyMeta) (opens_old : OpenAs keys key_for olds) (opens_new : OpenAs keys key_for news) where
-    joined : (c : ColumnDef) (from into : List ColumnDef) (a : Atom) (atoms put : List Atom) (v : Value) (values : List Value) → MeansBy Opens key_for c c.enc a v → All IsProper (v ∷ values) → AreSentAs news into (v ∷ values) put
+    joined : (c : ColumnDef) (from into : List ColumnDef) (a : Atom) (atoms put : List Atom) (v : Value) (values : List Value)
+        → MeansBy Opens key_for c c.enc a v → All IsProper (v ∷ values) → AreSentAs news into (v ∷ values) put
         → ((into : List ColumnDef) (put : List Atom) → All IsProper values → AreSentAs news into values put → AreMoved key_for from into atoms put) → AreMoved key_for (c ∷ from) into (a ∷ atoms) put
     joined c from [] a atoms put v values m p s again = absurd s
     joined c from (n ∷ into) a atoms [] v values m p s again = absurd s
     joined c from (n ∷ into) a atoms (b ∷ put) v values m p s again =
         ((v, m, sent_seals laws key_for news opens_new n n.enc v b (All-head IsProper v values p) s.0), again into put (All-tail IsProper v values p) s.1)
 
-    row_moved : (row at : ℕ) (from into : List ColumnDef) (os : List (Option Keys)) (atoms put : List Atom) (values : List Value) → AreKeysOf keys trusted olds (types_for from) os → is_row_of (types_for from) atoms ≡ true
+    row_moved : (row at : ℕ) (from into : List ColumnDef) (os : List (Option Keys)) (atoms put : List Atom) (values : List Value)
+        → AreKeysOf keys trusted olds (types_for from) os → is_row_of (types_for from) atoms ≡ true
         → read_atoms row at (types_for from) os atoms ≡ Ok values → All IsProper values → AreSentAs news into values put → AreMoved key_for from into atoms put
     row_moved row at [] into [] [] put values k fit e p s = let g : [] ≡ values = cc in none into put (subst (λ values. AreSentAs news into values put) (sym g) s)
       where
@@ -248,7 +261,8 @@ module _ (keys : KeyMap) (trusted : List (List ℕ)) where
     told_opens : (encs : List Enc) → OpenAs keys key_for (told encs)
     told_opens encs = open_told laws.opened laws.whole keys key_for catalog fits encs
 
-    pub rows_moved : (n : ℕ) (from into : List ColumnDef) (os : List (Option Keys)) (read : List (List Atom)) (values : List (List Value)) (deeds : List Deed) → AreKeysOf keys trusted (told shown) (types_for from) os
+    pub rows_moved : (n : ℕ) (from into : List ColumnDef) (os : List (Option Keys)) (read : List (List Atom)) (values : List (List Value)) (deeds : List Deed)
+        → AreKeysOf keys trusted (told shown) (types_for from) os
         → AreRead (types_for from) os n read values → All (All IsProper) values → AreRowsSealed catalog into values deeds → AllZip (AreMoved key_for from into) read (sent_by deeds)
     rows_moved n from into os [] [] [] k r p s = tt
     rows_moved n from into os [] [] (d ∷ deeds) k r p s = absurd s
@@ -256,6 +270,7 @@ module _ (keys : KeyMap) (trusted : List (List ℕ)) where
     rows_moved n from into os (row ∷ read) [] deeds k r p s = absurd r
     rows_moved n from into os (row ∷ read) (v ∷ values) [] k r p s = absurd s
     rows_moved n from into os (row ∷ read) (v ∷ values) (d ∷ deeds) k r p s = (
-      row_moved laws key_for (told shown) (told s.0.encs) (told_opens shown) (told_opens s.0.encs) (n + 1) 1 from into os row d.execution.params v k r.0 r.1 (All-head (All IsProper) v values p) s.0.all,
+      row_moved laws key_for (told shown) (told s.0.encs) (told_opens shown) (told_opens s.0.encs) (n + 1) 1
+          from into os row d.execution.params v k r.0 r.1 (All-head (All IsProper) v values p) s.0.all,
       rows_moved (n + 1) from into os read values deeds k r.2 (All-tail (All IsProper) v values p) s.1,
     )

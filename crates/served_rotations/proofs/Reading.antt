@@ -43,7 +43,8 @@ module _ (c : Counted) (e : Execution) (q : BoundQuery) (columns : List ResultCo
   query_columns s h = by (found_in c.world q e.params) (rw s at h)
     where
       by : (r : Result (List (List Atom)) SqlFault)
-          → (let o = outcome c.world (r >>= λ rows. Ok (record { answer = Rows items rows; world = c.world })) in (counted c (bound.Select q) o.answer o.world).answer) ≡ Ok (Rows columns rows) → columns ≡ items
+          → (let o = outcome c.world (r >>= λ rows. Ok (record { answer = Rows items rows; world = c.world })) in (counted c (bound.Select q) o.answer o.world).answer)
+          ≡ Ok (Rows columns rows) → columns ≡ items
       by (Ok found) g = cc
       by (Err f) g = absurd cc
 
@@ -73,7 +74,9 @@ module _ (parse : TextsParse) (whole : ReadingIsWhole) (catalog : Catalog) (name
       let f : (c.value, d.value) ≡ ready = cc in
       at (version == catalog.version) c.is ∙ ap (λ (r : Meant × List Atom). Ok r.0) f
     where
-      at : {meant : Meant} (b : Bool) → (if b then understood catalog (reads_all name).text [] else Err (fault.Moved (record { seen = version; now = catalog.version }))) ≡ Ok meant → understood catalog (reads_all name).text [] ≡ Ok meant
+      at : {meant : Meant} (b : Bool)
+          → (if b then understood catalog (reads_all name).text [] else Err (fault.Moved (record { seen = version; now = catalog.version }))) ≡ Ok meant
+          → understood catalog (reads_all name).text [] ≡ Ok meant
       at true h = h
       at false h = absurd cc
 
@@ -82,7 +85,8 @@ module _ (parse : TextsParse) (whole : ReadingIsWhole) (catalog : Catalog) (name
       → (def : TableDef) × (table_named catalog name ≡ Some def) × IsProperTable def × ((r : IsReadWhole catalog name def) × (r.meant ≡ ready.0))
   read_meant proper version ready e = by (table_named catalog name) refl
     where
-      by : (o : Option TableDef) → table_named catalog name ≡ o → (def : TableDef) × (table_named catalog name ≡ Some def) × IsProperTable def × ((r : IsReadWhole catalog name def) × (r.meant ≡ ready.0))
+      by : (o : Option TableDef) → table_named catalog name ≡ o
+          → (def : TableDef) × (table_named catalog name ≡ Some def) × IsProperTable def × ((r : IsReadWhole catalog name def) × (r.meant ≡ ready.0))
       by None t = absurd (not_there t ready.0 (prepared_meant version ready e))
       by (Some def) t =
           let own = found_all IsProperTable _ catalog.tables def proper t in
@@ -92,7 +96,8 @@ module _ (parse : TextsParse) (whole : ReadingIsWhole) (catalog : Catalog) (name
           (def, t, own, (r, f))
 
   -- in a transaction its columns are told so
-  pub read_told : HasProperTables catalog → (version : ℕ) (ready : Meant × List Atom) → prepared catalog version (reads_all name).text [] ≡ Ok ready → (c : Counted) (columns : List ResultColumn) (rows : List (List Atom))
+  pub read_told : HasProperTables catalog → (version : ℕ) (ready : Meant × List Atom)
+      → prepared catalog version (reads_all name).text [] ≡ Ok ready → (c : Counted) (columns : List ResultColumn) (rows : List (List Atom))
       → (counted_step c (execution ready.0.bound ready.0.encs ready.1)).answer ≡ Ok (Rows columns rows) → IsTold catalog name columns
   read_told proper version ready e c columns rows h =
       let m = read_meant proper version ready e in

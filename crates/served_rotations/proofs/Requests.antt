@@ -1,5 +1,35 @@
 -- What requests come to, call by call: the state, its catalogs, and what a session's transaction has done.
-use Rattle.std.proofs.Common.{◌≡◌, ◌≢◌, ℕ, zero, suc, ◌-◌, ◌≤◌, ◌<◌, List, [], ◌∷◌, ◌++◌, length, Option, Some, None, Result, Ok, Err, Bool, false, refl, sym, ap, subst, ◌∙◌, arith, append-nil, append_assoc}
+use Rattle.std.proofs.Common.{
+  ◌≡◌,
+  ◌≢◌,
+  ℕ,
+  zero,
+  suc,
+  ◌-◌,
+  ◌≤◌,
+  ◌<◌,
+  List,
+  [],
+  ◌∷◌,
+  ◌++◌,
+  length,
+  Option,
+  Some,
+  None,
+  Result,
+  Ok,
+  Err,
+  Bool,
+  false,
+  refl,
+  sym,
+  ap,
+  subst,
+  ◌∙◌,
+  arith,
+  append-nil,
+  append_assoc,
+}
 use Rattle.std.specs.Prelude.{slice_index_or, slice_set, replicate}
 use Rattle.std.specs.List.{All}
 use Rattle.std.proofs.lemmas.List.Elements.{All-head, All-tail}
@@ -146,7 +176,8 @@ module _ (number : ℕ) (session : IsSession number) where
   some = session.0
 
   -- those of the others leave the session's
-  asked_others : (s : State) (logs : List (List Deed)) (other : ℕ) (r : Result (Meant × List Atom) SqlFault) → other - 1 ≢ number - 1 → log_at (logs_behind s logs (asked other r)) number ≡ log_at logs number
+  asked_others : (s : State) (logs : List (List Deed)) (other : ℕ) (r : Result (Meant × List Atom) SqlFault)
+      → other - 1 ≢ number - 1 → log_at (logs_behind s logs (asked other r)) number ≡ log_at logs number
   asked_others s logs other (Ok ready) n = slot_other [] logs (other - 1) (number - 1) (record_of s (record { session = other; ask = ask_of ready }) logs).log n
   asked_others s logs other (Err f) n = refl
 
@@ -193,7 +224,8 @@ module _ (number : ℕ) (session : IsSession number) where
       let b = session.1 in
       omega (arith, l, m, a, b)
 
-  pub inside_others : (catalog : Catalog) (requests more : List Request) (t : Transaction) (log : List Deed) → All (IsOther number) more → Inside catalog requests t log → Inside catalog (requests ++ more) t log
+  pub inside_others : (catalog : Catalog) (requests more : List Request) (t : Transaction) (log : List Deed)
+      → All (IsOther number) more → Inside catalog requests t log → Inside catalog (requests ++ more) t log
   inside_others catalog requests more t log o h =
       let s = state_of requests in
       let e = behind_more empty_state requests more in
@@ -201,19 +233,23 @@ module _ (number : ℕ) (session : IsSession number) where
       record {
         slot = ap (λ (x : State). transaction_at x number) e ∙ k.slot ∙ h.slot;
         since = h.since;
-        later = subst (λ (x : State). IsLater catalog x.shared.world.catalog) (sym e) (later_then catalog s.shared.world.catalog (serve_all s more).1.shared.world.catalog h.later (later_more requests more));
+        later = subst (λ (x : State). IsLater catalog x.shared.world.catalog) (sym e)
+            (later_then catalog s.shared.world.catalog (serve_all s more).1.shared.world.catalog h.later (later_more requests more));
         logged = ap (λ ls. log_at ls number) (logs_more empty_state no_logs requests more) ∙ logs_others s (logs_of requests) more o ∙ h.logged;
       }
 
   -- behind a request that asks these calls
-  state_next : (requests : List Request) (request : Request) (calls : List Call) → called (state_of requests) request ≡ calls → state_of (requests ++ request ∷ []) ≡ all_after (state_of requests) calls
+  state_next : (requests : List Request) (request : Request) (calls : List Call) → called (state_of requests) request ≡ calls
+      → state_of (requests ++ request ∷ []) ≡ all_after (state_of requests) calls
   state_next requests request calls e = behind_more empty_state requests (request ∷ []) ∙ after_one (state_of requests) request ∙ ap (all_after (state_of requests)) e
 
-  logs_next : (requests : List Request) (request : Request) (calls : List Call) → called (state_of requests) request ≡ calls → logs_of (requests ++ request ∷ []) ≡ logs_behind (state_of requests) (logs_of requests) calls
+  logs_next : (requests : List Request) (request : Request) (calls : List Call) → called (state_of requests) request ≡ calls
+      → logs_of (requests ++ request ∷ []) ≡ logs_behind (state_of requests) (logs_of requests) calls
   logs_next requests request calls e =
       logs_more empty_state no_logs requests (request ∷ []) ∙ ap (logs_behind (state_of requests) (logs_of requests)) (append-nil (called (state_of requests) request) ∙ e)
 
-  later_next : (catalog : Catalog) (requests : List Request) (request : Request) → IsLater catalog (state_of requests).shared.world.catalog → IsLater catalog (state_of (requests ++ request ∷ [])).shared.world.catalog
+  later_next : (catalog : Catalog) (requests : List Request) (request : Request) → IsLater catalog (state_of requests).shared.world.catalog
+      → IsLater catalog (state_of (requests ++ request ∷ [])).shared.world.catalog
   later_next catalog requests request h =
       subst (λ (x : State). IsLater catalog x.shared.world.catalog) (sym (behind_more empty_state requests (request ∷ [])))
       (later_then catalog (state_of requests).shared.world.catalog (serve (state_of requests) request).after.shared.world.catalog h (later_more requests (request ∷ [])))
@@ -235,10 +271,12 @@ module _ (number : ℕ) (session : IsSession number) where
       → transact s number (Executes e) ≡ record { answer = (counted_step t.own e).answer; after = with_transaction s number (Some (stepped_in t e (counted_step t.own e))) }
   step_in s t e slot d = rw (slot, d) refl
 
-  recorded_in : (o : Option Transaction) (t : Transaction) (e : Execution) (a : Result Answer SqlFault) (log : List Deed) → o ≡ Some t → is_definition e.bound.statement ≡ false → (recorded o (Executes e) a log).log ≡ log ++ deed e a ∷ []
+  recorded_in : (o : Option Transaction) (t : Transaction) (e : Execution) (a : Result Answer SqlFault) (log : List Deed)
+      → o ≡ Some t → is_definition e.bound.statement ≡ false → (recorded o (Executes e) a log).log ≡ log ++ deed e a ∷ []
   recorded_in o t e a log slot d = rw (slot, d) refl
 
-  pub inside_executed : (catalog : Catalog) (requests : List Request) (request : Request) (t : Transaction) (log : List Deed) (e : Execution) → called (state_of requests) request ≡ own_call (Executes e) → is_definition e.bound.statement ≡ false
+  pub inside_executed : (catalog : Catalog) (requests : List Request) (request : Request) (t : Transaction) (log : List Deed) (e : Execution)
+      → called (state_of requests) request ≡ own_call (Executes e) → is_definition e.bound.statement ≡ false
       → Inside catalog requests t log → Inside catalog (requests ++ request ∷ []) (stepped_in t e (counted_step t.own e)) (log ++ deed e (counted_step t.own e).answer ∷ [])
   inside_executed catalog requests request t log e c d h =
       let s = state_of requests in

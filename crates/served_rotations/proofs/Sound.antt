@@ -116,7 +116,8 @@ suited_proper (e ∷ encs) (p ∷ sent) atoms h all =
     let k = rest.then in
     let f : first.value ∷ rest.value ≡ atoms = cc in
     subst (All IsProperAtom) f
-    (All-cons IsProperAtom first.value rest.value (subst IsProperAtom (sym (suited_one e p first.value first.is)) (All-head IsProperSent p sent all).atom) (suited_proper encs sent rest.value rest.is (All-tail IsProperSent p sent all)))
+    (All-cons IsProperAtom first.value rest.value (subst IsProperAtom (sym (suited_one e p first.value first.is)) (All-head IsProperSent p sent all).atom)
+    (suited_proper encs sent rest.value rest.is (All-tail IsProperSent p sent all)))
 
 -- ---- states
 
@@ -134,7 +135,8 @@ asked_proper (Some control.Commit) e h = tt
 asked_proper (Some control.Rollback) e h = tt
 
 module _ (sound : Sound) where
-  ready_proper : (s : State) (n version : ℕ) (text : List ℕ) (sent : List SentParam) (ready : Meant × List Atom) → IsProperStore s → All IsProperSent sent → prepared (catalog_of s n) version text sent ≡ Ok ready → IsProperAsk (ask_of ready)
+  ready_proper : (s : State) (n version : ℕ) (text : List ℕ) (sent : List SentParam) (ready : Meant × List Atom)
+      → IsProperStore s → All IsProperSent sent → prepared (catalog_of s n) version text sent ≡ Ok ready → IsProperAsk (ask_of ready)
   ready_proper s n version text sent ready h all e =
       let u = prepared_means (catalog_of s n) version text sent ready e in
       let c = came (understood_at (catalog_of s n) version text sent) (λ meant. suited meant.encs sent >>= λ atoms. Ok (meant, atoms)) ready e in
@@ -147,7 +149,8 @@ module _ (sound : Sound) where
       asked_proper (control_in ready.0.bound.statement) (execution ready.0.bound ready.0.encs ready.1) (record { bound = bound; params = atoms })
 
   -- what is answered
-  pub answers_proper : (s : State) (n version : ℕ) (text : List ℕ) (sent : List SentParam) (ready : Meant × List Atom) → IsProperStore s → All IsProperSent sent → prepared (catalog_of s n) version text sent ≡ Ok ready
+  pub answers_proper : (s : State) (n version : ℕ) (text : List ℕ) (sent : List SentParam) (ready : Meant × List Atom)
+      → IsProperStore s → All IsProperSent sent → prepared (catalog_of s n) version text sent ≡ Ok ready
       → IsProperAnswer (transact s n (ask_of ready)).answer
   answers_proper s n version text sent ready h all e = (sound.stays s n (ask_of ready) h (ready_proper s n version text sent ready h all e)).answer
 
@@ -239,7 +242,8 @@ module _ (one : ValueIsTheOne) where
   atom_proper (Some ks) t (atom.Sealed cell) v h e = content_proper t (content_of ks cell) v e
   atom_proper None t (atom.Sealed cell) v h e = absurd cc
 
-  atoms_proper : (row at : ℕ) (columns : List ColumnType) (os : List (Option Keys)) (atoms : List Atom) (values : List Value) → All IsProperAtom atoms → read_atoms row at columns os atoms ≡ Ok values → All IsProper values
+  atoms_proper : (row at : ℕ) (columns : List ColumnType) (os : List (Option Keys)) (atoms : List Atom) (values : List Value)
+      → All IsProperAtom atoms → read_atoms row at columns os atoms ≡ Ok values → All IsProper values
   atoms_proper row at [] os atoms values h e = let g : [] ≡ values = cc in subst (All IsProper) g (All-nil IsProper)
   atoms_proper row at (c ∷ columns) [] atoms values h e = let g : [] ≡ values = cc in subst (All IsProper) g (All-nil IsProper)
   atoms_proper row at (c ∷ columns) (o ∷ os) [] values h e = let g : [] ≡ values = cc in subst (All IsProper) g (All-nil IsProper)
@@ -252,12 +256,14 @@ module _ (one : ValueIsTheOne) where
       (All-cons IsProper first.value rest.value (atom_proper o c.ty a first.value (All-head IsProperAtom a atoms h) (placed row at (read_atom o c.ty a) first.value first.is))
       (atoms_proper row (at + 1) columns os atoms rest.value (All-tail IsProperAtom a atoms h) rest.is))
 
-  pub values_proper : (columns : List ColumnType) (os : List (Option Keys)) (n : ℕ) (rows : List (List Atom)) (values : List (List Value)) → AreProperRows rows → AreRead columns os n rows values → All (All IsProper) values
+  pub values_proper : (columns : List ColumnType) (os : List (Option Keys)) (n : ℕ) (rows : List (List Atom)) (values : List (List Value))
+      → AreProperRows rows → AreRead columns os n rows values → All (All IsProper) values
   values_proper columns os n [] [] h r = All-nil (All IsProper)
   values_proper columns os n [] (v ∷ values) h r = absurd r
   values_proper columns os n (row ∷ rows) [] h r = absurd r
   values_proper columns os n (row ∷ rows) (v ∷ values) h r =
-      All-cons (All IsProper) v values (atoms_proper (n + 1) 1 columns os row v (All-head (All IsProperAtom) row rows h) r.1) (values_proper columns os (n + 1) rows values (All-tail (All IsProperAtom) row rows h) r.2)
+      All-cons (All IsProper) v values (atoms_proper (n + 1) 1 columns os row v (All-head (All IsProperAtom) row rows h) r.1)
+      (values_proper columns os (n + 1) rows values (All-tail (All IsProperAtom) row rows h) r.2)
 
 -- the bytes of a proper datum are bytes
 pub norm_bytes : NormIsBounded → (d : Datum) (t : Ty) → IsProperDatum d → AreBytes (norm d t)

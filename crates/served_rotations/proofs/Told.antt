@@ -116,12 +116,15 @@ module _ (derived : OpenedAreDerived) (whole : OpenedAreWhole) (keys : KeyMap) (
       let there = All-contains (Contains (each_of m.values)) (each_of told.values) d.3.0 (kept_values (Contains (each_of m.values)) trusted m told (All-contains_itself (each_of m.values)) t) d.3.1 in
       d.2 ∙ ap keys_of (gives id m e d.3.0 d.0 there d.3.2)
   opens_so trusted id m told ks (inr e) t o =
-      let none : All (λ value. nothing ≡ value) (each_of m.values) = subst (λ (x : KeyMeta). All (λ value. nothing ≡ value) (each_of x.values)) (sym e) (All-cons (λ value. nothing ≡ value) nothing [] refl (All-nil (λ value. nothing ≡ value))) in
+      let none : All (λ value. nothing ≡ value) (each_of m.values) = subst (λ (x : KeyMeta). All (λ value. nothing ≡ value) (each_of x.values))
+      (sym e) (All-cons (λ value. nothing ≡ value) nothing [] refl (All-nil (λ value. nothing ≡ value))) in
       opens_not id told ks (kept_values (λ value. nothing ≡ value) trusted m told none t) o
 
-  opens_trusted : (trusted : List (List ℕ)) (id : ℕ) (m : KeyMeta) (ks : Keys) → IsToldOf c id m → (r : Result KeyMeta DriverFault) → trusted_meta trusted m ≡ r → (r >>= open_key keys) ≡ Ok ks → ks ≡ keys_of (key_for id)
+  opens_trusted : (trusted : List (List ℕ)) (id : ℕ) (m : KeyMeta) (ks : Keys) → IsToldOf c id m
+      → (r : Result KeyMeta DriverFault) → trusted_meta trusted m ≡ r → (r >>= open_key keys) ≡ Ok ks → ks ≡ keys_of (key_for id)
   opens_trusted trusted id m ks i (Ok told) t o = opens_so trusted id m told ks i t (seen_ok (store.open_key keys told) ks o)
   opens_trusted trusted id m ks i (Err f) t o = absurd cc
 
   pub open_told : (encs : List Enc) → OpenAs keys key_for (describing.keys_of c encs)
-  open_told encs trusted id ks o = opens_trusted trusted id (meta_of (describing.keys_of c encs) id) ks (told_of c id (keys_used [] encs)) (trusted_meta trusted (meta_of (describing.keys_of c encs) id)) refl o
+  open_told encs trusted id ks o = opens_trusted trusted id (meta_of (describing.keys_of c encs) id) ks
+      (told_of c id (keys_used [] encs)) (trusted_meta trusted (meta_of (describing.keys_of c encs) id)) refl o

@@ -1,5 +1,35 @@
 -- A rotation that is finished has moved the table whole.
-use Rattle.std.proofs.Common.{◌≡◌, ◌≢◌, ◌==◌, ℕ, suc, ◌+◌, List, [], ◌∷◌, ◌++◌, length, map, Option, Some, None, Ok, Bool, true, false, not, IsSome, refl, sym, ap, subst, ◌∙◌, arith, append-nil, append_assoc}
+use Rattle.std.proofs.Common.{
+  ◌≡◌,
+  ◌≢◌,
+  ◌==◌,
+  ℕ,
+  suc,
+  ◌+◌,
+  List,
+  [],
+  ◌∷◌,
+  ◌++◌,
+  length,
+  map,
+  Option,
+  Some,
+  None,
+  Ok,
+  Bool,
+  true,
+  false,
+  not,
+  IsSome,
+  refl,
+  sym,
+  ap,
+  subst,
+  ◌∙◌,
+  arith,
+  append-nil,
+  append_assoc,
+}
 use Rattle.std.specs.Prelude.{if◌then◌else◌}
 use Rattle.std.specs.List.{All, AllZip}
 use Rattle.std.proofs.lemmas.Bool.{and_parts}
@@ -66,7 +96,26 @@ use Rattle.served_rotations.specs.Moved.{AreMoved}
 use Rattle.served_rotations.specs.Laws.{FinishedIsWhole, behind}
 use Rattle.served_rotations.proofs.Batches.{AreKeysOf, AreRead, AreSent, OnAnswer, Walk, next, now}
 use Rattle.served_rotations.proofs.Deeds.{AreBoth, IsDone, both_alike, put_declares, put_says, read_says, swap_says}
-use Rattle.served_rotations.proofs.Moving.{Moves, Ready, Stands, Told, IsRefusal, Within, begin_goes, commit_goes, ending, fails, inside_now, moves_pass, now_at, refused, rolls, statement_goes, stops_moves, up_to}
+use Rattle.served_rotations.proofs.Moving.{
+  Moves,
+  Ready,
+  Stands,
+  Told,
+  IsRefusal,
+  Within,
+  begin_goes,
+  commit_goes,
+  ending,
+  fails,
+  inside_now,
+  moves_pass,
+  now_at,
+  refused,
+  rolls,
+  statement_goes,
+  stops_moves,
+  up_to,
+}
 use Rattle.served_rotations.proofs.Nothing.{tidy_all}
 use Rattle.served_rotations.proofs.Places.{AreRowsSealed, CellLaws, put_sealed, rows_moved, sealed_more, types_for, types_told}
 use Rattle.served_rotations.proofs.Reading.{IsTold}
@@ -88,7 +137,8 @@ no_rows columns os n (row ∷ rows) [] h e = absurd h
 no_rows columns os n (row ∷ rows) (v ∷ values) h e = let f : length (v ∷ values) ≡ 0 = (Decides-eqb (length (v ∷ values)) 0).0 e in absurd (omega (arith, f))
 
 module _ (keys : KeyMap) (trusted : List (List ℕ)) (metas : List KeyMeta) where
-  one_wide : (row at : ℕ) (columns : List ColumnType) (os : List (Option Keys)) (atoms : List Atom) (v : List Value) → AreKeysOf keys trusted metas columns os → is_row_of columns atoms ≡ true → read_atoms row at columns os atoms ≡ Ok v
+  one_wide : (row at : ℕ) (columns : List ColumnType) (os : List (Option Keys)) (atoms : List Atom) (v : List Value)
+      → AreKeysOf keys trusted metas columns os → is_row_of columns atoms ≡ true → read_atoms row at columns os atoms ≡ Ok v
       → length v ≡ length columns
   one_wide row at [] os atoms v k fit e = let f : [] ≡ v = cc in ap length (sym f)
   one_wide row at (c ∷ columns) [] atoms v k fit e = absurd k
@@ -101,7 +151,8 @@ module _ (keys : KeyMap) (trusted : List (List ℕ)) (metas : List KeyMeta) wher
       let p = and_parts (is_atom_of c a) (is_row_of columns atoms) fit in
       ap length (sym f) ∙ ap suc (one_wide row (at + 1) columns os atoms rest.value k.1 p.1 rest.is)
 
-  rows_wide : (columns : List ColumnType) (os : List (Option Keys)) (n : ℕ) (rows : List (List Atom)) (values : List (List Value)) → AreKeysOf keys trusted metas columns os → AreRead columns os n rows values
+  rows_wide : (columns : List ColumnType) (os : List (Option Keys)) (n : ℕ) (rows : List (List Atom)) (values : List (List Value))
+      → AreKeysOf keys trusted metas columns os → AreRead columns os n rows values
       → All (λ (v : List Value). length v ≡ length columns) values
   rows_wide columns os n [] [] k h = All-nil _
   rows_wide columns os n [] (v ∷ values) k h = absurd h
@@ -115,7 +166,8 @@ module _ (keys : KeyMap) (trusted : List (List ℕ)) (metas : List KeyMeta) wher
 
 -- ---- the rows that are put
 
-puts_more : (catalog : Catalog) (table : List ℕ) (columns : List SentColumn) (done : List (List Value)) (deeds : List Deed) (row : List Value) (d : Deed) → AreRowsPut catalog table columns done deeds → IsRowPut catalog table columns row d
+puts_more : (catalog : Catalog) (table : List ℕ) (columns : List SentColumn) (done : List (List Value)) (deeds : List Deed) (row : List Value) (d : Deed)
+    → AreRowsPut catalog table columns done deeds → IsRowPut catalog table columns row d
     → AreRowsPut catalog table columns (done ++ row ∷ []) (deeds ++ d ∷ [])
 puts_more catalog table columns [] [] row d h k = (k, tt)
 puts_more catalog table columns [] (x ∷ deeds) row d h k = absurd h
@@ -124,7 +176,8 @@ puts_more catalog table columns (r ∷ done) (x ∷ deeds) row d h k = (h.0, put
 
 -- ---- the COMMIT
 
-there_wide : (catalog : Catalog) (name : List ℕ) (def : TableDef) (columns : List SentColumn) → table_named catalog name ≡ Some def → AreColumnsOf columns def → length (columns_among catalog.tables name) ≡ length columns
+there_wide : (catalog : Catalog) (name : List ℕ) (def : TableDef) (columns : List SentColumn)
+    → table_named catalog name ≡ Some def → AreColumnsOf columns def → length (columns_among catalog.tables name) ≡ length columns
 there_wide catalog name def columns e of =
     ap (λ o. length (tables.columns_in o)) e ∙ sym (length-map def.columns (λ (column : ColumnDef). column.name)) ∙ ap length (sym of.titles) ∙ length-map columns (λ (c : SentColumn). c.title)
 
@@ -155,9 +208,11 @@ module _ (rotations : RotationsAreWhole) (may : RequestsMayBeAsked) (mean : Rota
   at requests width read =
       subst (Tail requests width read) (sym (after_all empty_state requests))
       (λ r two olds news begun accepted.
-      rotations any_cell empty_state (calls_of empty_state requests) number old new width read may.0 (record { counts = refl; none = refl }) (all_allowed may empty_state requests may.0) two olds news r begun accepted)
+      rotations any_cell empty_state (calls_of empty_state requests) number old new width read may.0
+      (record { counts = refl; none = refl }) (all_allowed may empty_state requests may.0) two olds news r begun accepted)
 
-  module _ (catalog : Catalog) (requests : List Request) (t : Transaction) (log : List Deed) (h : Inside number is_session catalog requests t log) (accepted : (transact (state_of requests) number Commits).answer ≡ Ok Defined) where
+  module _ (catalog : Catalog) (requests : List Request) (t : Transaction) (log : List Deed)
+      (h : Inside number is_session catalog requests t log) (accepted : (transact (state_of requests) number Commits).answer ≡ Ok Defined) where
     -- the catalog is still that of BEGIN
     same_there : (state_of requests).shared.world.catalog ≡ catalog
     same_there = h.later.same (unmoved (state_of requests).shared t (free_of (state_of requests) number t Defined h.slot accepted) ∙ h.since)
@@ -188,15 +243,18 @@ module _ (rotations : RotationsAreWhole) (may : RequestsMayBeAsked) (mean : Rota
 
 shown_typed : (cs : List ColumnDef) → All IsProperColumn cs → All (λ (c : SentColumn). IsType c.ty) (map sent_column (map shown_column cs))
 shown_typed [] h = All-nil _
-shown_typed (c ∷ cs) h = All-cons (λ (c : SentColumn). IsType c.ty) (sent_column (shown_column c)) (map sent_column (map shown_column cs)) (All-head IsProperColumn c cs h).typed (shown_typed cs (All-tail IsProperColumn c cs h))
+shown_typed (c ∷ cs) h = All-cons (λ (c : SentColumn). IsType c.ty) (sent_column (shown_column c))
+    (map sent_column (map shown_column cs)) (All-head IsProperColumn c cs h).typed (shown_typed cs (All-tail IsProperColumn c cs h))
 
 both_typed : (catalog : Catalog) (old new : List ℕ) (columns : List SentColumn) (both : AreBoth catalog old new columns) → All (λ (c : SentColumn). IsType c.ty) columns
 both_typed catalog old new columns both = subst (All (λ (c : SentColumn). IsType c.ty)) (sym both.shown) (shown_typed both.from.columns both.old_proper.columns)
 
 -- ---- the rotation
 
-module _ (stay : ProperTablesStay) (parse : TextsParse) (controls : BeginsCommitsAndRollsBack) (reads : ReadingIsWhole) (putting : PuttingIsAnInsert) (replaced : ReplacingIsReplacement) (mean : RotationTextsMean)
-    (may : RequestsMayBeAsked) (rotations : RotationsAreWhole) (sound : Sound) (cells : CellLaws) (one : ValueIsTheOne) (keys : KeyMap) (key_for : ℕ → List ℕ) (trusted : List (List ℕ)) (number : ℕ) (is_session : IsSession number) (history : List Request) (old new : List ℕ)
+module _ (stay : ProperTablesStay) (parse : TextsParse) (controls : BeginsCommitsAndRollsBack) (reads : ReadingIsWhole)
+    (putting : PuttingIsAnInsert) (replaced : ReplacingIsReplacement) (mean : RotationTextsMean)
+    (may : RequestsMayBeAsked) (rotations : RotationsAreWhole) (sound : Sound) (cells : CellLaws) (one : ValueIsTheOne)
+    (keys : KeyMap) (key_for : ℕ → List ℕ) (trusted : List (List ℕ)) (number : ℕ) (is_session : IsSession number) (history : List Request) (old new : List ℕ)
     (old_named : IsIdentifier old) (new_named : IsIdentifier new) where
   abbrev GoesOn : Walk → Talk → Type 0
   GoesOn w t = Ready history old new keys key_for trusted number w t
@@ -207,11 +265,15 @@ module _ (stay : ProperTablesStay) (parse : TextsParse) (controls : BeginsCommit
   abbrev end : Outcome → Session → Talk
   end comes after = ending history old new keys key_for trusted number comes after
 
-  or_rolls : (G : Told → Session → Talk) (comes : Outcome) (columns : Accepted) (w : Walk) → IsRefusal (told_of comes) → GoesOn w (unless_refused (rolling_back trusted number old new end) G (told_of comes) session.Idle)
-  or_rolls G comes columns w r = refused history old new keys key_for trusted number w (rolling_back trusted number old new end) G (told_of comes) r (λ f. rolls history old new keys key_for trusted number w f)
+  or_rolls : (G : Told → Session → Talk) (comes : Outcome) (columns : Accepted) (w : Walk) → IsRefusal (told_of comes)
+      → GoesOn w (unless_refused (rolling_back trusted number old new end) G (told_of comes) session.Idle)
+  or_rolls G comes columns w r = refused history old new keys key_for trusted number w (rolling_back trusted number old new end)
+      G (told_of comes) r (λ f. rolls history old new keys key_for trusted number w f)
 
-  or_fails : (G : Told → Session → Talk) (comes : Outcome) (columns : Accepted) (w : Walk) → IsRefusal (told_of comes) → GoesOn w (unless_refused (fails_with trusted number old new end) G (told_of comes) session.Idle)
-  or_fails G comes columns w r = refused history old new keys key_for trusted number w (fails_with trusted number old new end) G (told_of comes) r (λ f. fails history old new keys key_for trusted number w f)
+  or_fails : (G : Told → Session → Talk) (comes : Outcome) (columns : Accepted) (w : Walk) → IsRefusal (told_of comes)
+      → GoesOn w (unless_refused (fails_with trusted number old new end) G (told_of comes) session.Idle)
+  or_fails G comes columns w r = refused history old new keys key_for trusted number w (fails_with trusted number old new end)
+      G (told_of comes) r (λ f. fails history old new keys key_for trusted number w f)
 
   -- a batch without parameters sends none
   nothing_sent : (metas : List KeyMeta) (encs : List (Option Enc)) (sent : List SentParam) → AreSent keys trusted metas [] sent → All IsProperSent sent
@@ -231,7 +293,8 @@ module _ (stay : ProperTablesStay) (parse : TextsParse) (controls : BeginsCommit
         (subst (λ cs. AllZip (AreMoved key_for cs (columns_among catalog.tables new)) read put) olds
         (subst (λ cs. AllZip (AreMoved key_for both.from.columns cs) read put) news (moved (subst (Fits keys key_for) same fits))))
 
-    finishes : (w : Walk) (request : Request) (t : Transaction) (log : List Deed) (columns : List SentColumn) (rows : List (List Value)) (read : List (List Atom)) (all : ℕ) → In w catalog t log → (both : HasBoth catalog old new columns)
+    finishes : (w : Walk) (request : Request) (t : Transaction) (log : List Deed) (columns : List SentColumn)
+        (rows : List (List Value)) (read : List (List Atom)) (all : ℕ) → In w catalog t log → (both : HasBoth catalog old new columns)
         → (deeds : AreDeedsOf catalog old new columns rows read log) → AreRowsMoved both read (sent_by deeds.moved) → length read ≡ all → (transact (now w) number Commits).answer ≡ Ok Defined
         → (serve (now w) request).after ≡ (transact (now w) number Commits).after → GoesOn (next w request) (end (outcome.Rotated all) session.Idle)
     finishes w request t log columns rows read all h both deeds moved count accepted after taken entropy bytes n e =
@@ -260,20 +323,27 @@ module _ (stay : ProperTablesStay) (parse : TextsParse) (controls : BeginsCommit
           moved = moved_there (state_of (history ++ before)).shared.world.catalog columns both read put (ap (λ asked. (state_of asked).shared.world.catalog) (sym all_before) ∙ unchanged) moved;
         }
 
-    commits_so : (w : Walk) (t : Transaction) (log : List Deed) (columns : List SentColumn) (rows : List (List Value)) (read : List (List Atom)) (all : ℕ) → In w catalog t log → (both : HasBoth catalog old new columns)
-        → (deeds : AreDeedsOf catalog old new columns rows read log) → AreRowsMoved both read (sent_by deeds.moved) → length read ≡ all → GoesOn w (committing trusted number old new end all session.Idle)
+    commits_so : (w : Walk) (t : Transaction) (log : List Deed) (columns : List SentColumn) (rows : List (List Value)) (read : List (List Atom)) (all : ℕ)
+        → In w catalog t log → (both : HasBoth catalog old new columns)
+        → (deeds : AreDeedsOf catalog old new columns rows read log) → AreRowsMoved both read (sent_by deeds.moved)
+        → length read ≡ all → GoesOn w (committing trusted number old new end all session.Idle)
     commits_so w t log columns rows read all h both deeds moved count =
-        commit_goes history old new keys key_for trusted number is_session sound commits (λ comes columns. unless_refused (fails_with trusted number old new end) (λ told after. end (outcome.Rotated all) after) (told_of comes))
+        commit_goes history old new keys key_for trusted number is_session sound commits
+        (λ comes columns. unless_refused (fails_with trusted number old new end) (λ told after. end (outcome.Rotated all) after) (told_of comes))
         nothing_sent _ controls.committed refl catalog w t log h (or_fails (λ told after. end (outcome.Rotated all) after))
         (λ w request h accepted after. finishes w request t log columns rows read all h both deeds moved count accepted after)
 
-    module _ (columns : List SentColumn) (both : AreBoth catalog old new columns) (empty whole : Deed) (nothing : IsRead catalog new [] empty) (read : List (List Atom)) (was : IsRead catalog old read whole)
+    module _ (columns : List SentColumn) (both : AreBoth catalog old new columns) (empty whole : Deed)
+        (nothing : IsRead catalog new [] empty) (read : List (List Atom)) (was : IsRead catalog old read whole)
         (all : ℕ) (count : length read ≡ all) (values : List (List Value))
-        (moves : (deeds : List Deed) → AreRowsSealed keys trusted catalog both.into.columns values deeds → Fits keys key_for catalog → AllZip (AreMoved key_for both.from.columns both.into.columns) read (sent_by deeds)) where
-      replaces_so : (rows : List (List Value)) (moved : List Deed) → AreRowsPut catalog new columns rows moved → AreRowsSealed keys trusted catalog both.into.columns values moved → (w : Walk) (t : Transaction) → In w catalog t (empty ∷ whole ∷ moved)
+        (moves : (deeds : List Deed) → AreRowsSealed keys trusted catalog both.into.columns values deeds
+        → Fits keys key_for catalog → AllZip (AreMoved key_for both.from.columns both.into.columns) read (sent_by deeds)) where
+      replaces_so : (rows : List (List Value)) (moved : List Deed) → AreRowsPut catalog new columns rows moved
+          → AreRowsSealed keys trusted catalog both.into.columns values moved → (w : Walk) (t : Transaction) → In w catalog t (empty ∷ whole ∷ moved)
           → t.own.world.catalog ≡ catalog → GoesOn w (replacing trusted number old new end all session.Idle)
       replaces_so rows moved put sealed_rows w t h own =
-          statement_goes history old new keys key_for trusted number is_session sound (replaces old new) (λ comes columns. unless_refused (rolling_back trusted number old new end) (λ told after. committing trusted number old new end all after) (told_of comes))
+          statement_goes history old new keys key_for trusted number is_session sound (replaces old new)
+          (λ comes columns. unless_refused (rolling_back trusted number old new end) (λ told after. committing trusted number old new end all after) (told_of comes))
           nothing_sent _ (parse.replaced old new old_named new_named) refl catalog w t (empty ∷ whole ∷ moved) h own (or_rolls (λ told after. committing trusted number old new end all after))
           (λ d encs sent ready e a w described encoded sealed done proper_answer answers h.
           let done : IsDone catalog (replaces old new) [] ready e = subst (λ sent. IsDone catalog (replaces old new) sent ready e) (none_sent keys trusted d.keys sent sealed) done in
@@ -298,13 +368,15 @@ module _ (stay : ProperTablesStay) (parse : TextsParse) (controls : BeginsCommit
           })
           (record { empty = empty; whole = whole; moved = moved; swap = deed e (Ok a); is = refl; nothing = nothing; all = was; put = put; replaced = s.swap }) (moves moved sealed_rows) count))
 
-      puts_so : (done rest : List (List Value)) (moved : List Deed) → AreRowsPut catalog new columns done moved → AreRowsSealed keys trusted catalog both.into.columns done moved → done ++ rest ≡ values
+      puts_so : (done rest : List (List Value)) (moved : List Deed) → AreRowsPut catalog new columns done moved
+          → AreRowsSealed keys trusted catalog both.into.columns done moved → done ++ rest ≡ values
           → All (λ (row : List Value). length row ≡ length columns) rest → All (All IsProper) rest → (w : Walk) (t : Transaction)
           → In w catalog t (empty ∷ whole ∷ moved) → t.own.world.catalog ≡ catalog → GoesOn w (putting_each trusted number old new end columns all rest session.Idle)
       puts_so done [] moved put sealed_rows is wide proper w t h own =
           replaces_so done moved put (subst (λ rows. AreRowsSealed keys trusted catalog both.into.columns rows moved) (sym (append-nil done) ∙ is) sealed_rows) w t h own
       puts_so done (row ∷ rest) moved put sealed_rows is wide proper w t h own =
-          let p = putting catalog new both.into columns row new_named both.columns_named both.new_there both.new_columns both.new_proper.apart both.some both.few (All-head (λ (row : List Value). length row ≡ length columns) row rest wide) in
+          let p = putting catalog new both.into columns row new_named both.columns_named both.new_there
+          both.new_columns both.new_proper.apart both.some both.few (All-head (λ (row : List Value). length row ≡ length columns) row rest wide) in
           statement_goes history old new keys key_for trusted number is_session sound (puts new columns row)
           (λ comes others. unless_refused (rolling_back trusted number old new end) (λ told after. putting_each trusted number old new end columns all rest after) (told_of comes))
           (λ metas encs sent sealed. row_proper keys trusted metas 1 columns row encs sent (both_typed catalog old new columns both) (All-head (All IsProper) row rest proper) sealed)
@@ -315,18 +387,23 @@ module _ (stay : ProperTablesStay) (parse : TextsParse) (controls : BeginsCommit
           let s = put_says keys trusted d.keys catalog new both.into columns row long p sent ready e declares done_so t.own a answers in
           let as_sealed = put_sealed keys trusted catalog new both.into columns row long p both.new_columns d encs sent ready e (Ok a) described encoded sealed declares done_so in
           subst (λ a. OnAnswer keys (Moves history old new keys key_for) (moves_pass history old new keys key_for) trusted number
-          (λ comes others. unless_refused (rolling_back trusted number old new end) (λ told after. putting_each trusted number old new end columns all rest after) (told_of comes)) w catalog (Ok a)) (sym s.is)
+          (λ comes others. unless_refused (rolling_back trusted number old new end)
+          (λ told after. putting_each trusted number old new end columns all rest after) (told_of comes)) w catalog (Ok a)) (sym s.is)
           (puts_so (done ++ row ∷ []) rest (moved ++ deed e (Ok a) ∷ []) (puts_more catalog new columns done moved row (deed e (Ok a)) put s.put)
           (sealed_more keys trusted catalog both.into.columns done moved row (deed e (Ok a)) sealed_rows as_sealed) (append_assoc done (row ∷ []) rest ∙ is)
           (All-tail (λ (row : List Value). length row ≡ length columns) row rest wide) (All-tail (All IsProper) row rest proper)
           w (stepped_in t e (counted_step t.own e)) h (work_catalog t.own e s.works ∙ own)))
 
-    compares : (olds news : List ResultColumn) → IsTold catalog old olds → IsTold catalog new news → (nothing : Bool) (none : List (List Atom)) (empty : Deed) → IsRead catalog new none empty → (nothing ≡ true → none ≡ [])
-        → (read : List (List Atom)) (whole : Deed) → IsRead catalog old read whole → (values : List (List Value)) → length read ≡ length values → All (λ (row : List Value). length row ≡ length (map sent_column olds)) values
-        → (os : List (Option Keys)) → AreKeysOf keys trusted (header catalog olds).keys (types_of (header catalog olds)) os → AreRead (types_of (header catalog olds)) os 0 read values → All (All IsProper) values
+    compares : (olds news : List ResultColumn) → IsTold catalog old olds → IsTold catalog new news
+        → (nothing : Bool) (none : List (List Atom)) (empty : Deed) → IsRead catalog new none empty → (nothing ≡ true → none ≡ [])
+        → (read : List (List Atom)) (whole : Deed) → IsRead catalog old read whole → (values : List (List Value))
+        → length read ≡ length values → All (λ (row : List Value). length row ≡ length (map sent_column olds)) values
+        → (os : List (Option Keys)) → AreKeysOf keys trusted (header catalog olds).keys (types_of (header catalog olds)) os
+        → AreRead (types_of (header catalog olds)) os 0 read values → All (All IsProper) values
         → (w : Walk) (t : Transaction) → In w catalog t (empty ∷ whole ∷ []) → t.own.world.catalog ≡ catalog
         → GoesOn w (comparing trusted number old new end (Some (map sent_column news)) nothing (Some (map sent_column olds)) values session.Idle)
-    compares olds news o n nothing none empty was_empty nothing_there read whole was values count wide os opened all_read proper w t h own = by (are_alike (Some (map sent_column olds)) (Some (map sent_column news))) nothing refl refl
+    compares olds news o n nothing none empty was_empty nothing_there read whole was values count wide os opened
+        all_read proper w t h own = by (are_alike (Some (map sent_column olds)) (Some (map sent_column news))) nothing refl refl
       where
         by : (same b : Bool) → are_alike (Some (map sent_column olds)) (Some (map sent_column news)) ≡ same → nothing ≡ b
             → GoesOn w (if not same then rolling_back trusted number old new end (OfDriver (NotAlike new)) session.Idle else
@@ -346,16 +423,19 @@ module _ (stay : ProperTablesStay) (parse : TextsParse) (controls : BeginsCommit
             [] values [] tt tt refl wide proper w t h own
 
     -- a table is read, and what comes after goes on
-    module _ (proper : HasProperTables catalog) (name : List ℕ) (named : IsIdentifier name) (G : Accepted → Told → Session → Talk) (w : Walk) (t : Transaction) (log : List Deed) (h : In w catalog t log) (own : t.own.world.catalog ≡ catalog)
+    module _ (proper : HasProperTables catalog) (name : List ℕ) (named : IsIdentifier name)
+        (G : Accepted → Told → Session → Talk) (w : Walk) (t : Transaction) (log : List Deed) (h : In w catalog t log) (own : t.own.world.catalog ≡ catalog)
         (on : (columns : List ResultColumn) (rows : List (List Atom)) (d : Deed) → IsTold catalog name columns → IsRead catalog name rows d
-        → (os : List (Option Keys)) (values : List (List Value)) → let shows = header catalog columns in AreKeysOf keys trusted shows.keys (types_of shows) os → AreRead (types_of shows) os 0 rows values → AreProperRows rows
+        → (os : List (Option Keys)) (values : List (List Value))
+        → let shows = header catalog columns in AreKeysOf keys trusted shows.keys (types_of shows) os → AreRead (types_of shows) os 0 rows values → AreProperRows rows
         → (w : Walk) (t : Transaction) → In w catalog t (log ++ d ∷ []) → t.own.world.catalog ≡ catalog → GoesOn w (G (Some (map sent_column columns)) (told.Rows values) session.Idle)) where
       abbrev onward : Outcome → Accepted → Session → Talk
       onward comes columns = unless_refused (rolling_back trusted number old new end) (G columns) (told_of comes)
 
       reads_so : GoesOn w (running false trusted number (reads_all name) session.Idle onward)
       reads_so =
-          statement_goes history old new keys key_for trusted number is_session sound (reads_all name) onward nothing_sent _ (parse.reads name named).1 refl catalog w t log h own (λ comes columns. or_rolls (G columns) comes columns)
+          statement_goes history old new keys key_for trusted number is_session sound (reads_all name) onward
+          nothing_sent _ (parse.reads name named).1 refl catalog w t log h own (λ comes columns. or_rolls (G columns) comes columns)
           (λ d encs sent ready e a w described encoded sealed done proper_answer answers h.
           let done : IsDone catalog (reads_all name) [] ready e = subst (λ sent. IsDone catalog (reads_all name) sent ready e) (none_sent keys trusted d.keys sent sealed) done in
           let s = read_says parse reads catalog name named proper ready e done t.own a answers in
@@ -363,7 +443,8 @@ module _ (stay : ProperTablesStay) (parse : TextsParse) (controls : BeginsCommit
           subst (λ a. OnAnswer keys (Moves history old new keys key_for) (moves_pass history old new keys key_for) trusted number onward w catalog (Ok a)) (sym s.is)
           (record {
             stops = stops_moves history old new keys key_for w;
-            read = λ os values opened all. on s.columns s.rows (deed e (Ok a)) s.told s.read os values opened all shown.values w (stepped_in t e (counted_step t.own e)) h (work_catalog t.own e s.works ∙ own);
+            read = λ os values opened all. on s.columns s.rows (deed e (Ok a)) s.told s.read os values opened
+                all shown.values w (stepped_in t e (counted_step t.own e)) h (work_catalog t.own e s.works ∙ own);
             broken = λ shown f. or_rolls (G (Some (map sent_column s.columns))) (outcome.Broken shown (Some f)) (Some (map sent_column s.columns)) w tt;
             failed = λ f. or_rolls (G (Some (map sent_column s.columns))) (outcome.Failed f) (Some (map sent_column s.columns)) w tt;
           }))
@@ -377,7 +458,8 @@ module _ (stay : ProperTablesStay) (parse : TextsParse) (controls : BeginsCommit
         (λ news none empty n was_empty os values opened all proper_rows w t h own.
         reads_so proper old old_named (λ olds told after. comparing trusted number old new end (Some (map sent_column news)) (is_empty values) olds (rows_told told) after) w t (empty ∷ []) h own
         (λ olds read whole o was os_old rows opened_old all_old proper_old w t h own.
-        compares olds news o n (is_empty values) none empty was_empty (no_rows (types_of (header catalog news)) os 0 none values all) read whole was rows (sym (read_long (types_of (header catalog olds)) os_old 0 read rows all_old))
+        compares olds news o n (is_empty values) none empty was_empty (no_rows (types_of (header catalog news)) os 0 none values all)
+        read whole was rows (sym (read_long (types_of (header catalog olds)) os_old 0 read rows all_old))
         (subst (λ long. All (λ (row : List Value). length row ≡ long) rows) (types_long olds)
         (rows_wide keys trusted (header catalog olds).keys (types_of (header catalog olds)) os_old 0 read rows opened_old all_old))
         os_old opened_old all_old (values_proper one (types_of (header catalog olds)) os_old 0 read rows proper_old all_old)
@@ -385,15 +467,18 @@ module _ (stay : ProperTablesStay) (parse : TextsParse) (controls : BeginsCommit
 
   pub rotation_moves : (w : Walk) → Stands history old new keys key_for trusted number is_session sound w → GoesOn w (rotation trusted number old new)
   rotation_moves w s =
-      begin_goes history old new keys key_for trusted number is_session sound begins (λ comes columns. unless_refused (fails_with trusted number old new end) (λ told after. reading_new trusted number old new end after) (told_of comes))
+      begin_goes history old new keys key_for trusted number is_session sound begins
+      (λ comes columns. unless_refused (fails_with trusted number old new end) (λ told after. reading_new trusted number old new end after) (told_of comes))
       nothing_sent _ controls.begun refl w s (or_fails (λ told after. reading_new trusted number old new end after))
       (λ requests w h.
       let shared = (state_of requests).shared in
       reads_new shared.world.catalog (tidy_all stay keys trusted number is_session.0 empty_state requests (All-nil IsProperTable, nothing_seen)).0 w (begun_over shared) h refl)
 
-pub whole : ProperTablesStay → TextsParse → BeginsCommitsAndRollsBack → ReadingIsWhole → PuttingIsAnInsert → ReplacingIsReplacement → RotationTextsMean → RequestsMayBeAsked → RotationsAreWhole → Sound → CellLaws → ValueIsTheOne
+pub whole : ProperTablesStay → TextsParse → BeginsCommitsAndRollsBack → ReadingIsWhole → PuttingIsAnInsert
+    → ReplacingIsReplacement → RotationTextsMean → RequestsMayBeAsked → RotationsAreWhole → Sound → CellLaws → ValueIsTheOne
     → FinishedIsWhole
-whole stay parse controls reads putting replaced mean may rotations sound cells one keys key_for trusted number old new entropy history between session old_named new_named bytes before others fit n finished =
+whole stay parse controls reads putting replaced mean may rotations sound cells one keys key_for trusted number
+    old new entropy history between session old_named new_named bytes before others fit n finished =
     let w : Walk = record { beside = record { state = behind empty_state history; between = between }; alone = behind empty_state history; so_far = [] } in
     let p = rotated_beside keys trusted number old new entropy w.beside in
     let first = append-nil history in

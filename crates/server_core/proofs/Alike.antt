@@ -114,14 +114,16 @@ module _ (R : Pairing) where
   answers_correspond catalog classes (Err f) (Ok y) h = absurd h
 
   -- and so do the replies that are served for them
-  pub answers_told : (catalog : Catalog) (new now : State) (classes : List Class) (x y : Result Answer SqlFault) → BothAnswer (AnswersCorrespond R) x y → RepliesCorrespond R classes (answered catalog x new).replies (answered catalog y now).replies
+  pub answers_told : (catalog : Catalog) (new now : State) (classes : List Class) (x y : Result Answer SqlFault)
+      → BothAnswer (AnswersCorrespond R) x y → RepliesCorrespond R classes (answered catalog x new).replies (answered catalog y now).replies
   answers_told catalog new now classes (Ok x) (Ok y) h = answers_correspond catalog classes (Ok x) (Ok y) h
   answers_told catalog new now classes (Err f) (Err g) h = rw h (refl, tt)
   answers_told catalog new now classes (Ok x) (Err g) h = absurd h
   answers_told catalog new now classes (Err f) (Ok y) h = absurd h
 
   -- one list of replies after another, whatever columns were told
-  replies_append : (classes : List Class) (xs us ys vs : List Reply) → RepliesCorrespond R classes xs ys → ((others : List Class) → RepliesCorrespond R others us vs) → RepliesCorrespond R classes (xs ++ us) (ys ++ vs)
+  replies_append : (classes : List Class) (xs us ys vs : List Reply) → RepliesCorrespond R classes xs ys
+      → ((others : List Class) → RepliesCorrespond R others us vs) → RepliesCorrespond R classes (xs ++ us) (ys ++ vs)
   replies_append classes [] us [] vs h k = k classes
   replies_append classes [] us (y ∷ ys) vs h k = absurd h
   replies_append classes (x ∷ xs) us [] vs h k = absurd h
@@ -200,7 +202,8 @@ module _ (R : Pairing) (cells : PairsCells R) where
   tested e p b h true false shaped s o = refl
   tested e p b h false of shaped s o = refl
 
-  suited_like : (e : Enc) (p : SentParam) (b : Atom) → SentAtomsCorrespond R (class_of p.ty p.enc) p.atom b → BothAnswer (Correspond R (class_of p.ty e)) (suited_atom e p) (suited_atom e (with_atom p b))
+  suited_like : (e : Enc) (p : SentParam) (b : Atom) → SentAtomsCorrespond R (class_of p.ty p.enc) p.atom b
+      → BothAnswer (Correspond R (class_of p.ty e)) (suited_atom e p) (suited_atom e (with_atom p b))
   suited_like e p b h =
       let like = sent_like (class_of p.ty p.enc) p.atom b h in
       let o = like_of e p.ty p.atom b like in
@@ -210,7 +213,8 @@ module _ (R : Pairing) (cells : PairsCells R) where
   suited_one : (e : Enc) (p q : SentParam) → ParamsCorrespond R p q → BothAnswer (Correspond R (class_of p.ty e)) (suited_atom e p) (suited_atom e q)
   suited_one e p q h = subst (λ x. BothAnswer (Correspond R (class_of p.ty e)) (suited_atom e p) (suited_atom e x)) (sym h.0) (suited_like e p q.atom h.1)
 
-  suited_alike : (es : List Enc) (ps qs : List SentParam) → length es ≡ length ps → AllZip (ParamsCorrespond R) ps qs → BothAnswer (RowsCorrespond R (param_classes (tys_of ps) es)) (suited es ps) (suited es qs)
+  suited_alike : (es : List Enc) (ps qs : List SentParam) → length es ≡ length ps → AllZip (ParamsCorrespond R) ps qs
+      → BothAnswer (RowsCorrespond R (param_classes (tys_of ps) es)) (suited es ps) (suited es qs)
   suited_alike es [] [] n h = tt
   suited_alike es [] (q ∷ qs) n h = absurd h
   suited_alike es (p ∷ ps) [] n h = absurd h
@@ -219,9 +223,11 @@ module _ (R : Pairing) (cells : PairsCells R) where
       let m : length es ≡ length ps = omega (arith, n) in
       let C = class_of p.ty e in
       let Cs = param_classes (tys_of ps) es in
-      both_then (Correspond R C) (RowsCorrespond R (C ∷ Cs)) (suited_atom e p) (suited_atom e q) (λ atom. suited es ps >>= λ atoms. Ok (atom ∷ atoms)) (λ atom. suited es qs >>= λ atoms. Ok (atom ∷ atoms))
+      both_then (Correspond R C) (RowsCorrespond R (C ∷ Cs)) (suited_atom e p) (suited_atom e q)
+      (λ atom. suited es ps >>= λ atoms. Ok (atom ∷ atoms)) (λ atom. suited es qs >>= λ atoms. Ok (atom ∷ atoms))
       (suited_one e p q h.0)
-      (λ a b k. both_then (RowsCorrespond R Cs) (RowsCorrespond R (C ∷ Cs)) (suited es ps) (suited es qs) (λ atoms. Ok (a ∷ atoms)) (λ atoms. Ok (b ∷ atoms)) (suited_alike es ps qs m h.1) (λ xs ys l. (k, l)))
+      (λ a b k. both_then (RowsCorrespond R Cs) (RowsCorrespond R (C ∷ Cs)) (suited es ps) (suited es qs)
+      (λ atoms. Ok (a ∷ atoms)) (λ atoms. Ok (b ∷ atoms)) (suited_alike es ps qs m h.1) (λ xs ys l. (k, l)))
 
   declared_alike : (ps qs : List SentParam) → AllZip (ParamsCorrespond R) ps qs → map declaration_of qs ≡ map declaration_of ps
   declared_alike [] [] h = refl
@@ -279,14 +285,16 @@ module _ (R : Pairing) (r : IsOneToOne R) (cells : PairsCells R) (within : ArePa
   described_alike w v (Ok description) st = record { replies = λ classes. (refl, tt); states = st }
   described_alike w v (Err f) st = refused_alike w v f st
 
-  answered_alike : (catalog : Catalog) (new now : State) (x y : Result Answer SqlFault) → StatesCorrespond R new now → BothAnswer (AnswersCorrespond R) x y → Alike (answered catalog x new) (answered catalog y now)
+  answered_alike : (catalog : Catalog) (new now : State) (x y : Result Answer SqlFault) → StatesCorrespond R new now
+      → BothAnswer (AnswersCorrespond R) x y → Alike (answered catalog x new) (answered catalog y now)
   answered_alike catalog new now x y next h = record {
     replies = λ classes. answers_told R catalog new now classes x y h;
     states = subst (λ s. StatesCorrespond R s (answered catalog y now).after) (sym (answered_after catalog x new)) (subst (λ t. StatesCorrespond R new t) (sym (answered_after catalog y now)) next);
   }
 
   -- what is ready may be asked
-  may_ask : (catalog : Catalog) (world : World) (declarations : List ParamDecl) (meant : Meant) (atoms : List Atom) → world.catalog ≡ catalog → IsReady catalog declarations meant atoms → MayAsk is_short world (ask_of (meant, atoms))
+  may_ask : (catalog : Catalog) (world : World) (declarations : List ParamDecl) (meant : Meant) (atoms : List Atom)
+      → world.catalog ≡ catalog → IsReady catalog declarations meant atoms → MayAsk is_short world (ask_of (meant, atoms))
   unfolding IsReady
   may_ask catalog world declarations meant atoms e ready =
       let on = bound_on catalog declarations meant atoms laws.typings ready in
@@ -306,7 +314,8 @@ module _ (R : Pairing) (r : IsOneToOne R) (cells : PairsCells R) (within : ArePa
   ready_leaves state n meant declarations atoms s ready may =
       call_leaves state n meant.bound meant.encs atoms (laws.typings meant.bound meant.encs ready.understood.typed).0 ready.values ready.cells s may
 
-  stepped_alike : (w v : State) (n : ℕ) (meant : Meant) (declarations others : List ParamDecl) (atoms more : List Atom) → StatesCorrespond R w v → IsReady (catalog_of w n) declarations meant atoms → IsReady (catalog_of v n) others meant more
+  stepped_alike : (w v : State) (n : ℕ) (meant : Meant) (declarations others : List ParamDecl) (atoms more : List Atom)
+      → StatesCorrespond R w v → IsReady (catalog_of w n) declarations meant atoms → IsReady (catalog_of v n) others meant more
       → RowsCorrespond R (param_classes meant.bound.params meant.encs) atoms more → Alike (stepped w n (meant, atoms)) (stepped v n (meant, more))
   stepped_alike w v n meant declarations others atoms more st left right pairs =
       let may = may_ask (catalog_of w n) (world_of w n).world declarations meant atoms refl left in
@@ -325,7 +334,8 @@ module _ (R : Pairing) (r : IsOneToOne R) (cells : PairsCells R) (within : ArePa
         → BothAnswer (RowsCorrespond R (param_classes meant.bound.params meant.encs)) x y → Alike (executed w n (x >>= made_ready meant)) (executed v n (y >>= made_ready meant))
     by_atoms meant u (Ok atoms) (Ok more) e f m =
         let same = declared_alike R cells ps qs h in
-        let other : IsUnderstood (catalog_of v n) (map declaration_of qs) meant = subst (λ c. IsUnderstood c (map declaration_of qs) meant) (sym (seen_alike R w v n st.stores).worlds.catalog) (subst (λ ds. IsUnderstood (catalog_of w n) ds meant) (sym same) u) in
+        let other : IsUnderstood (catalog_of v n) (map declaration_of qs) meant = subst
+        (λ c. IsUnderstood c (map declaration_of qs) meant) (sym (seen_alike R w v n st.stores).worlds.catalog) (subst (λ ds. IsUnderstood (catalog_of w n) ds meant) (sym same) u) in
         stepped_alike w v n meant (map declaration_of ps) (map declaration_of qs) atoms more st
         (is_ready (catalog_of w n) ps meant atoms laws.typings u e (atoms_sendable meant.encs ps atoms e short))
         (is_ready (catalog_of v n) qs meant more laws.typings other f (atoms_sendable meant.encs qs more f (sendable_alike ps qs h short))) m
@@ -333,7 +343,8 @@ module _ (R : Pairing) (r : IsOneToOne R) (cells : PairsCells R) (within : ArePa
     by_atoms meant u (Ok atoms) (Err g) e f m = absurd m
     by_atoms meant u (Err f) (Ok more) e g m = absurd m
 
-    of_meaning : (meant : Meant) → IsUnderstood (catalog_of w n) (map declaration_of ps) meant → Alike (executed w n (suited meant.encs ps >>= made_ready meant)) (executed v n (suited meant.encs qs >>= made_ready meant))
+    of_meaning : (meant : Meant) → IsUnderstood (catalog_of w n) (map declaration_of ps) meant
+        → Alike (executed w n (suited meant.encs ps >>= made_ready meant)) (executed v n (suited meant.encs qs >>= made_ready meant))
     unfolding IsUnderstood
     of_meaning meant u =
         let tys : meant.bound.params ≡ tys_of ps = u.bound.params ∙ tys_declared ps in
@@ -354,12 +365,14 @@ module _ (R : Pairing) (r : IsOneToOne R) (cells : PairsCells R) (within : ArePa
         ∙ ap (λ ds. if version == c.version then understood c text ds else Err (fault.Moved (record { seen = version; now = c.version }))) (declared_alike R cells ps qs h) in
         subst (λ x. Alike (executed w n (prepared c version text ps)) (executed v n (x >>= λ meant. suited meant.encs qs >>= made_ready meant))) (sym other)
         (by_meaning (understood_at c version text ps)
-        (λ meant e. is_understood laws.bound c text (map declaration_of ps) meant (at_version (version == c.version) (understood c text (map declaration_of ps)) (fault.Moved (record { seen = version; now = c.version })) meant e)))
+        (λ meant e. is_understood laws.bound c text (map declaration_of ps) meant
+        (at_version (version == c.version) (understood c text (map declaration_of ps)) (fault.Moved (record { seen = version; now = c.version })) meant e)))
 
   pub serves_alike : (w v : State) → StatesCorrespond R w v → (request second : Request) → IsRequest request → RequestsCorrespond R request second → Alike (serve w request) (serve v second)
   serves_alike w v st (Describe session text declarations) second m h =
       subst (λ (x : Request). Alike (serve w (Describe session text declarations)) (serve v x)) (sym h)
-      (subst (λ c. Alike (serve w (Describe session text declarations)) (described v (describe c text declarations))) (sym (seen_alike R w v session st.stores).worlds.catalog) (described_alike w v (describe (catalog_of w session) text declarations) st))
+      (subst (λ c. Alike (serve w (Describe session text declarations)) (described v (describe c text declarations)))
+      (sym (seen_alike R w v session st.stores).worlds.catalog) (described_alike w v (describe (catalog_of w session) text declarations) st))
   serves_alike w v st (Execute session version text ps) (Describe s t ds) m h = absurd h
   serves_alike w v st (Execute session version text ps) (Execute s n t qs) m h =
       subst (λ x. Alike (serve w (Execute session version text ps)) (serve v (Execute x n t qs))) (sym h.0)
@@ -372,7 +385,8 @@ module _ (R : Pairing) (r : IsOneToOne R) (cells : PairsCells R) (within : ArePa
     pub replies : (classes : List Class) → RepliesCorrespond R classes left.0 right.0
     pub states : StatesCorrespond R left.1 right.1
 
-  pub all_served_alike : (w v : State) → StatesCorrespond R w v → (requests others : List Request) → All IsRequest requests → AllZip (RequestsCorrespond R) requests others → AllAlike (serve_all w requests) (serve_all v others)
+  pub all_served_alike : (w v : State) → StatesCorrespond R w v → (requests others : List Request)
+      → All IsRequest requests → AllZip (RequestsCorrespond R) requests others → AllAlike (serve_all w requests) (serve_all v others)
   all_served_alike w v st [] [] m h = record { replies = λ classes. tt; states = st }
   all_served_alike w v st [] (other ∷ others) m h = absurd h
   all_served_alike w v st (request ∷ requests) [] m h = absurd h
@@ -380,7 +394,8 @@ module _ (R : Pairing) (r : IsOneToOne R) (cells : PairsCells R) (within : ArePa
       let first = serves_alike w v st request other (All-head IsRequest request requests m) h.0 in
       let rest = all_served_alike (serve w request).after (serve v other).after first.states requests others (All-tail IsRequest request requests m) h.1 in
       record {
-        replies = λ classes. replies_append R classes (serve w request).replies (serve_all (serve w request).after requests).0 (serve v other).replies (serve_all (serve v other).after others).0 (first.replies classes) rest.replies;
+        replies = λ classes. replies_append R classes (serve w request).replies (serve_all (serve w request).after requests).0
+            (serve v other).replies (serve_all (serve v other).after others).0 (first.replies classes) rest.replies;
         states = rest.states;
       }
 
@@ -410,10 +425,18 @@ pub lists_served_alike : Laws → DefinitionsKeepCatalogs → ServedAlike
 lists_served_alike laws law entries renaming requests others are h =
     let R = Listing entries in
     let s = empty_is_state law in
-    let a = all_served_alike R renaming.one_to_one renaming.cells (cells_within R renaming.cells) laws empty_state empty_state (record { left = s; right = s; stores = record { shared = record { worlds = record { catalog = refl; contents = tt }; counts = refl }; sessions = no_sessions R 64 } }) requests others are h in
+    let a = all_served_alike R renaming.one_to_one renaming.cells (cells_within R renaming.cells) laws empty_state
+    empty_state
+    (record {
+      left = s;
+      right = s;
+      stores = record
+          { shared = record { worlds = record { catalog = refl; contents = tt }; counts = refl }; sessions = no_sessions R 64 };
+    }) requests others are h in
     (a.replies [], a.states)
 
 -- so each call is
-pub call_alike : {E : Type 0} → RequestsAreServedAlike → (result : Result (List Reply) E) (request : Request) (old new : State) → Serves result request old new → IfOk result (λ replies. IsServedAlike old request replies new)
+pub call_alike : {E : Type 0} → RequestsAreServedAlike → (result : Result (List Reply) E) (request : Request) (old new : State)
+    → Serves result request old new → IfOk result (λ replies. IsServedAlike old request replies new)
 call_alike law (Ok replies) request old new s = subst (λ (served : Served State). IsServedAlike old request served.replies served.after) s (law old request)
 call_alike law (Err e) request old new s = tt

@@ -88,7 +88,8 @@ module _ (cell : List ℕ → Bool) where
   atom_itself (enc.Rnd key) t (Sealed x) o p = inr (is_itself x)
 
   -- the values of parameters
-  pub params_themselves : (tys : List Ty) (encs : List Enc) (atoms : List Atom) → length encs ≡ length tys → AreValuesOf cell tys encs atoms → AllZip IsProtectedBy encs atoms → RowsCorrespond (Related own_cell) (param_classes tys encs) atoms atoms
+  pub params_themselves : (tys : List Ty) (encs : List Enc) (atoms : List Atom) → length encs ≡ length tys
+      → AreValuesOf cell tys encs atoms → AllZip IsProtectedBy encs atoms → RowsCorrespond (Related own_cell) (param_classes tys encs) atoms atoms
   params_themselves [] [] [] n v p = tt
   params_themselves [] [] (a ∷ atoms) n v p = absurd p
   params_themselves [] (e ∷ encs) atoms n v p = absurd (omega (arith, n))
@@ -105,13 +106,17 @@ module _ (cell : List ℕ → Bool) where
   row_itself (c ∷ columns) [] o p = absurd o
   row_itself (c ∷ columns) (a ∷ row) o p = (atom_itself c.enc c.ty a o.0.1 p.0, row_itself columns row o.1 p.1)
 
-  rows_themselves : (def : TableDef) (rows : List (List Atom)) → IsTableOf cell def rows → IsTableProtected def rows → AllZip (RowsCorrespond (Related own_cell) (map class_of_column def.columns)) rows rows
+  rows_themselves : (def : TableDef) (rows : List (List Atom)) → IsTableOf cell def rows → IsTableProtected def rows
+      → AllZip (RowsCorrespond (Related own_cell) (map class_of_column def.columns)) rows rows
   rows_themselves def [] o p = tt
   rows_themselves def (row ∷ rows) o p =
-      let Hidden = AllZip (λ (column : ColumnDef) atom. IsProtectedBy column.enc atom) def.columns in
-      (row_itself def.columns row (All-head (AllZip (IsOf cell) def.columns) row rows o) (All-head Hidden row rows p), rows_themselves def rows (All-tail (AllZip (IsOf cell) def.columns) row rows o) (All-tail Hidden row rows p))
+      let Hidden = AllZip (λ (column : ColumnDef) atom. IsProtectedBy column.enc atom) def.columns in (
+        row_itself def.columns row (All-head (AllZip (IsOf cell) def.columns) row rows o) (All-head Hidden row rows p),
+        rows_themselves def rows (All-tail (AllZip (IsOf cell) def.columns) row rows o) (All-tail Hidden row rows p),
+      )
 
-  contents_themselves : (defs : List TableDef) (contents : List (List (List Atom))) → AllZip (IsTableOf cell) defs contents → AllZip IsTableProtected defs contents → ContentsCorrespond (Related own_cell) defs contents contents
+  contents_themselves : (defs : List TableDef) (contents : List (List (List Atom))) → AllZip (IsTableOf cell) defs contents
+      → AllZip IsTableProtected defs contents → ContentsCorrespond (Related own_cell) defs contents contents
   contents_themselves [] [] o p = tt
   contents_themselves [] (rows ∷ contents) o p = absurd o
   contents_themselves (def ∷ defs) [] o p = absurd o
@@ -147,7 +152,8 @@ atom_protected (enc.Det key) t (Plain value) (inr h) = absurd cc
 atom_protected (enc.Rnd key) t (Plain value) (inl h) = let z = h.0 in absurd cc
 atom_protected (enc.Rnd key) t (Plain value) (inr h) = absurd cc
 
-row_protected : (columns : List ColumnDef) (row : List Atom) → RowsCorrespond (Related own_cell) (map class_of_column columns) row row → AllZip (λ (column : ColumnDef) atom. IsProtectedBy column.enc atom) columns row
+row_protected : (columns : List ColumnDef) (row : List Atom) → RowsCorrespond (Related own_cell) (map class_of_column columns) row row
+    → AllZip (λ (column : ColumnDef) atom. IsProtectedBy column.enc atom) columns row
 row_protected [] [] h = tt
 row_protected [] (a ∷ row) h = absurd h
 row_protected (c ∷ columns) [] h = absurd h
@@ -179,7 +185,8 @@ state_protected state w h = record {
 
 -- ---- a call leaves a state
 
-pub call_leaves : (state : State) (session : ℕ) (b : Bound) (encs : List Enc) (atoms : List Atom) → length encs ≡ length b.params → AreValuesOf is_short b.params encs atoms → AllZip IsProtectedBy encs atoms → IsState state
+pub call_leaves : (state : State) (session : ℕ) (b : Bound) (encs : List Enc) (atoms : List Atom)
+    → length encs ≡ length b.params → AreValuesOf is_short b.params encs atoms → AllZip IsProtectedBy encs atoms → IsState state
     → let e = execution b encs atoms in
     MayAsk is_short (world_of state session).world (ask_of e) → IsState (transact state session (ask_of e)).after
 call_leaves state session b encs atoms n values cells s may =

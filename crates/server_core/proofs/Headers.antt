@@ -29,7 +29,8 @@ pub header_keys : (catalog : Catalog) (columns : List ResultColumn) (sent : List
 header_keys catalog columns sent keys c law a s k =
     let e = ap encs_of s ∙ sent_encs columns in
     subst (AreTheKeysOf (encs_of sent)) (sym k)
-    (subst (λ es. AreTheKeysOf es (keys_of catalog es)) (sym e) (are_the_keys catalog c law (map (λ (c : ResultColumn). c.enc) columns) (All-map (IsKeyThere catalog) (λ (c : ResultColumn). c.enc) columns a)))
+    (subst (λ es. AreTheKeysOf es (keys_of catalog es)) (sym e)
+    (are_the_keys catalog c law (map (λ (c : ResultColumn). c.enc) columns) (All-map (IsKeyThere catalog) (λ (c : ResultColumn). c.enc) columns a)))
 
 pub header_few : (columns : List ResultColumn) (sent : List SentColumn) → IsFew columns → sent ≡ map sent_column columns → IsFew sent
 header_few columns sent few s =

@@ -125,7 +125,8 @@ pub record IsDoneWell {K : Type 0} (old : State) (session : ℕ) (new : State) (
   pub state : IsState new
   pub sent : IfOk result (λ answer. CanBeSent (catalog_of old session) (catalog_of new session) (answer_of answer))
 
-pub done_well : {K : Type 0} (laws : Laws) (old : State) (session : ℕ) (new : State) (declarations : List ParamDecl) (meant : Meant) (atoms : List Atom) (result : Result (code.Answer K) (Refusal SqlFault))
+pub done_well : {K : Type 0} (laws : Laws) (old : State) (session : ℕ) (new : State) (declarations : List ParamDecl)
+    (meant : Meant) (atoms : List Atom) (result : Result (code.Answer K) (Refusal SqlFault))
     → IsState old → IsReady (catalog_of old session) declarations meant atoms → Transacts result old new (transact old session (ask_of (meant, atoms)))
     → IfOk result (λ answer. IsUndone old session new (answer_of answer)) → IsDoneWell old session new result
 unfolding IsUnderstood IsReady
@@ -139,7 +140,8 @@ done_well laws old session new declarations meant atoms result s r g undone =
     record {
       state = keeps result old new (transact old session (ask_of (meant, atoms))) g s left;
       sent = sendable old session declarations meant laws.typings r.understood result new (transact old session (ask_of (meant, atoms))) (seen_well is_short old session s.store).world.catalog g k.1
-          (λ columns rows f. ((step_of (world_of old session) e).world, laws.shown world meant.bound meant.encs atoms columns rows b (rows_by_step old session e columns rows meant.bound.statement f))) undone;
+          (λ columns rows f.
+          ((step_of (world_of old session) e).world, laws.shown world meant.bound meant.encs atoms columns rows b (rows_by_step old session e columns rows meant.bound.statement f))) undone;
     }
 
 -- the catalog that a session sees is one
@@ -153,7 +155,8 @@ module _ (old : State) (session : ℕ) (declarations : List ParamDecl) (typed : 
   pub parts_bound : TypingsAreOfColumns → IsBoundOn (catalog_of old session) (bound_of b) encs values
   parts_bound law = rw (is_b, is_encs, are_values) (bound_on (catalog_of old session) declarations (meant_of typed) atoms law ready)
 
-  pub parts_given : {K : Type 0} (result : Result (code.Answer K) (Refusal SqlFault)) (new : State) → Transacts result old new (transact old session (stores.ask_of (execution (bound_of b) encs values)))
+  pub parts_given : {K : Type 0} (result : Result (code.Answer K) (Refusal SqlFault)) (new : State)
+      → Transacts result old new (transact old session (stores.ask_of (execution (bound_of b) encs values)))
       → Transacts result old new (transact old session (ask_of (meant_of typed, atoms)))
   parts_given result new g =
       subst (λ (v : List Atom). Transacts result old new (transact old session (stores.ask_of (execution (bound_of typed.bound) typed.encs v)))) are_values

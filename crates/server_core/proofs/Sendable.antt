@@ -66,4 +66,8 @@ pub rows_sendable : (columns : List ResultColumn) (rows : List (List Atom)) → 
     → All (λ row. IsFew row × All IsSendable row) rows
 rows_sendable columns rows r few t =
     All-weaker (AllZip (λ (column : ResultColumn) atom. IsAtomOf is_short column.ty column.enc atom) columns) (λ row. IsFew row × All IsSendable row)
-    (λ row z. (subst (λ n. (1 ≤ n) × (n ≤ 512)) (sym (AllZip-long (λ (column : ResultColumn) (atom : Atom). IsAtomOf is_short column.ty column.enc atom) columns row z)) few, row_sendable columns row z t)) rows r
+    (λ row z. (
+      subst (λ n. (1 ≤ n) × (n ≤ 512)) (sym (AllZip-long (λ (column : ResultColumn) (atom : Atom). IsAtomOf is_short column.ty column.enc atom) columns row z))
+          few,
+      row_sendable columns row z t,
+    )) rows r

@@ -108,12 +108,14 @@ bound_sort catalog s declarations b e =
     let q = went_on (check_of p.0) (λ fine. Ok p.0) b p.2 in
     resolved_sort catalog s declarations p.0 p.1 ∙ same_sort p.0 b q.2
 
-understood_sort : (catalog : Catalog) (text : List ℕ) (declarations : List ParamDecl) (meant : Meant) → understood catalog text declarations ≡ Ok meant → sort_of text ≡ sort_bound meant.bound.statement
+understood_sort : (catalog : Catalog) (text : List ℕ) (declarations : List ParamDecl) (meant : Meant)
+    → understood catalog text declarations ≡ Ok meant → sort_of text ≡ sort_bound meant.bound.statement
 understood_sort catalog text declarations meant h =
     let p = parts_of catalog text declarations meant h in
     ap sort_of_parsed p.reads ∙ bound_sort catalog p.statement declarations meant.bound p.binds
 
-at_sort : (catalog : Catalog) (version : ℕ) (text : List ℕ) (params : List SentParam) (meant : Meant) → understood_at catalog version text params ≡ Ok meant → sort_of text ≡ sort_bound meant.bound.statement
+at_sort : (catalog : Catalog) (version : ℕ) (text : List ℕ) (params : List SentParam) (meant : Meant)
+    → understood_at catalog version text params ≡ Ok meant → sort_of text ≡ sort_bound meant.bound.statement
 at_sort catalog version text params meant = by (version == catalog.version)
   where
     by : (b : Bool)
@@ -130,7 +132,8 @@ ready_meant m a ready e = ap meant_in e
     meant_in (Err f) = m
 
 -- what is ready to be executed has the sort of its text
-pub prepared_sort : (catalog : Catalog) (version : ℕ) (text : List ℕ) (params : List SentParam) (ready : Meant × List Atom) → prepared catalog version text params ≡ Ok ready → sort_of text ≡ sort_bound ready.0.bound.statement
+pub prepared_sort : (catalog : Catalog) (version : ℕ) (text : List ℕ) (params : List SentParam) (ready : Meant × List Atom)
+    → prepared catalog version text params ≡ Ok ready → sort_of text ≡ sort_bound ready.0.bound.statement
 prepared_sort catalog version text params ready h =
     let m = went_on (understood_at catalog version text params) (λ meant. suited meant.encs params >>= λ atoms. Ok (meant, atoms)) ready h in
     let s = went_on (suited m.0.encs params) (λ atoms. Ok (m.0, atoms)) ready m.2 in

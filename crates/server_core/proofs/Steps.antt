@@ -9,5 +9,8 @@ use Rattle.server_core.specs.Serve.{State, answered, refused, replies_of}
 pub answered_fault : (catalog : Catalog) (new : State) (o : Transacted) (f : SqlFault) → o ≡ record { answer = Err f; after = new } → answered catalog o.answer o.after ≡ refused new f
 answered_fault catalog new o f e = ap (λ (o : Transacted). answered catalog o.answer o.after) e
 
-pub answered_so : (catalog : Catalog) (new : State) (o : Transacted) (answer : Answer) → o ≡ record { answer = Ok answer; after = new } → answered catalog o.answer o.after ≡ record { replies = replies_of catalog answer; after = new }
+pub answered_so : (catalog : Catalog) (new : State) (o : Transacted) (answer : Answer) → o ≡ record {
+  answer = Ok answer;
+  after = new;
+} → answered catalog o.answer o.after ≡ record { replies = replies_of catalog answer; after = new }
 answered_so catalog new o answer e = ap (λ (o : Transacted). answered catalog o.answer o.after) e

@@ -47,7 +47,24 @@ use Rattle.script_lang.specs.declared.steps.Act.{Act}
 use Rattle.script_lang.specs.declared.steps.Act.TheVariants.{Whole, Half, Execute, Rotate}
 use Rattle.script_lang.specs.declared.steps.Step.TheVariants.{Turn, Trust}
 use Rattle.plain_meaning.specs.Alike.{Fits, FitThroughout, GivesOnly, Throughout}
-use Rattle.plain_meaning.specs.Batches.{Came, came, why_unopened, declarations_of, stepped, executed_with, execution_of, pending, unless_open, readied, described, begun, begins, executes, runs_whole, waits}
+use Rattle.plain_meaning.specs.Batches.{
+  Came,
+  came,
+  why_unopened,
+  declarations_of,
+  stepped,
+  executed_with,
+  execution_of,
+  pending,
+  unless_open,
+  readied,
+  described,
+  begun,
+  begins,
+  executes,
+  runs_whole,
+  waits,
+}
 use Rattle.plain_meaning.specs.Reference.{nothing_held, held_at, with_held, means}
 use Rattle.plain_meaning.specs.Rotations.{Then, Told, rotates, runs}
 use Rattle.plain_meaning.proofs.Interface.{IsFineTold, IsTold, TellsNoKey, WritesNoKey, all_of_it}
@@ -106,7 +123,8 @@ module _ (bound : BoundStatementsAre) (keys : KeyMap) (trusted : List (List ℕ)
         }
     stepped_comes (Err f) u = record { goes = here; since = since; held = tt }
 
-    version_comes : (t : Bool) (moved : Came) → Comes state told moved → Comes state told (cond t (stepped keys trusted state number p.batch (understood seen p.batch.text (declarations_of p.batch))) moved)
+    version_comes : (t : Bool) (moved : Came) → Comes state told moved
+        → Comes state told (cond t (stepped keys trusted state number p.batch (understood seen p.batch.text (declarations_of p.batch))) moved)
     version_comes true moved h = stepped_comes (understood seen p.batch.text (declarations_of p.batch)) refl
     version_comes false moved h = h
 
@@ -180,7 +198,8 @@ module _ (bound : BoundStatementsAre) (keys : KeyMap) (trusted : List (List ℕ)
       (λ d. readied_comes bound keys trusted state number told k since executed (pending batch d) (execution_comes bound keys trusted state number told k since (pending batch d) one)) held h
 
   module _ (old new : List ℕ) where
-    runs_leads : (batch : Batch) → BatchIsOfSingle batch → (f : Accepted → Then) → ((columns : Accepted) (comes : Told) → Leads (f columns comes)) → Leads (λ held state. runs keys trusted number old new batch held state f)
+    runs_leads : (batch : Batch) → BatchIsOfSingle batch → (f : Accepted → Then)
+        → ((columns : Accepted) (comes : Told) → Leads (f columns comes)) → Leads (λ held state. runs keys trusted number old new batch held state f)
     runs_leads batch one f go held h state told k since =
         let c = runs_whole keys trusted number batch held state in
         let first = whole_leads batch one held h state told k since in
@@ -203,11 +222,14 @@ module _ (bound : BoundStatementsAre) (keys : KeyMap) (trusted : List (List ℕ)
 
 -- ---- a turn
 
-means_comes : BoundStatementsAre → (keys : KeyMap) (trusted : List (List ℕ)) (number : ℕ) (act : Act) → OfBatch BatchIsOfSingle act → (before : Option Pending) → HoldsSingle before → (state : State) (told : ℕ → KeyValue) → AreAs (shared_of state) told → AreBegun state
+means_comes : BoundStatementsAre → (keys : KeyMap) (trusted : List (List ℕ)) (number : ℕ) (act : Act)
+    → OfBatch BatchIsOfSingle act → (before : Option Pending) → HoldsSingle before → (state : State) (told : ℕ → KeyValue) → AreAs (shared_of state) told → AreBegun state
     → Comes state told (means keys trusted number act before state)
 means_comes bound keys trusted number (Whole batch) one before h state told k since = whole_leads bound keys trusted number batch one before h state told k since
 means_comes bound keys trusted number (Half batch) one before h state told k since =
-    begins_comes bound keys trusted state number told k since batch one (readied state (waits state)) (λ d. readied_comes bound keys trusted state number told k since (waits state) (pending batch d) (record { goes = here bound keys trusted state number told k since; since = since; held = one })) before h
+    begins_comes bound keys trusted state number told k since batch one (readied state (waits state))
+    (λ d. readied_comes bound keys trusted state number told k since (waits state) (pending batch d)
+    (record { goes = here bound keys trusted state number told k since; since = since; held = one })) before h
 means_comes bound keys trusted number Execute one before h state told k since = executes_comes bound keys trusted state number told k since before h
 means_comes bound keys trusted number (Rotate old new) one before h state told k since = rotates_leads bound keys trusted number old new before h state told k since
 
@@ -224,7 +246,8 @@ settled c told final same k i d lt =
     let key = k i d lt in
     (key.0, key.1 ∙ ap Some (sym (same (get_or c.keys i d).id key.0)), key.2)
 
-settles : BoundStatementsAre → (keys : KeyMap) (steps : List Step) → All IsSingleStep steps → (trusted : List (List ℕ)) (holds : List (Option Pending)) → All HoldsSingle holds → (state : State) (told : ℕ → KeyValue) → AreAs (shared_of state) told → AreBegun state
+settles : BoundStatementsAre → (keys : KeyMap) (steps : List Step) → All IsSingleStep steps
+    → (trusted : List (List ℕ)) (holds : List (Option Pending)) → All HoldsSingle holds → (state : State) (told : ℕ → KeyValue) → AreAs (shared_of state) told → AreBegun state
     → Settles keys steps trusted holds state told
 settles bound keys [] one trusted holds h state told k since = record { final = told; same = λ id lt. refl; throughout = k }
 settles bound keys (Trust path ∷ steps) one trusted holds h state told k since =
@@ -235,7 +258,8 @@ settles bound keys (Turn number act ∷ steps) one trusted holds h state told k 
     let c = means_comes bound keys trusted number act (All-head IsSingleStep step steps one) (held_at holds number) (all_at HoldsSingle holds (number - 1) None h tt) state told k since in
     let now = means keys trusted number act (held_at holds number) state in
     let g = c.goes in
-    let rest = settles bound keys steps (All-tail IsSingleStep step steps one) trusted (with_held holds number now.held) (all_set HoldsSingle holds (number - 1) now.held h c.held) now.state g.later g.are c.since in
+    let rest = settles bound keys steps (All-tail IsSingleStep step steps one) trusted (with_held holds number now.held)
+    (all_set HoldsSingle holds (number - 1) now.held h c.held) now.state g.later g.are c.since in
     let same : (id : ℕ) → id < (shared_of state).next_id → rest.final id ≡ told id = λ id lt. let le = g.next in rest.same id (omega (arith, lt, le)) ∙ g.same id lt in
     record { final = rest.final; same = same; throughout = (settled (shared_of state) told rest.final same k, rest.throughout) }
 

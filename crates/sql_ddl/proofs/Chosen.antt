@@ -29,7 +29,8 @@ creates_column tokens rest after at place e h f =
     behind keyword.Create (choice_by (is_next keyword.Table) create_table create_column) tokens rest at e ∙ away (is_next keyword.Table) create_table create_column rest h
     ∙ behind keyword.Column (choice_by master_next create_master create_key) rest after place f
 
-pub creates_master : (tokens rest after : List Token) (at place : ℕ) → word keyword.Create tokens ≡ Some (at, rest) → is_next keyword.Table rest ≡ false → word keyword.Column rest ≡ Some (place, after)
+pub creates_master : (tokens rest after : List Token) (at place : ℕ) → word keyword.Create tokens ≡ Some (at, rest)
+    → is_next keyword.Table rest ≡ false → word keyword.Column rest ≡ Some (place, after)
     → master_next after ≡ true → create tokens ≡ create_master after
 creates_master tokens rest after at place e h f m = creates_column tokens rest after at place e h f ∙ here master_next create_master create_key after m
 

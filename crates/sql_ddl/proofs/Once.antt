@@ -29,7 +29,8 @@ no_key (setting.Value v ∷ setting.Key name ∷ setting.Algorithm ∷ []) h = a
 no_key (setting.Value v ∷ setting.Algorithm ∷ setting.Key name ∷ []) h = absurd (h refl)
 no_key other h = refl
 
-pub path_in_two : (all a b : List MasterSetting) (x y : MasterSetting) (path : Option (List ℕ)) → length all ≡ 2 → all ≡ a ++ y ∷ [] → a ≡ b ++ x ∷ [] → path ≡ path_in (x ∷ y ∷ []) → path ≡ path_in all
+pub path_in_two : (all a b : List MasterSetting) (x y : MasterSetting) (path : Option (List ℕ)) → length all ≡ 2
+    → all ≡ a ++ y ∷ [] → a ≡ b ++ x ∷ [] → path ≡ path_in (x ∷ y ∷ []) → path ≡ path_in all
 path_in_two all a b x y path h e f p = p ∙ sym (ap path_in (two_items all a b x y h e f))
 
 pub key_in_three : {V : Type 0} (all a b d : List (KeySetting V)) (x y z : KeySetting V) (key : Option (List ℕ × V)) → length all ≡ 3 → all ≡ a ++ z ∷ [] → a ≡ b ++ y ∷ [] → b ≡ d ++ x ∷ []

@@ -30,17 +30,20 @@ sum_seen first (t ∷ ts) h = ap (operands.Sum first) (terms_seen (t ∷ ts))
 
 pub sum_joined : (first : code.Operand ColumnRef (List ℕ)) (box : Box (code.Operand ColumnRef (List ℕ)) Global) (terms : Vec TermTree Global) → box.value ≡ first → (length terms.items == 0) ≡ false
     → operand_of (code.Sum box terms) ≡ sum_with (operand_of first) (map signed_of terms.items)
-sum_joined first box terms e h = operand_of-Sum box terms ∙ ap (λ (o : code.Operand ColumnRef (List ℕ)). operands.Sum (operand_of o) (terms_listed terms.items)) e ∙ sum_seen (operand_of first) terms.items h
+sum_joined first box terms e h = operand_of-Sum box terms ∙ ap
+    (λ (o : code.Operand ColumnRef (List ℕ)). operands.Sum (operand_of o) (terms_listed terms.items)) e ∙ sum_seen (operand_of first) terms.items h
 
 conditions_seen : (cs : List ConditionTree) → conditions_listed cs ≡ conditions_from (map condition_of cs)
 conditions_seen [] = refl
 conditions_seen (c ∷ cs) = ap (conditions.Then (condition_of c)) (conditions_seen cs)
 
-all_seen : (first : ConditionTree) (more : List ConditionTree) → (length more == 0) ≡ false → conditions.AllOf (conditions_listed (first ∷ more)) ≡ all_with (condition_of first) (map condition_of more)
+all_seen : (first : ConditionTree) (more : List ConditionTree) → (length more == 0) ≡ false
+    → conditions.AllOf (conditions_listed (first ∷ more)) ≡ all_with (condition_of first) (map condition_of more)
 all_seen first [] h = absurd (cc)
 all_seen first (c ∷ cs) h = ap conditions.AllOf (ap (conditions.Then (condition_of first)) (conditions_seen (c ∷ cs)))
 
-any_seen : (first : ConditionTree) (more : List ConditionTree) → (length more == 0) ≡ false → conditions.AnyOf (conditions_listed (first ∷ more)) ≡ any_with (condition_of first) (map condition_of more)
+any_seen : (first : ConditionTree) (more : List ConditionTree) → (length more == 0) ≡ false
+    → conditions.AnyOf (conditions_listed (first ∷ more)) ≡ any_with (condition_of first) (map condition_of more)
 any_seen first [] h = absurd (cc)
 any_seen first (c ∷ cs) h = ap conditions.AnyOf (ap (conditions.Then (condition_of first)) (conditions_seen (c ∷ cs)))
 

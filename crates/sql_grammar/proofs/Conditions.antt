@@ -11,7 +11,25 @@ use Rattle.sql_grammar.specs.Readers as terminal
 use Rattle.sql_grammar.specs.Spelling.{Spelling, One, Both, Made, Either, Optional, Many, After, Given}
 use Rattle.sql_grammar.specs.Making as make
 use Rattle.sql_grammar.specs.Making.{Inner, Computes, Asks, Signed, Test, sum_with, all_with, any_with, with_test, negated_by}
-use Rattle.sql_grammar.specs.Grammar.{Word, Sign, InParens, Nowhere, SpellsColumnRef, SpellsPrimary, SpellsTerm, SpellsSigned, SpellsSum, SpellsOperandIn, SpellsTest, SpellsPredicate, SpellsLiteral, SpellsConjunction, SpellsDisjunction, SpellsConditionIn, SpellsCondition}
+use Rattle.sql_grammar.specs.Grammar.{
+  Word,
+  Sign,
+  InParens,
+  Nowhere,
+  SpellsColumnRef,
+  SpellsPrimary,
+  SpellsTerm,
+  SpellsSigned,
+  SpellsSum,
+  SpellsOperandIn,
+  SpellsTest,
+  SpellsPredicate,
+  SpellsLiteral,
+  SpellsConjunction,
+  SpellsDisjunction,
+  SpellsConditionIn,
+  SpellsCondition,
+}
 use Rattle.sql_grammar.specs.Parse.{first, after_first, predicate, asked, literal, and_literals, conjunction, or_conjunctions, after_literal, inner, inner_in, condition, test_begins}
 use Rattle.sql_grammar.proofs.Agreement.{Agrees, both_agrees, made_agrees, choice_agrees, optional_agrees, many_agrees, wider}
 use Rattle.sql_grammar.proofs.Pieces.{word_agrees, sign_agrees, leaf_agrees, in_parens_agrees, after_agrees, given_agrees}
@@ -59,7 +77,8 @@ bare_term_is : (P : Spelling Operand) (operand : Operand) (front : List Token) �
 bare_term_is P operand front (inl k) = inl k
 bare_term_is P operand front (inr k) = inr (inr k)
 
-first_term : (P : Spelling Operand) (C : Spelling Condition) (Q : Spelling Inner) → Between P C Q → (operand : Operand) (front : List Token) → First P Q (Computes operand) front → SpellsTerm P operand front
+first_term : (P : Spelling Operand) (C : Spelling Condition) (Q : Spelling Inner) → Between P C Q
+    → (operand : Operand) (front : List Token) → First P Q (Computes operand) front → SpellsTerm P operand front
 first_term P C Q between operand front (inl k) = inr (inl (between.computes_in operand front k))
 first_term P C Q between operand front (inr k) = subst (λ (o : Operand). SpellsTerm P o front) (computed k.0 operand k.1) (bare_term_is P k.0 front k.2)
 
@@ -78,7 +97,8 @@ with_rest_is P C left i front rest f g terms (Some test) term e same many asks =
     let split : front ++ rest ≡ (front ++ f) ++ g = ap (λ ts. front ++ ts) same ∙ sym (append_assoc front f g) in
     subst (λ (j : Inner). OneInner P C j (front ++ rest)) is (inr ((sum_with left terms, test), refl, (front ++ f, g, split, ((left, terms), refl, (front, f, refl, term, many)), asks)))
 
-one_there_by : (P : Spelling Operand) (C : Spelling Condition) (Q : Spelling Inner) → Between P C Q → (x i : Inner) (front rest : List Token) → First P Q x front → AfterFirst P x i rest → OneInner P C i (front ++ rest)
+one_there_by : (P : Spelling Operand) (C : Spelling Condition) (Q : Spelling Inner) → Between P C Q
+    → (x i : Inner) (front rest : List Token) → First P Q x front → AfterFirst P x i rest → OneInner P C i (front ++ rest)
 one_there_by P C Q between (Computes left) i front rest h k =
     with_rest_is P C left i front rest k.2.0 k.2.1 k.0.0 k.0.1 (first_term P C Q between left front h) k.1 k.2.2 k.2.3 k.2.4
 one_there_by P C Q between (Asks c) i front rest h k =
@@ -89,7 +109,8 @@ one_there_by P C Q between (Asks c) i front rest h k =
 one_there : (P : Spelling Operand) (C : Spelling Condition) (Q : Spelling Inner) → Between P C Q → (i : Inner) (tokens : List Token) → After (First P Q) (AfterFirst P) i tokens → OneInner P C i tokens
 one_there P C Q between i tokens k = subst (OneInner P C i) (sym k.3) (one_there_by P C Q between k.0 i k.1 k.2 k.4 k.5)
 
-term_first : (P : Spelling Operand) (C : Spelling Condition) (Q : Spelling Inner) → Between P C Q → (operand : Operand) (front : List Token) → SpellsTerm P operand front → First P Q (Computes operand) front
+term_first : (P : Spelling Operand) (C : Spelling Condition) (Q : Spelling Inner) → Between P C Q
+    → (operand : Operand) (front : List Token) → SpellsTerm P operand front → First P Q (Computes operand) front
 term_first P C Q between operand front (inl k) = inr (operand, refl, inl k)
 term_first P C Q between operand front (inr (inl k)) = inl (between.computes_out operand front k)
 term_first P C Q between operand front (inr (inr k)) = inr (operand, refl, inr k)
@@ -120,12 +141,14 @@ predicate_goes_on = terminal.Sign symbol.Dot ∷ terminal.Sign symbol.Plus ∷ t
 abbrev rest_begins : List Terminal
 rest_begins = terminal.Sign symbol.Plus ∷ terminal.Sign symbol.Minus ∷ test_begins
 
-rest_agrees : {r : Reading Operand} {P : Spelling Operand} → Agrees (terminal.Sign symbol.Open ∷ []) false [] r P → (x : Inner) → Agrees rest_begins true predicate_goes_on (after_first r x) (AfterFirst P x)
+rest_agrees : {r : Reading Operand} {P : Spelling Operand} → Agrees (terminal.Sign symbol.Open ∷ []) false [] r P
+    → (x : Inner) → Agrees rest_begins true predicate_goes_on (after_first r x) (AfterFirst P x)
 rest_agrees p (Computes left) = wider rest_begins predicate_goes_on (made_agrees (make.with_rest left)
     (both_agrees (many_agrees (terminal.Sign symbol.Plus ∷ terminal.Sign symbol.Minus ∷ []) (signed_agrees p) refl refl) (optional_agrees test_begins test_agrees refl) refl)) refl refl
 rest_agrees p (Asks c) = wider rest_begins predicate_goes_on (given_agrees (Asks c)) refl refl
 
-first_agrees : {r : Reading Operand} {q : Reading Inner} {P : Spelling Operand} {Q : Spelling Inner} → Agrees (terminal.Sign symbol.Open ∷ []) false [] r P → Agrees (terminal.Sign symbol.Open ∷ []) false [] q Q
+first_agrees : {r : Reading Operand} {q : Reading Inner} {P : Spelling Operand} {Q : Spelling Inner}
+    → Agrees (terminal.Sign symbol.Open ∷ []) false [] r P → Agrees (terminal.Sign symbol.Open ∷ []) false [] q Q
     → Agrees predicate_begins false (terminal.Sign symbol.Dot ∷ []) (first r q) (First P Q)
 first_agrees p q = wider predicate_begins (terminal.Sign symbol.Dot ∷ []) (choice_agrees (terminal.Sign symbol.Open ∷ []) q (made_agrees make.computes
     (choice_agrees (terminal.Sign symbol.Minus ∷ []) (made_agrees make.minus (both_agrees (sign_agrees symbol.Minus) (primary_agrees p) refl))
@@ -138,7 +161,8 @@ predicate_agrees {P = P} {Q = Q} C between p q =
 
 -- ---- literals, and what they are joined to
 
-asked_there : (P : Spelling Operand) (C : Spelling Condition) (c : Condition) (tokens : List Token) (i : Inner) → make.only_asks i ≡ Some c → OneInner P C i tokens → SpellsPredicate (SpellsSum P) C c tokens
+asked_there : (P : Spelling Operand) (C : Spelling Condition) (c : Condition) (tokens : List Token) (i : Inner)
+    → make.only_asks i ≡ Some c → OneInner P C i tokens → SpellsPredicate (SpellsSum P) C c tokens
 asked_there P C c tokens (Computes operand) e k = absurd (cc)
 asked_there P C c tokens (Asks d) e k = subst (λ (b : Condition). SpellsPredicate (SpellsSum P) C b tokens) (some_is d c e) k
 
@@ -189,7 +213,8 @@ FirstLiteral P C = Either (Made make.not_asked (Both (Word keyword.Not) (SpellsP
 abbrev AfterLiteral : Spelling Operand → Spelling Condition → Inner → Spelling Inner
 AfterLiteral P C (Computes operand) = Given (Computes operand)
 AfterLiteral P C (Asks c) =
-    Made (make.with_more c) (Both (Many (Made make.behind (Both (Word keyword.And) (SpellsLiteral (SpellsSum P) C)))) (Many (Made make.behind (Both (Word keyword.Or) (SpellsConjunction (SpellsSum P) C)))))
+    Made (make.with_more c)
+    (Both (Many (Made make.behind (Both (Word keyword.And) (SpellsLiteral (SpellsSum P) C)))) (Many (Made make.behind (Both (Word keyword.Or) (SpellsConjunction (SpellsSum P) C)))))
 
 abbrev pub AllInner : Spelling Operand → Spelling Condition → Spelling Inner
 AllInner P C (Computes operand) = SpellsSum P operand

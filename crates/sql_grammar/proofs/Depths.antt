@@ -44,7 +44,9 @@ pub signed_shortens : (depth : ℕ) → Shortens (signed (operand_parens depth))
 signed_shortens depth = shortens (signed_agrees (operand_parens_agrees depth))
 
 pub and_shortens : (depth : ℕ) → Shortens (and_literal (operand_parens depth) (inner_parens depth))
-and_shortens depth = shortens (made_agrees make.behind (both_agrees (word_agrees keyword.And) (literal_agrees (ConditionParens depth) (between depth) (operand_parens_agrees depth) (inner_parens_agrees depth)) refl))
+and_shortens depth = shortens
+    (made_agrees make.behind (both_agrees (word_agrees keyword.And) (literal_agrees (ConditionParens depth) (between depth) (operand_parens_agrees depth) (inner_parens_agrees depth)) refl))
 
 pub or_shortens : (depth : ℕ) → Shortens (or_conjunction (operand_parens depth) (inner_parens depth))
-or_shortens depth = shortens (made_agrees make.behind (both_agrees (word_agrees keyword.Or) (conjunction_agrees (ConditionParens depth) (between depth) (operand_parens_agrees depth) (inner_parens_agrees depth)) refl))
+or_shortens depth = shortens
+    (made_agrees make.behind (both_agrees (word_agrees keyword.Or) (conjunction_agrees (ConditionParens depth) (between depth) (operand_parens_agrees depth) (inner_parens_agrees depth)) refl))

@@ -19,7 +19,23 @@ use Rattle.sql_grammar.specs.Grammar.{Word, Sign, Reads, Name, PlacedName, Numbe
 use Rattle.sql_grammar.specs.Parse.{word, sign, reads, name, placed_name, number, text, binary, in_parens, behind_comma, listed}
 use Rattle.sql_grammar.specs.Parse as parse
 use Rattle.sql_grammar.proofs.Sets.{disjoint}
-use Rattle.sql_grammar.proofs.Agreement.{Agrees, Starts, Front, bind_some, at_rest, pairs, one_agrees, both_agrees, made_agrees, many_agrees, ends_before, ends_after, with_empty, begins_both, starts_both}
+use Rattle.sql_grammar.proofs.Agreement.{
+  Agrees,
+  Starts,
+  Front,
+  bind_some,
+  at_rest,
+  pairs,
+  one_agrees,
+  both_agrees,
+  made_agrees,
+  many_agrees,
+  ends_before,
+  ends_after,
+  with_empty,
+  begins_both,
+  starts_both,
+}
 
 -- ---- one token
 
@@ -106,7 +122,8 @@ pub sign_in_agrees : Agrees signs false [] (one make.sign_in) (One make.sign_in)
 sign_in_agrees = one_agrees signs make.sign_in (λ t x e. sign_kind t.at t.lexeme x e)
 
 abbrev pub comparisons : List Terminal
-comparisons = terminal.Sign symbol.Equal ∷ terminal.Sign symbol.NotEqual ∷ terminal.Sign symbol.Less ∷ terminal.Sign symbol.LessEqual ∷ terminal.Sign symbol.Greater ∷ terminal.Sign symbol.GreaterEqual ∷ []
+comparisons = terminal.Sign symbol.Equal ∷ terminal.Sign symbol.NotEqual ∷ terminal.Sign symbol.Less ∷ terminal.Sign
+    symbol.LessEqual ∷ terminal.Sign symbol.Greater ∷ terminal.Sign symbol.GreaterEqual ∷ []
 
 comparison_kind : (l : Lexeme) (x : Comparison) → make.comparison_of l ≡ Some x → member comparisons l ≡ true
 comparison_kind (lexeme.Symbol symbol.Equal) x e = refl

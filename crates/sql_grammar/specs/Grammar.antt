@@ -151,7 +151,8 @@ SpellsType = Made make.type_of (Both Name (Optional (InParens Number)))
 
 -- KEY_STORE_PROVIDER_NAME = 'KEYFILE' | KEY_PATH = text
 abbrev pub SpellsMasterSetting : Spelling MasterSetting
-SpellsMasterSetting = Either (Made make.provider (Both (Reads (codes "KEY_STORE_PROVIDER_NAME")) (Both (Sign symbol.Equal) (IsText (codes "KEYFILE"))))) (Made make.path (Both (Reads (codes "KEY_PATH")) (Both (Sign symbol.Equal) Text)))
+SpellsMasterSetting = Either (Made make.provider (Both (Reads (codes "KEY_STORE_PROVIDER_NAME")) (Both (Sign symbol.Equal) (IsText (codes "KEYFILE")))))
+    (Made make.path (Both (Reads (codes "KEY_PATH")) (Both (Sign symbol.Equal) Text)))
 
 abbrev pub KeyName : {V : Type 0} → List ℕ → Spelling (KeySetting V)
 KeyName key = Made make.key_setting (Both (Reads key) (Both (Sign symbol.Equal) Name))
@@ -180,7 +181,10 @@ SpellsNullity = Either (Made make.nullable (Word keyword.Null)) (Made make.not_n
 
 -- column := name type [COLLATE Latin1_General_BIN2] [ENCRYPTED WITH ( .. )] [NULL | NOT NULL] [UNIQUE]
 abbrev pub SpellsColumn : Spelling ColumnSpec
-SpellsColumn = Made make.column_of (Both Name (Both SpellsType (Both (Optional (Both (Word keyword.Collate) (Reads (codes "LATIN1_GENERAL_BIN2")))) (Both (Optional SpellsEncryption) (Both (Optional SpellsNullity) (Optional (Word keyword.Unique)))))))
+SpellsColumn = Made make.column_of
+    (Both Name
+    (Both SpellsType
+    (Both (Optional (Both (Word keyword.Collate) (Reads (codes "LATIN1_GENERAL_BIN2")))) (Both (Optional SpellsEncryption) (Both (Optional SpellsNullity) (Optional (Word keyword.Unique)))))))
 
 -- UNIQUE ( name {, name} )
 abbrev pub SpellsUnique : Spelling UniqueSpec
@@ -201,7 +205,10 @@ SpellsCreateTable = Made make.create_table (Made make.behind (Both (Word keyword
 
 -- CREATE COLUMN MASTER KEY name WITH ( .. )
 abbrev pub SpellsCreateMaster : Spelling Statement
-SpellsCreateMaster = Made make.create_master (Made make.behind (Both (Reads (codes "MASTER")) (Made make.behind (Both (Word keyword.Key) (Both Name (Made make.behind (Both (Word keyword.With) (Made make.path_in (InParens (Listed SpellsMasterSetting))))))))))
+SpellsCreateMaster = Made make.create_master
+    (Made make.behind
+    (Both (Reads (codes "MASTER"))
+    (Made make.behind (Both (Word keyword.Key) (Both Name (Made make.behind (Both (Word keyword.With) (Made make.path_in (InParens (Listed SpellsMasterSetting))))))))))
 
 abbrev pub SpellsWrappedSetting : Spelling (KeySetting (List ℕ))
 SpellsWrappedSetting = SpellsKeySetting (codes "COLUMN_MASTER_KEY") (codes "AES_256_KW") (codes "ENCRYPTED_VALUE") Binary
@@ -216,7 +223,10 @@ SpellsKeyValues = Made make.one_or_two (Both SpellsKeyValue (Optional (BehindCom
 
 -- CREATE COLUMN ENCRYPTION KEY name WITH VALUES value [, value]
 abbrev pub SpellsCreateKey : Spelling Statement
-SpellsCreateKey = Made make.create_key (Made make.behind (Both (Reads (codes "ENCRYPTION")) (Made make.behind (Both (Word keyword.Key) (Both Name (Made make.behind (Both (Word keyword.With) (Made make.behind (Both (Word keyword.Values) SpellsKeyValues)))))))))
+SpellsCreateKey = Made make.create_key
+    (Made make.behind
+    (Both (Reads (codes "ENCRYPTION"))
+    (Made make.behind (Both (Word keyword.Key) (Both Name (Made make.behind (Both (Word keyword.With) (Made make.behind (Both (Word keyword.Values) SpellsKeyValues)))))))))
 
 abbrev pub SpellsCreate : Spelling Statement
 SpellsCreate = Made make.behind (Both (Word keyword.Create) (Either SpellsCreateTable (Made make.behind (Both (Word keyword.Column) (Either SpellsCreateMaster SpellsCreateKey)))))
@@ -235,18 +245,24 @@ SpellsDropValue = Made make.drops (Made make.behind (Both (Word keyword.Drop) (M
 
 -- COLUMN ENCRYPTION KEY name (ADD VALUE value | DROP VALUE ( .. ))
 abbrev pub SpellsAlterKey : Spelling Statement
-SpellsAlterKey = Made make.alter_key (Made make.behind (Both (Word keyword.Column) (Made make.behind (Both (Reads (codes "ENCRYPTION")) (Made make.behind (Both (Word keyword.Key) (Both Name (Either SpellsAddValue SpellsDropValue))))))))
+SpellsAlterKey = Made make.alter_key
+    (Made make.behind
+    (Both (Word keyword.Column) (Made make.behind (Both (Reads (codes "ENCRYPTION")) (Made make.behind (Both (Word keyword.Key) (Both Name (Either SpellsAddValue SpellsDropValue))))))))
 
 -- TABLE name REPLACE BY name
 abbrev pub SpellsReplaceTable : Spelling Statement
-SpellsReplaceTable = Made make.replace_table (Made make.behind (Both (Word keyword.Table) (Both Name (Made make.behind (Both (Reads (codes "REPLACE")) (Made make.behind (Both (Word keyword.By) Name)))))))
+SpellsReplaceTable = Made make.replace_table
+    (Made make.behind (Both (Word keyword.Table) (Both Name (Made make.behind (Both (Reads (codes "REPLACE")) (Made make.behind (Both (Word keyword.By) Name)))))))
 
 -- ALTER TABLE name REPLACE BY name | ALTER COLUMN ENCRYPTION KEY name (ADD VALUE value | DROP VALUE ( .. ))
 abbrev pub SpellsAlter : Spelling Statement
 SpellsAlter = Made make.behind (Both (Word keyword.Alter) (Either SpellsReplaceTable SpellsAlterKey))
 
 abbrev pub SpellsDropColumn : Spelling Statement
-SpellsDropColumn = Made make.behind (Both (Word keyword.Column) (Either (Made make.drop_master (Made make.behind (Both (Reads (codes "MASTER")) (Made make.behind (Both (Word keyword.Key) Name))))) (Made make.drop_key (Made make.behind (Both (Reads (codes "ENCRYPTION")) (Made make.behind (Both (Word keyword.Key) Name)))))))
+SpellsDropColumn = Made make.behind
+    (Both (Word keyword.Column)
+    (Either (Made make.drop_master (Made make.behind (Both (Reads (codes "MASTER")) (Made make.behind (Both (Word keyword.Key) Name)))))
+    (Made make.drop_key (Made make.behind (Both (Reads (codes "ENCRYPTION")) (Made make.behind (Both (Word keyword.Key) Name)))))))
 
 -- DROP TABLE name | DROP COLUMN MASTER KEY name | DROP COLUMN ENCRYPTION KEY name
 abbrev pub SpellsDrop : Spelling Statement
@@ -258,7 +274,10 @@ SpellsRow = Made make.row_of (Both (Sign symbol.Open) (Both (Listed SpellsOperan
 
 -- INSERT [INTO] name [( name {, name} )] VALUES row {, row}
 abbrev pub SpellsInsert : Spelling Statement
-SpellsInsert = Made make.insert (Made make.behind (Both (Word keyword.Insert) (Made make.behind (Both (Optional (Word keyword.Into)) (Both Name (Both (Optional (InParens (Listed Name))) (Made make.behind (Both (Word keyword.Values) (Listed SpellsRow)))))))))
+SpellsInsert = Made make.insert
+    (Made make.behind
+    (Both (Word keyword.Insert)
+    (Made make.behind (Both (Optional (Word keyword.Into)) (Both Name (Both (Optional (InParens (Listed Name))) (Made make.behind (Both (Word keyword.Values) (Listed SpellsRow)))))))))
 
 -- [WHERE cond]
 abbrev pub SpellsFilter : Spelling (Option Condition)

@@ -215,7 +215,9 @@ type = made make.type_of (both name (optional (terminal.Sign symbol.Open ∷ [])
 
 -- KEY_STORE_PROVIDER_NAME = 'KEYFILE' | KEY_PATH = text
 abbrev pub master_setting : Reading MasterSetting
-master_setting = choice_by (next_reads (codes "KEY_STORE_PROVIDER_NAME")) (made make.provider (both (reads (codes "KEY_STORE_PROVIDER_NAME")) (both (sign symbol.Equal) (is_text (codes "KEYFILE"))))) (made make.path (both (reads (codes "KEY_PATH")) (both (sign symbol.Equal) text)))
+master_setting = choice_by (next_reads (codes "KEY_STORE_PROVIDER_NAME"))
+    (made make.provider (both (reads (codes "KEY_STORE_PROVIDER_NAME")) (both (sign symbol.Equal) (is_text (codes "KEYFILE")))))
+    (made make.path (both (reads (codes "KEY_PATH")) (both (sign symbol.Equal) text)))
 
 abbrev pub key_name : {V : Type 0} → List ℕ → Reading (KeySetting V)
 key_name key = made make.key_setting (both (reads key) (both (sign symbol.Equal) name))
@@ -225,7 +227,8 @@ algorithm text = made make.algorithm_setting (both (reads (codes "ALGORITHM")) (
 
 -- KEY = name | ALGORITHM = '..' | VALUE = what it is
 abbrev pub key_setting : {V : Type 0} → List ℕ → List ℕ → List ℕ → Reading V → Reading (KeySetting V)
-key_setting key text value r = choice_by (next_reads key) (key_name key) (choice_by (next_reads (codes "ALGORITHM")) (algorithm text) (made make.value_setting (both (reads value) (both (sign symbol.Equal) r))))
+key_setting key text value r = choice_by (next_reads key) (key_name key)
+    (choice_by (next_reads (codes "ALGORITHM")) (algorithm text) (made make.value_setting (both (reads value) (both (sign symbol.Equal) r))))
 
 -- kind := DETERMINISTIC | RANDOMIZED
 abbrev pub encryption_kind : Reading EncryptionKind
@@ -244,7 +247,12 @@ nullity = choice (terminal.Word keyword.Null ∷ []) (made make.nullable (word k
 
 -- column := name type [COLLATE Latin1_General_BIN2] [ENCRYPTED WITH ( .. )] [NULL | NOT NULL] [UNIQUE]
 abbrev pub column : Reading ColumnSpec
-column = made make.column_of (both name (both type (both (optional (terminal.Word keyword.Collate ∷ []) (both (word keyword.Collate) (reads (codes "LATIN1_GENERAL_BIN2")))) (both (optional (terminal.Ident ∷ []) encryption) (both (optional (terminal.Word keyword.Null ∷ terminal.Word keyword.Not ∷ []) nullity) (optional (terminal.Word keyword.Unique ∷ []) (word keyword.Unique)))))))
+column = made make.column_of
+    (both name
+    (both type
+    (both (optional (terminal.Word keyword.Collate ∷ []) (both (word keyword.Collate) (reads (codes "LATIN1_GENERAL_BIN2"))))
+    (both (optional (terminal.Ident ∷ []) encryption)
+    (both (optional (terminal.Word keyword.Null ∷ terminal.Word keyword.Not ∷ []) nullity) (optional (terminal.Word keyword.Unique ∷ []) (word keyword.Unique)))))))
 
 -- UNIQUE ( name {, name} )
 abbrev pub unique : Reading UniqueSpec
@@ -265,7 +273,9 @@ create_table = made make.create_table (made make.behind (both (word keyword.Tabl
 
 -- CREATE COLUMN MASTER KEY name WITH ( .. )
 abbrev pub create_master : Reading Statement
-create_master = made make.create_master (made make.behind (both (reads (codes "MASTER")) (made make.behind (both (word keyword.Key) (both name (made make.behind (both (word keyword.With) (made make.path_in (in_parens (listed master_setting))))))))))
+create_master = made make.create_master
+    (made make.behind
+    (both (reads (codes "MASTER")) (made make.behind (both (word keyword.Key) (both name (made make.behind (both (word keyword.With) (made make.path_in (in_parens (listed master_setting))))))))))
 
 abbrev pub wrapped_setting : Reading (KeySetting (List ℕ))
 wrapped_setting = key_setting (codes "COLUMN_MASTER_KEY") (codes "AES_256_KW") (codes "ENCRYPTED_VALUE") binary
@@ -283,10 +293,15 @@ key_values = made make.one_or_two (both key_value second_key_value)
 
 -- CREATE COLUMN ENCRYPTION KEY name WITH VALUES value [, value]
 abbrev pub create_key : Reading Statement
-create_key = made make.create_key (made make.behind (both (reads (codes "ENCRYPTION")) (made make.behind (both (word keyword.Key) (both name (made make.behind (both (word keyword.With) (made make.behind (both (word keyword.Values) key_values)))))))))
+create_key = made make.create_key
+    (made make.behind
+    (both (reads (codes "ENCRYPTION"))
+    (made make.behind (both (word keyword.Key) (both name (made make.behind (both (word keyword.With) (made make.behind (both (word keyword.Values) key_values)))))))))
 
 abbrev pub create : Reading Statement
-create = made make.behind (both (word keyword.Create) (choice (terminal.Word keyword.Table ∷ []) create_table (made make.behind (both (word keyword.Column) (choice_by (next_reads (codes "MASTER")) create_master create_key)))))
+create = made make.behind
+    (both (word keyword.Create)
+    (choice (terminal.Word keyword.Table ∷ []) create_table (made make.behind (both (word keyword.Column) (choice_by (next_reads (codes "MASTER")) create_master create_key)))))
 
 -- COLUMN_MASTER_KEY = name
 abbrev pub master_name : Reading (List ℕ)
@@ -302,7 +317,10 @@ drop_value = made make.drops (made make.behind (both (word keyword.Drop) (made m
 
 -- COLUMN ENCRYPTION KEY name (ADD VALUE value | DROP VALUE ( .. ))
 abbrev pub alter_key : Reading Statement
-alter_key = made make.alter_key (made make.behind (both (word keyword.Column) (made make.behind (both (reads (codes "ENCRYPTION")) (made make.behind (both (word keyword.Key) (both name (choice (terminal.Word keyword.Add ∷ []) add_value drop_value))))))))
+alter_key = made make.alter_key
+    (made make.behind
+    (both (word keyword.Column)
+    (made make.behind (both (reads (codes "ENCRYPTION")) (made make.behind (both (word keyword.Key) (both name (choice (terminal.Word keyword.Add ∷ []) add_value drop_value))))))))
 
 -- TABLE name REPLACE BY name
 abbrev pub replace_table : Reading Statement
@@ -313,7 +331,11 @@ abbrev pub alter : Reading Statement
 alter = made make.behind (both (word keyword.Alter) (choice (terminal.Word keyword.Table ∷ []) replace_table alter_key))
 
 abbrev pub drop_column : Reading Statement
-drop_column = made make.behind (both (word keyword.Column) (choice_by (next_reads (codes "MASTER")) (made make.drop_master (made make.behind (both (reads (codes "MASTER")) (made make.behind (both (word keyword.Key) name))))) (made make.drop_key (made make.behind (both (reads (codes "ENCRYPTION")) (made make.behind (both (word keyword.Key) name)))))))
+drop_column = made make.behind
+    (both (word keyword.Column)
+    (choice_by (next_reads (codes "MASTER"))
+    (made make.drop_master (made make.behind (both (reads (codes "MASTER")) (made make.behind (both (word keyword.Key) name)))))
+    (made make.drop_key (made make.behind (both (reads (codes "ENCRYPTION")) (made make.behind (both (word keyword.Key) name)))))))
 
 -- DROP TABLE name | DROP COLUMN MASTER KEY name | DROP COLUMN ENCRYPTION KEY name
 abbrev pub drop : Reading Statement
@@ -325,7 +347,12 @@ row = made make.row_of (both (sign symbol.Open) (both (listed operand) (sign sym
 
 -- INSERT [INTO] name [( name {, name} )] VALUES row {, row}
 abbrev pub insert : Reading Statement
-insert = made make.insert (made make.behind (both (word keyword.Insert) (made make.behind (both (optional (terminal.Word keyword.Into ∷ []) (word keyword.Into)) (both name (both (optional (terminal.Sign symbol.Open ∷ []) (in_parens (listed name))) (made make.behind (both (word keyword.Values) (listed row)))))))))
+insert = made make.insert
+    (made make.behind
+    (both (word keyword.Insert)
+    (made make.behind
+    (both (optional (terminal.Word keyword.Into ∷ []) (word keyword.Into))
+    (both name (both (optional (terminal.Sign symbol.Open ∷ []) (in_parens (listed name))) (made make.behind (both (word keyword.Values) (listed row)))))))))
 
 -- [WHERE cond]
 abbrev pub filter : Reading (Option Condition)
@@ -396,7 +423,9 @@ tail = made make.behind (both (word keyword.From) (both source (both (many (term
 
 -- SELECT [DISTINCT] [TOP top] items FROM ..
 abbrev pub select : Reading Statement
-select = made make.select (made make.behind (both (word keyword.Select) (both (optional (terminal.Word keyword.Distinct ∷ []) (word keyword.Distinct)) (both (optional (terminal.Word keyword.Top ∷ []) top) (both items tail)))))
+select = made make.select
+    (made make.behind
+    (both (word keyword.Select) (both (optional (terminal.Word keyword.Distinct ∷ []) (word keyword.Distinct)) (both (optional (terminal.Word keyword.Top ∷ []) top) (both items tail)))))
 
 -- BEGIN TRANSACTION
 abbrev pub begin : Reading Statement
@@ -414,7 +443,11 @@ abbrev pub control : Reading Statement
 control = choice (terminal.Word keyword.Begin ∷ []) begin (choice (terminal.Word keyword.Commit ∷ []) commit rollback)
 
 abbrev pub body : Reading Statement
-body = choice (terminal.Word keyword.Create ∷ []) create (choice (terminal.Word keyword.Alter ∷ []) alter (choice (terminal.Word keyword.Drop ∷ []) drop (choice (terminal.Word keyword.Insert ∷ []) insert (choice (terminal.Word keyword.Update ∷ []) update (choice (terminal.Word keyword.Delete ∷ []) delete (choice (terminal.Word keyword.Select ∷ []) select control))))))
+body = choice (terminal.Word keyword.Create ∷ []) create
+    (choice (terminal.Word keyword.Alter ∷ []) alter
+    (choice (terminal.Word keyword.Drop ∷ []) drop
+    (choice (terminal.Word keyword.Insert ∷ []) insert
+    (choice (terminal.Word keyword.Update ∷ []) update (choice (terminal.Word keyword.Delete ∷ []) delete (choice (terminal.Word keyword.Select ∷ []) select control))))))
 
 -- statement := body [;]
 abbrev pub statement : Reading Statement

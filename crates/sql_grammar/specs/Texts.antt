@@ -1,5 +1,31 @@
 -- What a text parses to: the statement that its tokens spell, or its first fault.
-use Rattle.std.specs.Prelude.{ℕ, ◌+◌, ◌-◌, List, [], ◌∷◌, length, count_by, is_some, Option, Some, None, Result, Ok, Err, Bool, false, ◌||◌, not, nat_lt, nat_le, ◌&&◌, suc, if◌then◌else◌, encode_utf8_all}
+use Rattle.std.specs.Prelude.{
+  ℕ,
+  ◌+◌,
+  ◌-◌,
+  List,
+  [],
+  ◌∷◌,
+  length,
+  count_by,
+  is_some,
+  Option,
+  Some,
+  None,
+  Result,
+  Ok,
+  Err,
+  Bool,
+  false,
+  ◌||◌,
+  not,
+  nat_lt,
+  nat_le,
+  ◌&&◌,
+  suc,
+  if◌then◌else◌,
+  encode_utf8_all,
+}
 use Rattle.std.specs.List.{list_all, list_any}
 use Rattle.ae_base.specs.OneOrTwo.{each_of}
 use Rattle.ae_base.specs.Options.{◌>>=◌}

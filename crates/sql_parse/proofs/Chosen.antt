@@ -42,27 +42,35 @@ is_drop tokens c a d = away (is_next keyword.Create) create or_alter tokens c �
 changes : (tokens : List Token) → is_next keyword.Create tokens ≡ false → is_next keyword.Alter tokens ≡ false → is_next keyword.Drop tokens ≡ false → body tokens ≡ or_insert tokens
 changes tokens c a d = away (is_next keyword.Create) create or_alter tokens c ∙ away (is_next keyword.Alter) alter or_drop tokens a ∙ away (is_next keyword.Drop) drop or_insert tokens d
 
-pub is_insert : (tokens : List Token) → is_next keyword.Create tokens ≡ false → is_next keyword.Alter tokens ≡ false → is_next keyword.Drop tokens ≡ false → is_next keyword.Insert tokens ≡ true → body tokens ≡ insert tokens
+pub is_insert : (tokens : List Token) → is_next keyword.Create tokens ≡ false → is_next keyword.Alter tokens ≡ false
+    → is_next keyword.Drop tokens ≡ false → is_next keyword.Insert tokens ≡ true → body tokens ≡ insert tokens
 is_insert tokens c a d i = changes tokens c a d ∙ here (is_next keyword.Insert) insert or_update tokens i
 
-pub is_update : (tokens : List Token) → is_next keyword.Create tokens ≡ false → is_next keyword.Alter tokens ≡ false → is_next keyword.Drop tokens ≡ false → is_next keyword.Insert tokens ≡ false → is_next keyword.Update tokens ≡ true
+pub is_update : (tokens : List Token) → is_next keyword.Create tokens ≡ false → is_next keyword.Alter tokens ≡ false
+    → is_next keyword.Drop tokens ≡ false → is_next keyword.Insert tokens ≡ false → is_next keyword.Update tokens ≡ true
     → body tokens ≡ update tokens
 is_update tokens c a d i u = changes tokens c a d ∙ away (is_next keyword.Insert) insert or_update tokens i ∙ here (is_next keyword.Update) update or_delete tokens u
 
-pub is_delete : (tokens : List Token) → is_next keyword.Create tokens ≡ false → is_next keyword.Alter tokens ≡ false → is_next keyword.Drop tokens ≡ false → is_next keyword.Insert tokens ≡ false → is_next keyword.Update tokens ≡ false
+pub is_delete : (tokens : List Token) → is_next keyword.Create tokens ≡ false → is_next keyword.Alter tokens ≡ false
+    → is_next keyword.Drop tokens ≡ false → is_next keyword.Insert tokens ≡ false → is_next keyword.Update tokens ≡ false
     → is_next keyword.Delete tokens ≡ true → body tokens ≡ delete tokens
-is_delete tokens c a d i u l = changes tokens c a d ∙ away (is_next keyword.Insert) insert or_update tokens i ∙ away (is_next keyword.Update) update or_delete tokens u ∙ here (is_next keyword.Delete) delete or_select tokens l
+is_delete tokens c a d i u l = changes tokens c a d ∙ away (is_next keyword.Insert) insert or_update tokens i
+    ∙ away (is_next keyword.Update) update or_delete tokens u ∙ here (is_next keyword.Delete) delete or_select tokens l
 
 -- no statement that defines or changes
-asks : (tokens : List Token) → is_next keyword.Create tokens ≡ false → is_next keyword.Alter tokens ≡ false → is_next keyword.Drop tokens ≡ false → is_next keyword.Insert tokens ≡ false → is_next keyword.Update tokens ≡ false
+asks : (tokens : List Token) → is_next keyword.Create tokens ≡ false → is_next keyword.Alter tokens ≡ false
+    → is_next keyword.Drop tokens ≡ false → is_next keyword.Insert tokens ≡ false → is_next keyword.Update tokens ≡ false
     → is_next keyword.Delete tokens ≡ false → body tokens ≡ or_select tokens
-asks tokens c a d i u l = changes tokens c a d ∙ away (is_next keyword.Insert) insert or_update tokens i ∙ away (is_next keyword.Update) update or_delete tokens u ∙ away (is_next keyword.Delete) delete or_select tokens l
+asks tokens c a d i u l = changes tokens c a d ∙ away (is_next keyword.Insert) insert or_update tokens i ∙ away
+    (is_next keyword.Update) update or_delete tokens u ∙ away (is_next keyword.Delete) delete or_select tokens l
 
-pub is_select : (tokens : List Token) → is_next keyword.Create tokens ≡ false → is_next keyword.Alter tokens ≡ false → is_next keyword.Drop tokens ≡ false → is_next keyword.Insert tokens ≡ false → is_next keyword.Update tokens ≡ false
+pub is_select : (tokens : List Token) → is_next keyword.Create tokens ≡ false → is_next keyword.Alter tokens ≡ false
+    → is_next keyword.Drop tokens ≡ false → is_next keyword.Insert tokens ≡ false → is_next keyword.Update tokens ≡ false
     → is_next keyword.Delete tokens ≡ false → is_next keyword.Select tokens ≡ true → body tokens ≡ select tokens
 is_select tokens c a d i u l s = asks tokens c a d i u l ∙ here (is_next keyword.Select) select control tokens s
 
-pub is_control : (tokens : List Token) → is_next keyword.Create tokens ≡ false → is_next keyword.Alter tokens ≡ false → is_next keyword.Drop tokens ≡ false → is_next keyword.Insert tokens ≡ false → is_next keyword.Update tokens ≡ false
+pub is_control : (tokens : List Token) → is_next keyword.Create tokens ≡ false → is_next keyword.Alter tokens ≡ false
+    → is_next keyword.Drop tokens ≡ false → is_next keyword.Insert tokens ≡ false → is_next keyword.Update tokens ≡ false
     → is_next keyword.Delete tokens ≡ false → is_next keyword.Select tokens ≡ false → body tokens ≡ control tokens
 is_control tokens c a d i u l s = asks tokens c a d i u l ∙ away (is_next keyword.Select) select control tokens s
 

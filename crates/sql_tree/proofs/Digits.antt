@@ -60,7 +60,8 @@ pub digits_some : (bytes : List ℕ) → is_digit (slice_index bytes 0) ≡ true
 digits_some [] h = absurd (cc)
 digits_some (b ∷ bytes) h = rw (take_while-cons is_digit b bytes, h) (omega arith)
 
-pub number_read : (bytes digits : List ℕ) → digits ≡ take_while is_digit bytes → begins_word (slice_index bytes (length digits)) ≡ false → number_front bytes ≡ Some (lexeme.Number (value_of_digits digits), length digits)
+pub number_read : (bytes digits : List ℕ) → digits ≡ take_while is_digit bytes → begins_word (slice_index bytes (length digits)) ≡ false
+    → number_front bytes ≡ Some (lexeme.Number (value_of_digits digits), length digits)
 number_read bytes digits e h =
     let P : List ℕ → Type 0 = λ ds. begins_word (slice_index bytes (length ds)) ≡ false in
     let stop : begins_word (slice_index bytes (length (take_while is_digit bytes))) ≡ false = subst P e h in

@@ -1,5 +1,38 @@
 -- How far the tokens of a text are read.
-use Rattle.std.proofs.Common.{◌≡◌, ℕ, zero, suc, ◌+◌, ◌-◌, ◌<◌, ◌≤◌, nat_lt, Bool, true, false, List, [], ◌∷◌, ◌++◌, length, get_or, drop, Option, Some, None, MatchOption, if◌then◌else◌, refl, sym, ◌∙◌, ap, arith, add-zero, sub-one, append_assoc}
+use Rattle.std.proofs.Common.{
+  ◌≡◌,
+  ℕ,
+  zero,
+  suc,
+  ◌+◌,
+  ◌-◌,
+  ◌<◌,
+  ◌≤◌,
+  nat_lt,
+  Bool,
+  true,
+  false,
+  List,
+  [],
+  ◌∷◌,
+  ◌++◌,
+  length,
+  get_or,
+  drop,
+  Option,
+  Some,
+  None,
+  MatchOption,
+  if◌then◌else◌,
+  refl,
+  sym,
+  ◌∙◌,
+  ap,
+  arith,
+  add-zero,
+  sub-one,
+  append_assoc,
+}
 use Rattle.std.specs.Option.{option_map, option_or}
 use Rattle.std.proofs.lemmas.List.{drop_more, drop_all, drop-drop, append-nil}
 use Rattle.std.proofs.lemmas.Bool.{lt-ltb}
@@ -82,7 +115,8 @@ pub so_far_nothing : (most : ℕ) (bytes : List ℕ) (at : ℕ) (list : List Tok
     → at < length bytes → passed_over (drop at bytes) ≡ 0 → front (drop at bytes) ≡ None → tokens_of bytes ≡ None
 so_far_nothing most bytes at list first s within blank e =
     let next : tokens_from at 0 (drop at bytes) ≡ None =
-    ap (tokens_from at 0) (drop_more bytes at 0 within) ∙ read_nothing at (get_or bytes at 0) (drop (at + 1) bytes) (sym (ap passed_over (drop_more bytes at 0 within)) ∙ blank) (sym (ap front (drop_more bytes at 0 within)) ∙ e) in
+    ap (tokens_from at 0) (drop_more bytes at 0 within) ∙ read_nothing at (get_or bytes at 0) (drop (at + 1) bytes)
+    (sym (ap passed_over (drop_more bytes at 0 within)) ∙ blank) (sym (ap front (drop_more bytes at 0 within)) ∙ e) in
     s.ahead ∙ ap (with_front s.tokens) next
 
 -- a token of so many bytes: the tokens, and what is left

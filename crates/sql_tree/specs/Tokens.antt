@@ -1,5 +1,37 @@
 -- The tokens of a text: at each place the longest one, with blanks and comments between.
-use Rattle.std.specs.Prelude.{ℕ, zero, suc, ◌+◌, ◌-◌, ◌*◌, List, [], ◌∷◌, length, drop, take_while, fold, Bool, false, ◌&&◌, ◌||◌, not, nat_lt, nat_le, ◌==◌, if◌then◌else◌, codes, map, Option, Some, None, Result, Ok, Err, slice_index}
+use Rattle.std.specs.Prelude.{
+  ℕ,
+  zero,
+  suc,
+  ◌+◌,
+  ◌-◌,
+  ◌*◌,
+  List,
+  [],
+  ◌∷◌,
+  length,
+  drop,
+  take_while,
+  fold,
+  Bool,
+  false,
+  ◌&&◌,
+  ◌||◌,
+  not,
+  nat_lt,
+  nat_le,
+  ◌==◌,
+  if◌then◌else◌,
+  codes,
+  map,
+  Option,
+  Some,
+  None,
+  Result,
+  Ok,
+  Err,
+  slice_index,
+}
 use Rattle.std.specs.Option.{option_map, option_and_then}
 use Rattle.std.specs.Char.{to_ascii_uppercase}
 use Rattle.std.specs.Str.{bytes_eq, chars, is_utf8}

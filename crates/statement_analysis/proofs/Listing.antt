@@ -1,5 +1,34 @@
 -- The keys that a message lists are those that its encryptions use, and the catalog has them all.
-use Rattle.std.proofs.Common.{◌≡◌, inl, inr, ℕ, ◌+◌, ◌≤◌, Bool, true, false, eqb, ◌||◌, List, [], ◌∷◌, ◌++◌, length, map, Option, Some, None, refl, sym, ap, ◌∙◌, subst, arith, if◌then◌else◌, length-append}
+use Rattle.std.proofs.Common.{
+  ◌≡◌,
+  inl,
+  inr,
+  ℕ,
+  ◌+◌,
+  ◌≤◌,
+  Bool,
+  true,
+  false,
+  eqb,
+  ◌||◌,
+  List,
+  [],
+  ◌∷◌,
+  ◌++◌,
+  length,
+  map,
+  Option,
+  Some,
+  None,
+  refl,
+  sym,
+  ap,
+  ◌∙◌,
+  subst,
+  arith,
+  if◌then◌else◌,
+  length-append,
+}
 use Rattle.std.specs.Prelude.{IsSome, flat_map}
 use Rattle.std.specs.List.{All, list_any, find}
 use Rattle.std.specs.Option.{option_map, option_and_then}
@@ -137,7 +166,8 @@ left_nothing (id ∷ ids) = let e = left_nothing ids in omega (arith, e)
 found_id : (keys : List ColumnKey) (id : ℕ) (key : ColumnKey) → find (λ (k : ColumnKey). eqb k.id id) keys ≡ Some key → key.id ≡ id
 found_id [] id key e = absurd cc
 found_id (k ∷ keys) id key e = elim (eqb_tells k.id id) [
-  | inl t ↦ let h = t.0 in let f : Some k ≡ Some key = sym (ap (λ b. if b then Some k else find (λ (k : ColumnKey). eqb k.id id) keys) h) ∙ e in let g : k ≡ key = cc in sym (ap (λ (k : ColumnKey). k.id) g) ∙ t.1
+  | inl t ↦ let h = t.0 in let f : Some k ≡ Some key = sym (ap (λ b. if b then Some k else find (λ (k : ColumnKey). eqb k.id id) keys) h)
+      ∙ e in let g : k ≡ key = cc in sym (ap (λ (k : ColumnKey). k.id) g) ∙ t.1
   | inr n ↦ let h = n.0 in found_id keys id key (sym (ap (λ b. if b then Some k else find (λ (k : ColumnKey). eqb k.id id) keys) h) ∙ e)
 ]
 

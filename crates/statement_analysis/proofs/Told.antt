@@ -32,6 +32,10 @@ module _ (catalog : Catalog) (declarations : List ParamDecl) (meant : Meant) (pa
   pub told_differ : IsTrue (all_differ (declared_names declarations)) → IsTrue (all_differ (names_of params))
   told_differ differ = subst (λ ps. IsTrue (all_differ (names_of ps))) (sym is) (used_differ 0 meant.bound declarations meant.encs differ)
 
-  pub description_is : (keys : List KeyMeta) (version : ℕ) (d : Description) → version ≡ catalog.version → keys ≡ keys_of catalog (encs_of params) → d ≡ record { version = version; keys = keys; params = params }
+  pub description_is : (keys : List KeyMeta) (version : ℕ) (d : Description) → version ≡ catalog.version → keys ≡ keys_of catalog (encs_of params) → d ≡ record {
+    version = version;
+    keys = keys;
+    params = params;
+  }
       → d ≡ description catalog declarations meant
   description_is keys version d v k e = rw (e, v, k, is) refl

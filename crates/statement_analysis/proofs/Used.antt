@@ -60,7 +60,8 @@ used_differ place b (d ∷ ds) (e ∷ es) h =
     (absent_used d.name (place + 1) b ds es (not-true (list_any (bytes_eq d.name) (declared_names ds)) p.0)) (used_differ (place + 1) b ds es p.1)
 
 -- what holds of each parameter's encryption holds of those that are used
-with_one : (P : Enc → Type 0) (name : List ℕ) (enc : Enc) (rest : List UsedParam) (is : Bool) → P enc → All P (encs_of rest) → All P (encs_of (if is then record { name = name; enc = enc } ∷ rest else rest))
+with_one : (P : Enc → Type 0) (name : List ℕ) (enc : Enc) (rest : List UsedParam) (is : Bool) → P enc
+    → All P (encs_of rest) → All P (encs_of (if is then record { name = name; enc = enc } ∷ rest else rest))
 with_one P name enc rest true p a = All-cons P enc (encs_of rest) p a
 with_one P name enc rest false p a = a
 

@@ -55,7 +55,8 @@ module _ (sets : List BoundAssignment) (first : is_set sets 0 ≡ true) where
   pub are_kept : (rows : List Row) (changes : List (Change Row)) → All IsOne rows → AreOne changes → AreKept sets rows (written rows changes)
   are_kept rows changes h new = each_kept rows (written rows changes) (written_long rows changes) h (all_written rows changes h new)
 
-pub two_changed : (none some both : List (Change Row)) (first second : Change Row) → none ≡ [] → some ≡ none ++ first ∷ [] → both ≡ some ++ second ∷ [] → IsOne first.row → IsOne second.row → AreOne both
+pub two_changed : (none some both : List (Change Row)) (first second : Change Row) → none ≡ [] → some ≡ none ++ first ∷ []
+    → both ≡ some ++ second ∷ [] → IsOne first.row → IsOne second.row → AreOne both
 two_changed none some both first second n s b f g =
     subst AreOne (sym (b ∙ ap (λ l. l ++ second ∷ []) (s ∙ ap (λ l. l ++ first ∷ []) n)))
     (All-cons (λ (c : Change Row). IsOne c.row) first (second ∷ []) f (All-cons (λ (c : Change Row). IsOne c.row) second [] g (All-nil (λ (c : Change Row). IsOne c.row))))
@@ -66,6 +67,7 @@ pub record IsColumn (held : Held) : Type 0 where
   pub key : held.keys ≡ (0 ∷ []) ∷ []
   pub narrow : All IsOne held.rows
 
-pub column_dropped : {A E : Type 0} (result : Result A E) (old new : Held) (hits : List Bool) → OnOk result (new ≡ record { keys = old.keys; rows = unhit old.rows hits }) → OnErr result (new ≡ old) → IsColumn old → IsColumn new
+pub column_dropped : {A E : Type 0} (result : Result A E) (old new : Held) (hits : List Bool)
+    → OnOk result (new ≡ record { keys = old.keys; rows = unhit old.rows hits }) → OnErr result (new ≡ old) → IsColumn old → IsColumn new
 column_dropped (Ok x) old new hits ok err h = subst IsColumn (sym ok) (record { key = h.key; narrow = all_unhit old.rows hits h.narrow })
 column_dropped (Err error) old new hits ok err h = subst IsColumn (sym err) h

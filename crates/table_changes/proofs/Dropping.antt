@@ -1,5 +1,36 @@
 -- What is asked of the rows that a look-up finds tells which of all rows a DELETE drops.
-use Rattle.std.proofs.Common.{◌≡◌, ℕ, zero, suc, ◌+◌, ◌<◌, ◌≤◌, List, [], ◌∷◌, ◌++◌, append_assoc, length, get_or, drop, refl, ap, sym, ◌∙◌, subst, arith, Bool, true, false, cond, Option, Some, Result, Ok, Err}
+use Rattle.std.proofs.Common.{
+  ◌≡◌,
+  ℕ,
+  zero,
+  suc,
+  ◌+◌,
+  ◌<◌,
+  ◌≤◌,
+  List,
+  [],
+  ◌∷◌,
+  ◌++◌,
+  append_assoc,
+  length,
+  get_or,
+  drop,
+  refl,
+  ap,
+  sym,
+  ◌∙◌,
+  subst,
+  arith,
+  Bool,
+  true,
+  false,
+  cond,
+  Option,
+  Some,
+  Result,
+  Ok,
+  Err,
+}
 use Rattle.std.specs.Prelude.{filter, ◌==◌}
 use Rattle.std.specs.List.{All}
 use Rattle.std.proofs.lemmas.Bool.Decides.{nat_tests}
@@ -25,7 +56,8 @@ abbrev Row : Type 0
 Row = List Atom
 
 -- a filter that reads so many columns reads what is there
-pub filter_wide : (width params : ℕ) (condition : Option BoundCondition) (rows : List Row) → All (λ (row : Row). length row ≡ width) rows → IsPlacedFilter width params condition → All (λ (row : Row). IsPlacedFilter (length row) params condition) rows
+pub filter_wide : (width params : ℕ) (condition : Option BoundCondition) (rows : List Row)
+    → All (λ (row : Row). length row ≡ width) rows → IsPlacedFilter width params condition → All (λ (row : Row). IsPlacedFilter (length row) params condition) rows
 filter_wide width params condition rows h placed = λ i row lt. subst (λ n. IsPlacedFilter n params condition) (sym (h i row lt)) placed
 
 -- ---- the places of the rows that are hit
@@ -80,7 +112,8 @@ module _ (f : Row → Result Tested SqlFault) (read rows : List Row) (is : read 
         rise = subst (λ m. AreRising 0 m (hit (counted 0 (length hits)) hits)) to (rising_hit 0 (0 + length hits) (counted 0 (length hits)) hits (counted_rising 0 (length hits)));
       }
 
-  pub walked_failed : {C D : Type 0} (one : C → List Tested) (other : D → List Tested) (refusal : Refusal SqlFault) → AnswersAs one (Err refusal) (each f read) → AnswersAs other (Err refusal) (each f rows)
+  pub walked_failed : {C D : Type 0} (one : C → List Tested) (other : D → List Tested) (refusal : Refusal SqlFault)
+      → AnswersAs one (Err refusal) (each f read) → AnswersAs other (Err refusal) (each f rows)
   walked_failed one other (Fault fault) h = ap (each f) (sym is) ∙ h
   walked_failed one other OutOfMemory h = tt
 
@@ -121,7 +154,8 @@ where_rising p n (row ∷ rows) = by_test (p row) (subst (λ m. AreRising (n + 1
     to : n + 1 + length rows ≡ n + suc (length rows)
     to = omega arith
 
-    by_test : (b : Bool) → AreRising (n + 1) (n + suc (length rows)) (places_where p (n + 1) rows) → AreRising n (n + suc (length rows)) (cond b (n ∷ places_where p (n + 1) rows) (places_where p (n + 1) rows))
+    by_test : (b : Bool) → AreRising (n + 1) (n + suc (length rows)) (places_where p (n + 1) rows)
+        → AreRising n (n + suc (length rows)) (cond b (n ∷ places_where p (n + 1) rows) (places_where p (n + 1) rows))
     by_test true h = (omega arith, omega arith, h)
     by_test false h = wider (n + 1) n (n + suc (length rows)) (places_where p (n + 1) rows) (omega arith) h
 
@@ -162,7 +196,8 @@ module _ (p : Row → Bool) where
       by_test false t hits long more =
           rest_unmarked hits ∙ ap (λ l. false ∷ l) (more hits long) ∙ sym (among_stay row rows hits t)
 
-  pub tested_among : (rows : List Row) (hits : List Bool) → length hits ≡ length (filter p rows) → all_tested rows (hits_among rows hits) ≡ among_others p not_hit rows (all_tested (filter p rows) hits)
+  pub tested_among : (rows : List Row) (hits : List Bool) → length hits ≡ length (filter p rows)
+      → all_tested rows (hits_among rows hits) ≡ among_others p not_hit rows (all_tested (filter p rows) hits)
   tested_among [] hits long = refl
   tested_among (row ∷ rows) hits long = by_test (p row) refl hits long (λ hs l. tested_among rows hs l)
     where
@@ -204,12 +239,14 @@ module _ (keys : List (List ℕ)) (width : ℕ) (condition : Option BoundConditi
         subst (λ m. AreRising 0 m (hit (places_where p 0 rows) hits)) to (rising_hit 0 (0 + length rows) (places_where p 0 rows) hits (where_rising p 0 rows));
   }
 
-  pub are_all_dropped : (ps : List ℕ) (read : List Row) (hits : List Bool) → ps ≡ places_where p 0 rows → read ≡ filter p rows → length hits ≡ length read → each f read ≡ Ok (all_tested read hits) → AreDropped f rows (hit ps hits)
+  pub are_all_dropped : (ps : List ℕ) (read : List Row) (hits : List Bool) → ps ≡ places_where p 0 rows
+      → read ≡ filter p rows → length hits ≡ length read → each f read ≡ Ok (all_tested read hits) → AreDropped f rows (hit ps hits)
   are_all_dropped ps read hits at is long h =
       subst (λ (qs : List ℕ). AreDropped f rows (hit qs hits)) (sym at)
       (dropped_all hits (long ∙ ap length is) (subst (λ (rs : List Row). each f rs ≡ Ok (all_tested rs hits)) is h))
 
   -- the first fault of the rows that are found is the first of all
-  pub all_hits_failed : {C D : Type 0} (one : C → List Tested) (other : D → List Tested) (read : List Row) → read ≡ filter p rows → (refusal : Refusal SqlFault) → AnswersAs one (Err refusal) (each f read) → AnswersAs other (Err refusal) (each f rows)
+  pub all_hits_failed : {C D : Type 0} (one : C → List Tested) (other : D → List Tested) (read : List Row)
+      → read ≡ filter p rows → (refusal : Refusal SqlFault) → AnswersAs one (Err refusal) (each f read) → AnswersAs other (Err refusal) (each f rows)
   all_hits_failed one other read is (Fault fault) h = deletes_found keys width params condition rows lookup e ∙ ap joined (ap (each f) (sym is) ∙ h)
   all_hits_failed one other read is OutOfMemory h = tt

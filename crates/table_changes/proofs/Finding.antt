@@ -52,7 +52,8 @@ module _ (f : Changed → Changed) (rest more : List Changed) (c : Changed) (is 
   pub there_still : (most : ℕ) → All (λ (c : Changed). c.place < most) rest → All (λ (c : Changed). c.place < most) more
   there_still most h = All-tail (λ (c : Changed). c.place < most) c more (subst (All (λ (c : Changed). c.place < most)) is h)
 
-module _ (keys : List (List ℕ)) (columns : List ColumnDef) (u : BoundUpdate) (params : Row) (rows : List Row) (lookup : Lookup) (e : lookup_of_filter keys (length columns) u.filter ≡ Some lookup) where
+module _ (keys : List (List ℕ)) (columns : List ColumnDef) (u : BoundUpdate) (params : Row) (rows : List Row)
+    (lookup : Lookup) (e : lookup_of_filter keys (length columns) u.filter ≡ Some lookup) where
   abbrev p : Row → Bool
   p = is_found params lookup []
 
@@ -93,7 +94,8 @@ module _ (keys : List (List ℕ)) (columns : List ColumnDef) (u : BoundUpdate) (
     pub changes : each f rows ≡ Ok (all_changed rows (spread 0 (length rows) (map (at_its_place ps) cs)))
     pub rise : AreRising 0 (length rows) (map (at_its_place ps) cs)
 
-  pub are_all : (ps : List ℕ) (read : List Row) (n : ℕ) (cs : List Changed) → ps ≡ places → read ≡ found → n ≡ length read → each f read ≡ Ok (all_changed read (spread 0 n cs)) → AreRising 0 n cs → AreAll ps cs
+  pub are_all : (ps : List ℕ) (read : List Row) (n : ℕ) (cs : List Changed) → ps ≡ places → read ≡ found
+      → n ≡ length read → each f read ≡ Ok (all_changed read (spread 0 n cs)) → AreRising 0 n cs → AreAll ps cs
   are_all ps read n cs at_places is long h r =
       let same : n ≡ length found = long ∙ ap length is in
       let rises = subst (λ m. AreRising 0 m cs) same r in
@@ -104,6 +106,7 @@ module _ (keys : List (List ℕ)) (columns : List ColumnDef) (u : BoundUpdate) (
       }
 
   -- the first fault of the rows that are found is the first of all
-  pub all_failed : {C D : Type 0} (one : C → List Tested) (other : D → List Tested) (read : List Row) → read ≡ found → (refusal : Refusal SqlFault) → AnswersAs one (Err refusal) (each f read) → AnswersAs other (Err refusal) (each f rows)
+  pub all_failed : {C D : Type 0} (one : C → List Tested) (other : D → List Tested) (read : List Row) → read ≡ found
+      → (refusal : Refusal SqlFault) → AnswersAs one (Err refusal) (each f read) → AnswersAs other (Err refusal) (each f rows)
   all_failed one other read is (Fault fault) h = updates_found keys (length columns) params columns u rows lookup e ∙ ap joined (ap (each f) (sym is) ∙ h)
   all_failed one other read is OutOfMemory h = tt

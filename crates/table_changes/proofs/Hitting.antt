@@ -59,7 +59,8 @@ module _ {A B : Type 0} (p : A → Bool) (f : A → Result B SqlFault) (stay : A
 -- ---- rows that aren't found
 
 module _ (keys : List (List ℕ)) (width : ℕ) (params : List Atom) where
-  unfound : (condition : Option BoundCondition) (lookup : Lookup) → lookup_of_filter keys width condition ≡ Some lookup → (row : List Atom) → is_found params lookup [] row ≡ false → selects params condition row ≡ ok_bool false
+  unfound : (condition : Option BoundCondition) (lookup : Lookup) → lookup_of_filter keys width condition ≡ Some lookup
+      → (row : List Atom) → is_found params lookup [] row ≡ false → selects params condition row ≡ ok_bool false
   unfound None lookup e row d =
       let found = given_found params 0 [] row refl width [] lookup (lookup_given 0 width [] keys lookup e) refl in
       let wrong : true ≡ false = sym found ∙ d in
@@ -93,9 +94,12 @@ listed_placed columns params (conditions.Then condition more) h = All-cons (IsPl
 
 conjuncts_placed : (columns params : ℕ) (condition : BoundCondition) → IsPlacedCondition columns params condition → All (IsPlacedCondition columns params) (conjuncts condition)
 conjuncts_placed columns params (conditions.AllOf all) h = listed_placed columns params all h
-conjuncts_placed columns params (conditions.Compare at compared left right) h = All-cons (IsPlacedCondition columns params) (conditions.Compare at compared left right) [] h (All-nil (IsPlacedCondition columns params))
-conjuncts_placed columns params (conditions.IsNull negated operand) h = All-cons (IsPlacedCondition columns params) (conditions.IsNull negated operand) [] h (All-nil (IsPlacedCondition columns params))
-conjuncts_placed columns params (conditions.In at negated operand list) h = All-cons (IsPlacedCondition columns params) (conditions.In at negated operand list) [] h (All-nil (IsPlacedCondition columns params))
+conjuncts_placed columns params (conditions.Compare at compared left right) h = All-cons (IsPlacedCondition columns params)
+    (conditions.Compare at compared left right) [] h (All-nil (IsPlacedCondition columns params))
+conjuncts_placed columns params (conditions.IsNull negated operand) h = All-cons (IsPlacedCondition columns params)
+    (conditions.IsNull negated operand) [] h (All-nil (IsPlacedCondition columns params))
+conjuncts_placed columns params (conditions.In at negated operand list) h = All-cons (IsPlacedCondition columns params)
+    (conditions.In at negated operand list) [] h (All-nil (IsPlacedCondition columns params))
 conjuncts_placed columns params (conditions.Not condition) h = All-cons (IsPlacedCondition columns params) (conditions.Not condition) [] h (All-nil (IsPlacedCondition columns params))
 conjuncts_placed columns params (conditions.AnyOf any) h = All-cons (IsPlacedCondition columns params) (conditions.AnyOf any) [] h (All-nil (IsPlacedCondition columns params))
 
@@ -103,7 +107,8 @@ parts_placed : (columns params : ℕ) (filter : Option BoundCondition) → IsPla
 parts_placed columns params None h = All-nil (IsPlacedCondition columns params)
 parts_placed columns params (Some condition) h = conjuncts_placed columns params condition h
 
-pub looked_up : (keys : List (List ℕ)) (width params : ℕ) (filter : Option BoundCondition) (lookup : Lookup) → lookup_of_filter keys width filter ≡ Some lookup → IsPlacedFilter width params filter → IsLookedUp keys params 0 width lookup
+pub looked_up : (keys : List (List ℕ)) (width params : ℕ) (filter : Option BoundCondition) (lookup : Lookup)
+    → lookup_of_filter keys width filter ≡ Some lookup → IsPlacedFilter width params filter → IsLookedUp keys params 0 width lookup
 looked_up keys width params filter lookup e h = by_test (list_all is_safe (parts filter)) e
   where
     by_test : (b : Bool) → cond b (lookup_in 0 width (parts filter) keys) None ≡ Some lookup → IsLookedUp keys params 0 width lookup

@@ -45,7 +45,8 @@ others_stay p row rows [] e = refl
 others_stay p row rows (x ∷ made) e = ap (λ b. cond b (x ∷ among_others p not_hit rows made) (not_hit row ∷ among_others p not_hit rows (x ∷ made))) e
 
 -- and one that passes is what was made of it
-pub others_made : (p : Row → Bool) (row : Row) (rows : List Row) (x : Tested) (made : List Tested) → p row ≡ true → among_others p not_hit (row ∷ rows) (x ∷ made) ≡ x ∷ among_others p not_hit rows made
+pub others_made : (p : Row → Bool) (row : Row) (rows : List Row) (x : Tested) (made : List Tested) → p row ≡ true
+    → among_others p not_hit (row ∷ rows) (x ∷ made) ≡ x ∷ among_others p not_hit rows made
 others_made p row rows x made e = ap (λ b. cond b (x ∷ among_others p not_hit rows made) (not_hit row ∷ among_others p not_hit rows (x ∷ made))) e
 
 module _ (p : Row → Bool) (at : ℕ → ℕ) where
@@ -71,7 +72,8 @@ module _ (p : Row → Bool) (at : ℕ → ℕ) where
   module _ (n j : ℕ) (row : Row) (rows : List Row) (first : at j ≡ n) (a : AreAt (n + 1) (j + 1) rows) (e : p row ≡ true)
       (rest : (cs : List Changed) → AreRising (j + 1) (j + 1 + length (filter p rows)) cs → Spreads (n + 1) (j + 1) rows cs) where
     abbrev Goes : List Changed → Type 0
-    Goes cs = all_changed (row ∷ rows) (spread n (suc (length rows)) (moved at cs)) ≡ among_others p not_hit (row ∷ rows) (all_changed (row ∷ filter p rows) (spread j (suc (length (filter p rows))) cs))
+    Goes cs = all_changed (row ∷ rows) (spread n (suc (length rows)) (moved at cs)) ≡ among_others p not_hit
+        (row ∷ rows) (all_changed (row ∷ filter p rows) (spread j (suc (length (filter p rows))) cs))
 
     -- no change is of it
     goes_by : (cs : List Changed) → AreRising (j + 1) (j + 1 + length (filter p rows)) cs → AreLater j cs → Goes cs
@@ -90,7 +92,9 @@ module _ (p : Row → Bool) (at : ℕ → ℕ) where
         ap (λ b. all_changed (row ∷ rows) (cond b (Some c.row ∷ spread (n + 1) (length rows) (moved at cs)) (None ∷ spread (n + 1) (length rows) (moved at (c ∷ cs))))) here
         ∙ ap (λ l. tested_with row (Some c.row) ∷ l) (rest cs r)
         ∙ sym (others_made p row rows (tested_with row (Some c.row)) made e)
-        ∙ sym (ap (λ b. among_others p not_hit (row ∷ rows) (all_changed (row ∷ filter p rows) (cond b (Some c.row ∷ spread (j + 1) (length (filter p rows)) cs) (None ∷ spread (j + 1) (length (filter p rows)) (c ∷ cs))))) t)
+        ∙ sym (ap
+        (λ b. among_others p not_hit (row ∷ rows)
+        (all_changed (row ∷ filter p rows) (cond b (Some c.row ∷ spread (j + 1) (length (filter p rows)) cs) (None ∷ spread (j + 1) (length (filter p rows)) (c ∷ cs))))) t)
 
     goes : (cs : List Changed) → AreRising j (j + suc (length (filter p rows))) cs → Goes cs
     goes [] r = goes_by [] tt tt
@@ -112,7 +116,8 @@ module _ (p : Row → Bool) (at : ℕ → ℕ) where
   found_spread n j (row ∷ rows) cs a r = by_test (p row) refl a r (λ j cs a r. found_spread (n + 1) j rows cs a r)
     where
       by_test : (b : Bool) → p row ≡ b
-          → ((i : ℕ) → i < length (cond b (n ∷ places_where p (n + 1) rows) (places_where p (n + 1) rows)) → at (j + i) ≡ get_or (cond b (n ∷ places_where p (n + 1) rows) (places_where p (n + 1) rows)) i 0)
+          → ((i : ℕ) → i < length (cond b (n ∷ places_where p (n + 1) rows) (places_where p (n + 1) rows))
+          → at (j + i) ≡ get_or (cond b (n ∷ places_where p (n + 1) rows) (places_where p (n + 1) rows)) i 0)
           → AreRising j (j + length (cond b (row ∷ filter p rows) (filter p rows))) cs
           → ((k : ℕ) (ds : List Changed) → AreAt (n + 1) k rows → AreRising k (k + length (filter p rows)) ds → Spreads (n + 1) k rows ds)
           → all_changed (row ∷ rows) (spread n (suc (length rows)) (moved at cs))
@@ -128,7 +133,12 @@ module _ (p : Row → Bool) (at : ℕ → ℕ) where
           ∙ sym (others_stay p row rows made e)
 
   -- they rise where those of the found rows do
-  pub rising_placed : (from to a most : ℕ) (cs : List Changed) → ((i : ℕ) → from ≤ i → i < to → a ≤ at i) → ((i k : ℕ) → i < k → k < to → at i < at k) → ((i : ℕ) → i < to → at i < most) → AreRising from to cs → AreRising a most (moved at cs)
+  pub rising_placed : (from to a most : ℕ) (cs : List Changed) → ((i : ℕ) → from ≤ i → i < to → a ≤ at i)
+      → ((i k : ℕ) → i < k → k < to → at i < at k) → ((i : ℕ) → i < to → at i < most) → AreRising from to cs → AreRising a most (moved at cs)
   rising_placed from to a most [] least up below r = tt
-  rising_placed from to a most (c ∷ cs) least up below r =
-      (least c.place r.0 r.1, below c.place r.1, rising_placed (c.place + 1) to (at c.place + 1) most cs (λ i le lt. let more = up c.place i (omega (arith, le)) lt in omega (arith, more)) up below r.2)
+  rising_placed from to a most (c ∷ cs) least up below r = (
+    least c.place r.0 r.1,
+    below c.place r.1,
+    rising_placed (c.place + 1) to (at c.place + 1) most cs
+        (λ i le lt. let more = up c.place i (omega (arith, le)) lt in omega (arith, more)) up below r.2,
+  )

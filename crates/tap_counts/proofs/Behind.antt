@@ -81,20 +81,25 @@ module _ (old mid new : Tables) (before between after : Tallied) where
         subst (Tells new) (sym (ap (seen_past classing seen) (spots_append ps qs) ∙ past_append seen (spots_of ps) (spots_of qs))) q.1,
       )
 
-  pub atom_counted : (cs : List Class) (xs longer : List Atom) (a : Atom) (n : ℕ) → longer ≡ xs ++ a ∷ [] → n ≡ length xs → Counts (row_places cs xs) old mid before between → Counts (place_at (class_at cs n) a ∷ []) mid new between after
+  pub atom_counted : (cs : List Class) (xs longer : List Atom) (a : Atom) (n : ℕ) → longer ≡ xs ++ a ∷ []
+      → n ≡ length xs → Counts (row_places cs xs) old mid before between → Counts (place_at (class_at cs n) a ∷ []) mid new between after
       → Counts (row_places cs longer) old new before after
   atom_counted cs xs longer a n e f h i =
       subst (λ l. Counts l old new before after) (sym (ap (row_places cs) e ∙ row_more cs xs a))
       (counts_on (row_places cs xs) (place_at (class_at cs (length xs)) a ∷ []) h (subst (λ m. Counts (place_at (class_at cs m) a ∷ []) mid new between after) f i))
 
-  pub row_counted : (cs : List Class) (rows longer : List (List Atom)) (row : List Atom) → longer ≡ rows ++ row ∷ [] → Counts (rows_places cs rows) old mid before between → Counts (row_places cs row) mid new between after → Counts (rows_places cs longer) old new before after
+  pub row_counted : (cs : List Class) (rows longer : List (List Atom)) (row : List Atom) → longer ≡ rows ++ row ∷ []
+      → Counts (rows_places cs rows) old mid before between → Counts (row_places cs row) mid new between after → Counts (rows_places cs longer) old new before after
   row_counted cs rows longer row e h i = subst (λ l. Counts l old new before after) (sym (ap (rows_places cs) e ∙ rows_more cs rows row)) (counts_on (rows_places cs rows) (row_places cs row) h i)
 
-  pub param_counted : (ps longer : List SentParam) (p : SentParam) → longer ≡ ps ++ p ∷ [] → Counts (params_places ps) old mid before between → Counts (place_at (class_of p.ty p.enc) p.atom ∷ []) mid new between after → Counts (params_places longer) old new before after
-  param_counted ps longer p e h i = subst (λ l. Counts l old new before after) (sym (ap params_places e ∙ params_more ps p)) (counts_on (params_places ps) (place_at (class_of p.ty p.enc) p.atom ∷ []) h i)
+  pub param_counted : (ps longer : List SentParam) (p : SentParam) → longer ≡ ps ++ p ∷ []
+      → Counts (params_places ps) old mid before between → Counts (place_at (class_of p.ty p.enc) p.atom ∷ []) mid new between after → Counts (params_places longer) old new before after
+  param_counted ps longer p e h i = subst (λ l. Counts l old new before after) (sym (ap params_places e ∙ params_more ps p))
+      (counts_on (params_places ps) (place_at (class_of p.ty p.enc) p.atom ∷ []) h i)
 
 -- all of a list were counted
-pub all_counted : {A : Type 0} (P : List A → List Place) (old new : Tables) (before after : Tallied) (part whole : List A) → part ≡ whole → Counts (P part) old new before after → Counts (P whole) old new before after
+pub all_counted : {A : Type 0} (P : List A → List Place) (old new : Tables) (before after : Tallied) (part whole : List A)
+    → part ≡ whole → Counts (P part) old new before after → Counts (P whole) old new before after
 all_counted P old new before after part whole e h = subst (λ l. Counts (P l) old new before after) e h
 
 -- ---- the protected cells among the places of a frame
@@ -106,7 +111,8 @@ row_same (c ∷ cs) (a ∷ row) = ap (λ l. atom_spots c a ++ l) (row_same cs ro
 
 rows_same : (cs : List Class) (rows : List (List Atom)) → spots_of (rows_places cs rows) ≡ rows_spots cs rows
 rows_same cs [] = refl
-rows_same cs (row ∷ rows) = spots_append (row_places cs row) (rows_places cs rows) ∙ ap (λ l. l ++ spots_of (rows_places cs rows)) (row_same cs row) ∙ ap (λ l. row_spots cs row ++ l) (rows_same cs rows)
+rows_same cs (row ∷ rows) = spots_append (row_places cs row) (rows_places cs rows) ∙ ap (λ l. l ++ spots_of (rows_places cs rows))
+    (row_same cs row) ∙ ap (λ l. row_spots cs row ++ l) (rows_same cs rows)
 
 params_same : (ps : List SentParam) → spots_of (params_places ps) ≡ params_spots ps
 params_same [] = refl

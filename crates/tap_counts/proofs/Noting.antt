@@ -32,10 +32,13 @@ was_new false there e f = absurd cc
 was_new true false e f = refl
 was_new true true e f = absurd cc
 
-module _ (t : Tallied) (ks past : List Class) (ns : List Counted) (k c : Class) (added : Bool) (n : ℕ) (shown : Shown) (view : record { classes = ks; counts = ns } ≡ t) (long : length ns ≡ length ks) (same : k ≡ c)
-    (is_added : added ≡ not (list_any (class_eq k) ks)) (keys : past ≡ (if list_any (class_eq k) ks then ks else (ks ++ k ∷ []))) (at : n ≡ position_or_len (class_eq k) ks) (within : n < length past) where
+module _ (t : Tallied) (ks past : List Class) (ns : List Counted) (k c : Class) (added : Bool) (n : ℕ)
+    (shown : Shown) (view : record { classes = ks; counts = ns } ≡ t) (long : length ns ≡ length ks) (same : k ≡ c)
+    (is_added : added ≡ not (list_any (class_eq k) ks)) (keys : past ≡ (if list_any (class_eq k) ks then ks else (ks ++ k ∷ [])))
+    (at : n ≡ position_or_len (class_eq k) ks) (within : n < length past) where
   -- the counts of the class, one more, and all others as before
-  counted : (base : List Counted) → base ≡ longer (list_any (class_eq k) ks) ns → (one new : Counted) → one ≡ get_or base n one → new ≡ noted one shown → record { classes = past; counts = slice_set base n new } ≡ tallied t c shown
+  counted : (base : List Counted) → base ≡ longer (list_any (class_eq k) ks) ns → (one new : Counted)
+      → one ≡ get_or base n one → new ≡ noted one shown → record { classes = past; counts = slice_set base n new } ≡ tallied t c shown
   counted base is one new was e =
       let there = list_any (class_eq k) ks in
       let inside : n < length base = subst (λ l. n < l) (ap length keys ∙ sym (as_long there k ks ns long) ∙ sym (ap length is)) within in
@@ -47,12 +50,14 @@ module _ (t : Tallied) (ks past : List Class) (ns : List Counted) (k c : Class) 
       ∙ ap (λ i. the_tally (wider there k ks) (slice_set (longer there ns) i (noted (get_or (longer there ns) i no_counts) shown))) at in
       classes ∙ counts ∙ ap (λ x. tallied (the_tally ks ns) x shown) same ∙ ap (λ x. tallied x c shown) view
 
-  pub noted_there : (reserved : List Counted) → reserved ≡ ns → added ≡ false → (one new : Counted) → one ≡ get_or reserved n one → new ≡ noted one shown → record { classes = past; counts = slice_set reserved n new } ≡ tallied t c shown
+  pub noted_there : (reserved : List Counted) → reserved ≡ ns → added ≡ false → (one new : Counted)
+      → one ≡ get_or reserved n one → new ≡ noted one shown → record { classes = past; counts = slice_set reserved n new } ≡ tallied t c shown
   noted_there reserved room e one new was f =
       let there : list_any (class_eq k) ks ≡ true = was_there added (list_any (class_eq k) ks) is_added e in
       counted reserved (room ∙ rw there refl) one new was f
 
-  pub noted_new : (reserved pushed : List Counted) (fresh : Counted) → reserved ≡ ns → added ≡ true → pushed ≡ reserved ++ fresh ∷ [] → fresh ≡ no_counts → (one new : Counted) → one ≡ get_or pushed n one → new ≡ noted one shown
+  pub noted_new : (reserved pushed : List Counted) (fresh : Counted) → reserved ≡ ns → added ≡ true
+      → pushed ≡ reserved ++ fresh ∷ [] → fresh ≡ no_counts → (one new : Counted) → one ≡ get_or pushed n one → new ≡ noted one shown
       → record { classes = past; counts = slice_set pushed n new } ≡ tallied t c shown
   noted_new reserved pushed fresh room e f g one new was h =
       let none : list_any (class_eq k) ks ≡ false = was_new added (list_any (class_eq k) ks) is_added e in

@@ -39,7 +39,8 @@ pub tells_free : (c : Class) → is_deterministic c ≡ false → (x : List ℕ)
 tells_free c e x t seen h = subst (Tells t) (sym (past_free c e x seen)) h
 
 -- a cell of a deterministic class
-pub shown_numbered : (c : Class) → is_deterministic c ≡ true → (x y : List ℕ) → y ≡ x → (n : ℕ) (seen : List (Spot Class)) → n ≡ number_in classing seen c y → shown.Numbered n ≡ shown_of c (Sealed x) seen
+pub shown_numbered : (c : Class) → is_deterministic c ≡ true → (x y : List ℕ) → y ≡ x → (n : ℕ) (seen : List (Spot Class))
+    → n ≡ number_in classing seen c y → shown.Numbered n ≡ shown_of c (Sealed x) seen
 shown_numbered c e x y same n seen h = rw e (ap shown.Numbered (h ∙ ap (number_in classing seen c) same))
 
 past_numbered : (c : Class) → is_deterministic c ≡ true → (x : List ℕ) (seen : List (Spot Class)) → seen_past classing seen (atom_spots c (Sealed x)) ≡ noted classing seen c x
@@ -47,7 +48,8 @@ past_numbered Open e x seen = absurd cc
 past_numbered (Det k t) e x seen = refl
 past_numbered (Rnd k t) e x seen = absurd cc
 
-pub tells_numbered : (c : Class) → is_deterministic c ≡ true → (x y : List ℕ) → y ≡ x → (t : Tables) (seen : List (Spot Class)) → Tells t (noted classing seen c y) → Tells t (seen_past classing seen (atom_spots c (Sealed x)))
+pub tells_numbered : (c : Class) → is_deterministic c ≡ true → (x y : List ℕ) → y ≡ x → (t : Tables) (seen : List (Spot Class))
+    → Tells t (noted classing seen c y) → Tells t (seen_past classing seen (atom_spots c (Sealed x)))
 tells_numbered c e x y same t seen h = subst (Tells t) (ap (noted classing seen c) same ∙ sym (past_numbered c e x seen)) h
 
 -- no cell

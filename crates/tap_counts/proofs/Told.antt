@@ -11,7 +11,22 @@ use Rattle.wire_messages.specs.declared.requests.Request.{Request}
 use Rattle.wire_messages.specs.declared.requests.Request.TheVariants.{Describe, Execute}
 use Rattle.wire_payloads.specs.declared.payloads.Payload.{Payload}
 use Rattle.wire_payloads.specs.declared.payloads.Payload.TheVariants.{One, Rows}
-use Rattle.tap_counts.specs.Counting.{Place, Tallied, cell_shown, frame_places, params_places, payload_places, place_at, request_places, row_places, rows_places, shown_of, spots_of, tallied, tallied_from}
+use Rattle.tap_counts.specs.Counting.{
+  Place,
+  Tallied,
+  cell_shown,
+  frame_places,
+  params_places,
+  payload_places,
+  place_at,
+  request_places,
+  row_places,
+  rows_places,
+  shown_of,
+  spots_of,
+  tallied,
+  tallied_from,
+}
 use Rattle.tap_counts.proofs.Behind.{spots_same}
 use Rattle.tap_listing.specs.Classes.{classing}
 use Rattle.tap_listing.specs.Frames.{atom_spots, blank_atom, blank_frame, blank_param, blank_payload, blank_request, blank_row, frame_spots}
@@ -84,7 +99,8 @@ atom_alike (Rnd k t) (Sealed x) (Sealed y) seen other ss ts e h =
 abbrev blank_place : Place → Place
 blank_place p = place_at p.class (blank_atom p.class p.atom)
 
-places_alike : (ps qs : List Place) (seen other : Cells) (t : Tallied) → map blank_place qs ≡ map blank_place ps → Alike other (spots_of qs) seen (spots_of ps) → tallied_from t qs other ≡ tallied_from t ps seen
+places_alike : (ps qs : List Place) (seen other : Cells) (t : Tallied) → map blank_place qs ≡ map blank_place ps
+    → Alike other (spots_of qs) seen (spots_of ps) → tallied_from t qs other ≡ tallied_from t ps seen
 places_alike [] [] seen other t e h = refl
 places_alike [] (q ∷ qs) seen other t e h = absurd cc
 places_alike (p ∷ ps) [] seen other t e h = absurd cc
@@ -94,12 +110,14 @@ places_alike (p ∷ ps) (q ∷ qs) seen other t e h =
     let class : q.class ≡ c = ap (λ (r : Place). r.class) front in
     let blank : blank_atom q.class q.atom ≡ blank_atom c p.atom = ap (λ (r : Place). r.atom) front in
     let same : blank_atom c q.atom ≡ blank_atom c p.atom = subst (λ d. blank_atom d q.atom ≡ blank_atom c p.atom) class blank in
-    let spots : Alike other (atom_spots c q.atom ++ spots_of qs) seen (atom_spots c p.atom ++ spots_of ps) = subst (λ d. Alike other (atom_spots d q.atom ++ spots_of qs) seen (atom_spots c p.atom ++ spots_of ps)) class h in
+    let spots : Alike other (atom_spots c q.atom ++ spots_of qs) seen (atom_spots c p.atom ++ spots_of ps) =
+    subst (λ d. Alike other (atom_spots d q.atom ++ spots_of qs) seen (atom_spots c p.atom ++ spots_of ps)) class h in
     let inner = atom_alike c p.atom q.atom seen other (spots_of ps) (spots_of qs) same spots in
     let after = seen_past classing other (atom_spots c q.atom) in
     ap (λ d. tallied_from (tallied t d (shown_of d q.atom other)) qs (seen_past classing other (atom_spots d q.atom))) class
     ∙ ap (λ (s : Shown). tallied_from (tallied t c s) qs after) inner.0
-    ∙ places_alike ps qs (seen_past classing seen (atom_spots c p.atom)) after (tallied t c (shown_of c p.atom seen)) (rest_of (blank_place q) (blank_place p) (map blank_place qs) (map blank_place ps) e) inner.1
+    ∙ places_alike ps qs (seen_past classing seen (atom_spots c p.atom)) after (tallied t c (shown_of c p.atom seen))
+    (rest_of (blank_place q) (blank_place p) (map blank_place qs) (map blank_place ps) e) inner.1
 
 -- ---- the places of a frame without its cells' bytes
 
@@ -115,7 +133,8 @@ row_blank (c ∷ cs) (a ∷ row) = ap (λ l. place_at c (blank_atom c a) ∷ l) 
 rows_blank : (cs : List Class) (rows : List (List Atom)) → rows_places cs (map (blank_row cs) rows) ≡ map blank_place (rows_places cs rows)
 rows_blank cs [] = refl
 rows_blank cs (row ∷ rows) =
-    ap (λ l. l ++ rows_places cs (map (blank_row cs) rows)) (row_blank cs row) ∙ ap (λ l. map blank_place (row_places cs row) ++ l) (rows_blank cs rows) ∙ sym (map_append (row_places cs row) (rows_places cs rows))
+    ap (λ l. l ++ rows_places cs (map (blank_row cs) rows)) (row_blank cs row) ∙ ap (λ l. map blank_place (row_places cs row) ++ l)
+    (rows_blank cs rows) ∙ sym (map_append (row_places cs row) (rows_places cs rows))
 
 params_blank : (ps : List SentParam) → params_places (map blank_param ps) ≡ map blank_place (params_places ps)
 params_blank [] = refl

@@ -1,5 +1,34 @@
 -- The table of a class, before and after a cell is seen.
-use Rattle.std.proofs.Common.{◌≡◌, ℕ, suc, ◌+◌, ◌<◌, List, [], ◌∷◌, ◌++◌, length, get_or, slice_set, refl, ap, sym, ◌∙◌, subst, arith, length-append, Bool, true, false, cond, not, Result, Ok, Err, OnOk}
+use Rattle.std.proofs.Common.{
+  ◌≡◌,
+  ℕ,
+  suc,
+  ◌+◌,
+  ◌<◌,
+  List,
+  [],
+  ◌∷◌,
+  ◌++◌,
+  length,
+  get_or,
+  slice_set,
+  refl,
+  ap,
+  sym,
+  ◌∙◌,
+  subst,
+  arith,
+  length-append,
+  Bool,
+  true,
+  false,
+  cond,
+  not,
+  Result,
+  Ok,
+  Err,
+  OnOk,
+}
 use Rattle.std.specs.Prelude.{if◌then◌else◌}
 use Rattle.std.specs.List.{list_any, position_or_len}
 use Rattle.std.specs.Str.{bytes_eq}
@@ -53,12 +82,14 @@ on_ok P Q (Err e) f h = h
 
 -- ---- the table at a class's place
 
-pub read : (ks : List Class) (ts : List (List (List ℕ))) (c : Class) (n : ℕ) (table : List (List ℕ)) → length ts ≡ length ks → n ≡ position_or_len (class_eq c) ks → n < length ks → table ≡ get_or ts n table → table ≡ table_in ks ts c
+pub read : (ks : List Class) (ts : List (List (List ℕ))) (c : Class) (n : ℕ) (table : List (List ℕ))
+    → length ts ≡ length ks → n ≡ position_or_len (class_eq c) ks → n < length ks → table ≡ get_or ts n table → table ≡ table_in ks ts c
 read [] ts c n table e at lt f = absurd (omega (arith, lt))
 read (k ∷ ks) [] c n table e at lt f = absurd (omega (arith, e))
 read (k ∷ ks) (t ∷ ts) c n table e at lt f = by (class_eq c k) refl (λ inside h. read ks ts c (position_or_len (class_eq c) ks) table (omega (arith, e)) refl inside h)
   where
-    by : (b : Bool) → class_eq c k ≡ b → (position_or_len (class_eq c) ks < length ks → table ≡ get_or ts (position_or_len (class_eq c) ks) table → table ≡ table_in ks ts c) → table ≡ cond (class_eq c k) t (table_in ks ts c)
+    by : (b : Bool) → class_eq c k ≡ b
+        → (position_or_len (class_eq c) ks < length ks → table ≡ get_or ts (position_or_len (class_eq c) ks) table → table ≡ table_in ks ts c) → table ≡ cond (class_eq c k) t (table_in ks ts c)
     by true g more = let zero_is : n ≡ 0 = at ∙ rw g refl in rw g (f ∙ ap (λ i. get_or (t ∷ ts) i table) zero_is)
     by false g more =
         let one : n ≡ suc (position_or_len (class_eq c) ks) = at ∙ rw g (omega arith) in
@@ -89,7 +120,8 @@ written (k ∷ ks) (t ∷ ts) c d n table e at lt = by (class_eq c k) refl (λ i
             let wrong : true ≡ false = sym ((class_eq-Decides c k).1 same) ∙ g in
             absurd cc
 
-    by : (b : Bool) → class_eq c k ≡ b → (position_or_len (class_eq c) ks < length ks → table_in ks (slice_set ts (position_or_len (class_eq c) ks) table) d ≡ cond (class_eq d c) table (table_in ks ts d))
+    by : (b : Bool) → class_eq c k ≡ b
+        → (position_or_len (class_eq c) ks < length ks → table_in ks (slice_set ts (position_or_len (class_eq c) ks) table) d ≡ cond (class_eq d c) table (table_in ks ts d))
         → table_in (k ∷ ks) (slice_set (t ∷ ts) n table) d ≡ cond (class_eq d c) table (cond (class_eq d k) t (table_in ks ts d))
     by true g more =
         let zero_is : n ≡ 0 = at ∙ rw g refl in

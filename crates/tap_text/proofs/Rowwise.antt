@@ -27,20 +27,23 @@ module _ (old mid new : Tables) (before text after : List ℕ) where
       )
 
 -- what is written, with fixed texts before and behind it
-pub between : (old new : Tables) (before start text after front end : List ℕ) (T : List (Spot Class) → List ℕ) (ss : List (Spot Class)) → start ≡ before ++ front → Writes T ss old new start text → after ≡ text ++ end
+pub between : (old new : Tables) (before start text after front end : List ℕ) (T : List (Spot Class) → List ℕ) (ss : List (Spot Class))
+    → start ≡ before ++ front → Writes T ss old new start text → after ≡ text ++ end
     → Writes (λ seen. (front ++ T seen) ++ end) ss old new before after
 between old new before start text after front end T ss e h f seen tells =
     let p = h seen tells in
     (f ∙ ap (λ t. t ++ end) (p.0 ∙ ap (λ s. s ++ T seen) e) ∙ simp append_assoc, p.1)
 
 -- what is written, with a fixed text before it
-pub behind_front : (old new : Tables) (before start after front : List ℕ) (T : List (Spot Class) → List ℕ) (ss : List (Spot Class)) → start ≡ before ++ front → Writes T ss old new start after → Writes (λ seen. front ++ T seen) ss old new before after
+pub behind_front : (old new : Tables) (before start after front : List ℕ) (T : List (Spot Class) → List ℕ) (ss : List (Spot Class))
+    → start ≡ before ++ front → Writes T ss old new start after → Writes (λ seen. front ++ T seen) ss old new before after
 behind_front old new before start after front T ss e h seen tells =
     let p = h seen tells in
     (p.0 ∙ ap (λ t. t ++ T seen) e ∙ append_assoc before front (T seen), p.1)
 
 -- the same text, and the same cells
-pub written_as : (old new : Tables) (before after : List ℕ) (T U : List (Spot Class) → List ℕ) (ss ts : List (Spot Class)) → ((seen : List (Spot Class)) → T seen ≡ U seen) → ss ≡ ts → Writes T ss old new before after → Writes U ts old new before after
+pub written_as : (old new : Tables) (before after : List ℕ) (T U : List (Spot Class) → List ℕ) (ss ts : List (Spot Class))
+    → ((seen : List (Spot Class)) → T seen ≡ U seen) → ss ≡ ts → Writes T ss old new before after → Writes U ts old new before after
 written_as old new before after T U ss ts e f h seen tells =
     let p = h seen tells in
     (p.0 ∙ ap (λ t. before ++ t) (e seen), subst (λ l. Tells new (seen_past classing seen l)) f p.1)
@@ -89,20 +92,23 @@ nil_text (x ∷ xs) = ap (λ l. x ∷ l) (nil_text xs)
 
 row_text_more : (page : Bool) (cs : List Class) (xs : List Atom) (a : Atom) (seen : List (Spot Class))
     → row_text page cs (xs ++ a ∷ []) seen ≡ row_text page cs xs seen ++ place_text page (class_at cs (length xs)) a (seen_past classing seen (row_spots cs xs))
-row_text_more page cs [] a seen = nil_text (place_text page (first_class cs) a seen) ∙ ap (λ c. place_text page c a seen) (first_at cs) ∙ ap (λ l. place_text page (class_at cs 0) a (seen_past classing seen l)) (sym (empty cs))
+row_text_more page cs [] a seen = nil_text (place_text page (first_class cs) a seen) ∙ ap (λ c. place_text page c a seen)
+    (first_at cs) ∙ ap (λ l. place_text page (class_at cs 0) a (seen_past classing seen l)) (sym (empty cs))
   where
     empty : (cs : List Class) → row_spots cs [] ≡ []
     empty cs = refl
 row_text_more page cs (x ∷ xs) a seen =
     let here = atom_spots (first_class cs) x in
     let now = seen_past classing seen here in
-    let past : seen_past classing now (row_spots (drop 1 cs) xs) ≡ seen_past classing seen (row_spots cs (x ∷ xs)) = sym (past_append seen here (row_spots (drop 1 cs) xs)) ∙ ap (seen_past classing seen) (sym (spots_first cs x xs)) in
+    let past : seen_past classing now (row_spots (drop 1 cs) xs) ≡ seen_past classing seen (row_spots cs (x ∷ xs))
+    = sym (past_append seen here (row_spots (drop 1 cs) xs)) ∙ ap (seen_past classing seen) (sym (spots_first cs x xs)) in
     ap (λ t. place_text page (first_class cs) x seen ++ t) (
     row_text_more page (drop 1 cs) xs a now
     ∙ ap (λ c. row_text page (drop 1 cs) xs now ++ place_text page c a (seen_past classing now (row_spots (drop 1 cs) xs))) (next_at cs (length xs))
     ∙ ap (λ s. row_text page (drop 1 cs) xs now ++ place_text page (class_at cs (suc (length xs))) a s) past
     )
-    ∙ sym (append_assoc (place_text page (first_class cs) x seen) (row_text page (drop 1 cs) xs now) (place_text page (class_at cs (suc (length xs))) a (seen_past classing seen (row_spots cs (x ∷ xs)))))
+    ∙ sym (append_assoc (place_text page (first_class cs) x seen) (row_text page (drop 1 cs) xs now)
+    (place_text page (class_at cs (suc (length xs))) a (seen_past classing seen (row_spots cs (x ∷ xs)))))
 
 spots_more : (rows : List (List Atom)) (row : List Atom) (cs : List Class) → rows_spots cs (rows ++ row ∷ []) ≡ rows_spots cs rows ++ row_spots cs row
 spots_more [] row cs = nil_spots (row_spots cs row)
@@ -113,7 +119,8 @@ rows_text_more : (page : Bool) (cs : List Class) (rows : List (List Atom)) (row 
 rows_text_more page cs [] row seen = nil_text (row_line page cs row seen)
 rows_text_more page cs (r ∷ rows) row seen =
     let now = seen_past classing seen (row_spots cs r) in
-    ap (λ t. row_line page cs r seen ++ t) (rows_text_more page cs rows row now ∙ ap (λ s. rows_text page cs rows now ++ row_line page cs row s) (sym (past_append seen (row_spots cs r) (rows_spots cs rows))))
+    ap (λ t. row_line page cs r seen ++ t)
+    (rows_text_more page cs rows row now ∙ ap (λ s. rows_text page cs rows now ++ row_line page cs row s) (sym (past_append seen (row_spots cs r) (rows_spots cs rows))))
     ∙ sym (append_assoc (row_line page cs r seen) (rows_text page cs rows now) (row_line page cs row (seen_past classing seen (rows_spots cs (r ∷ rows)))))
 
 abbrev spots_of : SentParam → List (Spot Class)
@@ -123,7 +130,8 @@ params_spots_more : (ps : List SentParam) (p : SentParam) → params_spots (ps +
 params_spots_more [] p = nil_spots (spots_of p)
 params_spots_more (q ∷ ps) p = ap (λ l. spots_of q ++ l) (params_spots_more ps p) ∙ sym (append_assoc (spots_of q) (params_spots ps) (spots_of p))
 
-params_text_more : (page : Bool) (ps : List SentParam) (p : SentParam) (seen : List (Spot Class)) → params_text page (ps ++ p ∷ []) seen ≡ params_text page ps seen ++ param_text page p (seen_past classing seen (params_spots ps))
+params_text_more : (page : Bool) (ps : List SentParam) (p : SentParam) (seen : List (Spot Class))
+    → params_text page (ps ++ p ∷ []) seen ≡ params_text page ps seen ++ param_text page p (seen_past classing seen (params_spots ps))
 params_text_more page [] p seen = nil_text (param_text page p seen)
 params_text_more page (q ∷ ps) p seen =
     let now = seen_past classing seen (spots_of q) in
@@ -142,7 +150,8 @@ flat_more f [] x = nil_text (f x)
 flat_more f (y ∷ xs) x = ap (λ l. f y ++ l) (flat_more f xs x) ∙ sym (append_assoc (f y) (flat_map f xs) (f x))
 
 -- one more line behind those so far
-pub line_behind : {A : Type 0} (f : A → List ℕ) (old mid new : List ℕ) (xs : List A) (i : ℕ) (x : A) → i < length xs → x ≡ get_or xs i x → mid ≡ old ++ flat_map f (take i xs) → new ≡ mid ++ f x → new ≡ old ++ flat_map f (take (i + 1) xs)
+pub line_behind : {A : Type 0} (f : A → List ℕ) (old mid new : List ℕ) (xs : List A) (i : ℕ) (x : A) → i < length xs
+    → x ≡ get_or xs i x → mid ≡ old ++ flat_map f (take i xs) → new ≡ mid ++ f x → new ≡ old ++ flat_map f (take (i + 1) xs)
 line_behind f old mid new xs i x lt is h k =
     k ∙ ap (λ t. t ++ f x) h ∙ append_assoc old (flat_map f (take i xs)) (f x)
     ∙ ap (λ l. old ++ l) (sym (ap (flat_map f) (one_more xs i x lt is) ∙ flat_more f (take i xs) x))
@@ -177,5 +186,6 @@ module _ (page : Bool) (old mid new : Tables) (before text after : List ℕ) whe
       )
 
 -- the whole list is written
-pub all_written : {A : Type 0} (old new : Tables) (before after : List ℕ) (T : List A → List (Spot Class) → List ℕ) (S : List A → List (Spot Class)) (part whole : List A) → part ≡ whole → Writes (T part) (S part) old new before after → Writes (T whole) (S whole) old new before after
+pub all_written : {A : Type 0} (old new : Tables) (before after : List ℕ) (T : List A → List (Spot Class) → List ℕ) (S : List A → List (Spot Class)) (part whole : List A)
+    → part ≡ whole → Writes (T part) (S part) old new before after → Writes (T whole) (S whole) old new before after
 all_written old new before after T S part whole e h = subst (λ l. Writes (T l) (S l) old new before after) e h

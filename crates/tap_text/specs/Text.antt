@@ -1,5 +1,30 @@
 -- How frames are written: lines of text; on a page the same lines, with marks around cells and values.
-use Rattle.std.specs.Prelude.{ℕ, ◌+◌, ◌/◌, ◌%◌, List, [], ◌∷◌, ◌++◌, length, flat_map, codes, decimal, encode_utf8_all, Option, Some, None, Bool, ◌==◌, ◌&&◌, ◌||◌, nat_lt, if◌then◌else◌, slice_index, drop}
+use Rattle.std.specs.Prelude.{
+  ℕ,
+  ◌+◌,
+  ◌/◌,
+  ◌%◌,
+  List,
+  [],
+  ◌∷◌,
+  ◌++◌,
+  length,
+  flat_map,
+  codes,
+  decimal,
+  encode_utf8_all,
+  Option,
+  Some,
+  None,
+  Bool,
+  ◌==◌,
+  ◌&&◌,
+  ◌||◌,
+  nat_lt,
+  if◌then◌else◌,
+  slice_index,
+  drop,
+}
 use Rattle.std.specs.Char.{digit_char}
 use Rattle.std.specs.Fmt.{signed_decimal}
 use Rattle.std.specs.Str.{chars}
@@ -166,7 +191,8 @@ rows_text page classes [] seen = []
 rows_text page classes (row ∷ rows) seen = row_line page classes row seen ++ rows_text page classes rows (seen_past classing seen (row_spots classes row))
 
 abbrev pub param_text : Bool → SentParam → List (Spot Class) → List ℕ
-param_text page p seen = codes "    @" ++ chars_text page p.name ++ codes " " ++ type_text p.ty ++ codes " " ++ enc_text p.enc ++ codes " = " ++ atom_text page (class_of p.ty p.enc) p.atom seen ++ 10 ∷ []
+param_text page p seen = codes "    @" ++ chars_text page p.name ++ codes " " ++ type_text p.ty ++ codes " " ++
+    enc_text p.enc ++ codes " = " ++ atom_text page (class_of p.ty p.enc) p.atom seen ++ 10 ∷ []
 
 abbrev pub params_text : Bool → List SentParam → List (Spot Class) → List ℕ
 params_text page [] seen = []

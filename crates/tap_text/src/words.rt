@@ -3,7 +3,22 @@
 ghost use Rattle.std.specs.Prelude.{◌≡◌, ◌++◌, OnOk, flat_map, string_bytes};
 ghost use Rattle.std.specs.Str.{chars};
 ghost use Rattle.ae_base.specs.Faults.{fault_line};
-ghost use Rattle.tap_text.specs.Text.{asked_head, chars_text, column_text, declaration_text, done_text, enc_text, key_text, key_value_text, told_head, second_value_text, type_text, under_text, used_text, version_text};
+ghost use Rattle.tap_text.specs.Text.{
+  asked_head,
+  chars_text,
+  column_text,
+  declaration_text,
+  done_text,
+  enc_text,
+  key_text,
+  key_value_text,
+  told_head,
+  second_value_text,
+  type_text,
+  under_text,
+  used_text,
+  version_text,
+};
 
 use crate::signs::{push_chars, push_hex, push_quoted};
 use ae_base::faults::SqlFault;

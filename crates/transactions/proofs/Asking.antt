@@ -86,13 +86,15 @@ control_renamed f (bound.Delete d) = refl
 control_renamed f (bound.Select q) = refl
 control_renamed f (bound.Control c) = refl
 
-asked_moved : (store : Store) (session : ℕ) (c : Option TransactionControl) (moved e : Execution) → transact store session (Executes moved) ≡ transact store session (Executes e) → transact store session (asked c moved) ≡ transact store session (asked c e)
+asked_moved : (store : Store) (session : ℕ) (c : Option TransactionControl) (moved e : Execution)
+    → transact store session (Executes moved) ≡ transact store session (Executes e) → transact store session (asked c moved) ≡ transact store session (asked c e)
 asked_moved store session None moved e h = h
 asked_moved store session (Some control.Begin) moved e h = refl
 asked_moved store session (Some control.Commit) moved e h = refl
 asked_moved store session (Some control.Rollback) moved e h = refl
 
-pub asks_renamed : (store : Store) (session : ℕ) (b : Bound) (f : ℕ → ℕ) (tys : List Ty) (encs others : List Enc) (params moved : List Atom) → AreMoved (λ place. uses place b) f params moved → AreTypesMoved b f encs tys others
+pub asks_renamed : (store : Store) (session : ℕ) (b : Bound) (f : ℕ → ℕ) (tys : List Ty) (encs others : List Enc) (params moved : List Atom)
+    → AreMoved (λ place. uses place b) f params moved → AreTypesMoved b f encs tys others
     → transact store session (ask_of (execution (renamed f tys b) others moved)) ≡ transact store session (ask_of (execution b encs params))
 asks_renamed store session b f tys encs others params moved m t =
     ap (λ c. transact store session (asked c (execution (renamed f tys b) others moved))) (control_renamed f b.statement)

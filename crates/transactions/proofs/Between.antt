@@ -34,7 +34,8 @@ pub between_refl : (base : Counted) → IsCounted base → Between [] base base
 between_refl base h = record { later = omega arith; counted = h; same = λ e. record { catalog = refl; counts = refl; long = refl; rows = λ p. refl } }
 
 -- rows alone
-put_between : (changed : List (List ℕ)) (base now after : Counted) (name : Option (List ℕ)) (rows : List (List Atom)) → after ≡ made now.world.catalog (put (lies now.world.catalog) name rows now.world.contents) now.counts
+put_between : (changed : List (List ℕ)) (base now after : Counted) (name : Option (List ℕ)) (rows : List (List Atom))
+    → after ≡ made now.world.catalog (put (lies now.world.catalog) name rows now.world.contents) now.counts
     → Between changed base now → Between (with_changed changed name) base after
 put_between changed base now after name rows e h =
     subst (λ x. Between (with_changed changed name) base x) (sym e) (record {
@@ -48,7 +49,9 @@ put_between changed base now after name rows e h =
             catalog = b.catalog;
             counts = b.counts;
             long = put_length (lies k) name rows xs ∙ b.long;
-            rows = λ p. subst (λ (c : Catalog). slice_get (put (lies k) name rows xs) p ≡ (if covers (lies c) (with_changed changed name) p then slice_get (put (lies k) name rows xs) p else slice_get base.world.contents p)) b.catalog
+            rows = λ p. subst
+                (λ (c : Catalog). slice_get (put (lies k) name rows xs) p ≡
+                (if covers (lies c) (with_changed changed name) p then slice_get (put (lies k) name rows xs) p else slice_get base.world.contents p)) b.catalog
                 (put_mixed (lies k) changed name rows base.world.contents xs xs p refl
                 (subst (λ (c : Catalog). slice_get xs p ≡ (if covers (lies c) changed p then slice_get xs p else slice_get base.world.contents p)) (sym b.catalog) (b.rows p)));
           };
@@ -61,9 +64,11 @@ between_step changed base now e d h = by (step_cases now e d)
     anything : (names : List (List ℕ)) → All (λ name. Unit {0}) names
     anything names = λ i d lt. tt
 
-    replaced : (r : IsReplacing now e) → (counted_step now e ≡ at_last now) ⊎ IsReplaced now e r.old r.new → Between (changed_behind changed e.bound.statement (counted_step now e).answer) base (counted_step now e).after
+    replaced : (r : IsReplacing now e) → (counted_step now e ≡ at_last now) ⊎ IsReplaced now e r.old r.new
+        → Between (changed_behind changed e.bound.statement (counted_step now e).answer) base (counted_step now e).after
     replaced r (inl is) =
-        subst (λ names. Between names base (counted_step now e).after) (sym (refused_behind changed e.bound.statement (counted_step now e).answer fault.Full (ap (λ (o : CountedOutcome). o.answer) is)))
+        subst (λ names. Between names base (counted_step now e).after)
+        (sym (refused_behind changed e.bound.statement (counted_step now e).answer fault.Full (ap (λ (o : CountedOutcome). o.answer) is)))
         (subst (λ (o : CountedOutcome). Between changed base o.after) (sym is) h)
     replaced r (inr done) =
         let is = done.step in
@@ -79,12 +84,14 @@ between_step changed base now e d h = by (step_cases now e d)
         (put_between changed base now (counted_step now e).after (changed_by e.bound.statement (counted_step now e).answer) f.rows f.left_after h)
     by (inr r) = replaced r r.done
 
-pub between_deeds : (deeds : List Deed) (changed : List (List ℕ)) (base now : Counted) → AreWork deeds → AreAnswered now deeds → Between changed base now → Between (changed_in changed deeds) base (after_deeds now deeds)
+pub between_deeds : (deeds : List Deed) (changed : List (List ℕ)) (base now : Counted) → AreWork deeds
+    → AreAnswered now deeds → Between changed base now → Between (changed_in changed deeds) base (after_deeds now deeds)
 between_deeds [] changed base now works given h = h
 between_deeds (d ∷ deeds) changed base now works given h =
     let e = d.execution in
     let one = between_step changed base now e (All-head (λ (d : Deed). is_definition d.execution.bound.statement ≡ false) d deeds works) h in
-    between_deeds deeds (changed_behind changed e.bound.statement d.answer) base (counted_step now e).after (All-tail (λ (d : Deed). is_definition d.execution.bound.statement ≡ false) d deeds works) given.1
+    between_deeds deeds (changed_behind changed e.bound.statement d.answer) base (counted_step now e).after
+    (All-tail (λ (d : Deed). is_definition d.execution.bound.statement ≡ false) d deeds works) given.1
     (subst (λ (a : Result Answer SqlFault). Between (changed_behind changed e.bound.statement a) base (counted_step now e).after) given.0 one)
 
 -- ---- and counts are raised
@@ -109,5 +116,6 @@ unit_since changed base now long h =
           let is : made k own base.counts ≡ now = ap (λ c. made c own base.counts) (sym b.catalog) ∙ ap (made now.world.catalog own) (sym b.counts) in
           let placed = placed_is k own own base.counts changed base.world.contents base.counts b.long b.rows in
           let kept = placed_kept (made k own base.counts) changed base long in
-          subst (λ x. Unmoved base x) (placed ∙ ap (λ c. raised_all c changed) is) (kept.since.unmoved (ap (λ (c : Counted). c.world.catalog.version) (placed ∙ ap (λ c. raised_all c changed) is) ∙ v));
+          subst (λ x. Unmoved base x) (placed ∙ ap (λ c. raised_all c changed) is)
+          (kept.since.unmoved (ap (λ (c : Counted). c.world.catalog.version) (placed ∙ ap (λ c. raised_all c changed) is) ∙ v));
     }

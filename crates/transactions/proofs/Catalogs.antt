@@ -21,7 +21,30 @@ use Rattle.engine.specs.Queries.{found_in}
 use Rattle.engine.specs.Step.{Answer, Done, outcome, done_by, rows_to_insert, rows_to_update, rows_to_delete}
 use Rattle.engine.specs.Worlds.{World}
 use Rattle.transactions.specs.Counted.{Counted, CountedOutcome, Execution, changed_by, counts_behind, is_at_last_count, counted, step_of, counted_step, raised_at, alone}
-use Rattle.transactions.specs.Stores.{Transaction, Store, Ask, Begins, Commits, RollsBack, Executes, Transacted, refused, begun_over, transaction_at, with_transaction, stepped_in, conflict, why_not, is_used, over, taken_over, committed, executed_in, transacted, transact}
+use Rattle.transactions.specs.Stores.{
+  Transaction,
+  Store,
+  Ask,
+  Begins,
+  Commits,
+  RollsBack,
+  Executes,
+  Transacted,
+  refused,
+  begun_over,
+  transaction_at,
+  with_transaction,
+  stepped_in,
+  conflict,
+  why_not,
+  is_used,
+  over,
+  taken_over,
+  committed,
+  executed_in,
+  transacted,
+  transact,
+}
 use Rattle.transactions.specs.WellKept.{IsOverShared, IsOpen, IsStore}
 use Rattle.transactions.proofs.Between.{raised_world}
 use Rattle.transactions.proofs.Keeping.{IsLater, all_at, all_set}
@@ -42,7 +65,8 @@ module _ (P : Catalog → Type 0) (w : World) (h : P w.catalog) where
   found_leaves (Ok x) f go = go x
   found_leaves (Err e) f go = h
 
-  pub done_leaves : (b : Bound) (encs : List Enc) (s : BoundStatement) (params : List Atom) → ((d : BoundDefinition) → s ≡ bound.Definition d → (new : Catalog) → defined_by w.catalog d ≡ Ok new → P new) → Leaves (done_by w b encs s params)
+  pub done_leaves : (b : Bound) (encs : List Enc) (s : BoundStatement) (params : List Atom)
+      → ((d : BoundDefinition) → s ≡ bound.Definition d → (new : Catalog) → defined_by w.catalog d ≡ Ok new → P new) → Leaves (done_by w b encs s params)
   done_leaves b encs (bound.Definition d) params g = defined_leaves (defined_by w.catalog d) _ (λ new e. g d refl new e)
   done_leaves b encs (bound.Insert i) params g = found_leaves (rows_to_insert w i params) _ (λ rows. h)
   done_leaves b encs (bound.Update u) params g = found_leaves (rows_to_update w u params) _ (λ kept. h)
@@ -55,7 +79,9 @@ pub counted_by : (P : World → Type 0) (c : Counted) (s : BoundStatement) (a : 
 counted_by P c s (Err f) w h k = h
 counted_by P c s (Ok answer) w h k = by (is_at_last_count c (target s))
   where
-    by : (b : Bool) → let o : CountedOutcome = if b then record { answer = Err fault.Full; after = c } else record { answer = Ok answer; after = record { world = w; counts = counts_behind c s } } in P o.after.world
+    by : (b : Bool)
+        → let o : CountedOutcome = if b then record { answer = Err fault.Full; after = c } else record
+        { answer = Ok answer; after = record { world = w; counts = counts_behind c s } } in P o.after.world
     by true = h
     by false = k
 
@@ -64,7 +90,8 @@ raised_by P c None h = h
 raised_by P c (Some name) h = h
 
 -- a statement outside transactions
-alone_leaves : (P : Catalog → Type 0) (c : Counted) (e : Execution) → P c.world.catalog → ((d : BoundDefinition) → e.bound.statement ≡ bound.Definition d → (new : Catalog) → defined_by c.world.catalog d ≡ Ok new → P new) → P (alone c e).after.world.catalog
+alone_leaves : (P : Catalog → Type 0) (c : Counted) (e : Execution) → P c.world.catalog
+    → ((d : BoundDefinition) → e.bound.statement ≡ bound.Definition d → (new : Catalog) → defined_by c.world.catalog d ≡ Ok new → P new) → P (alone c e).after.world.catalog
 alone_leaves P c e h g =
     let o = counted_step c e in
     raised_by (λ w. P w.catalog) o.after (changed_by e.bound.statement o.answer)
@@ -122,7 +149,8 @@ store_begun cell store h = All-weaker (IsOpen cell store.shared) (IsBegunIn stor
     one (Some t) k = record { earlier = k.earlier; next = λ v. begun_over_shared store.shared.world.catalog t k.later v (k.over v) }
 
 -- a committed transaction's catalog follows the shared one
-pub committed_next : (store : Store) (session : ℕ) (t : Transaction) → AreBegun store → transaction_at store session ≡ Some t → why_not store.shared t ≡ None → IsNext store.shared.world.catalog t.own.world.catalog
+pub committed_next : (store : Store) (session : ℕ) (t : Transaction) → AreBegun store → transaction_at store session ≡ Some t
+    → why_not store.shared t ≡ None → IsNext store.shared.world.catalog t.own.world.catalog
 committed_next store session t h is free =
     let b : IsBegun store.shared.world.catalog t = subst (IsBegunIn store.shared.world.catalog) is (all_at (IsBegunIn store.shared.world.catalog) store.sessions (session - 1) None h tt) in
     b.next (version (store.shared.world.catalog.version == t.version) refl free)
@@ -135,14 +163,17 @@ committed_next store session t h is free =
 
 -- ---- what a session's call leaves
 
-committed_by : (P : Catalog → Type 0) (store : Store) (session : ℕ) (t : Transaction) (f : Option SqlFault) → P store.shared.world.catalog → (f ≡ None → P t.own.world.catalog) → P (committed store session t f).after.shared.world.catalog
+committed_by : (P : Catalog → Type 0) (store : Store) (session : ℕ) (t : Transaction) (f : Option SqlFault)
+    → P store.shared.world.catalog → (f ≡ None → P t.own.world.catalog) → P (committed store session t f).after.shared.world.catalog
 committed_by P store session t None h k = subst (λ (w : World). P w.catalog) (sym (raised_world (over (is_used t.used) store.shared t.own) t.changed)) (k refl)
 committed_by P store session t (Some f) h k = h
 
 executed_by : (P : Catalog → Type 0) (store : Store) (session : ℕ) (t : Transaction) (e : Execution) → P store.shared.world.catalog → P (executed_in store session t e).after.shared.world.catalog
 executed_by P store session t e h = by (is_definition e.bound.statement)
   where
-    by : (b : Bool) → let x : Transacted = if b then refused store fault.InTransaction else record { answer = (counted_step t.own e).answer; after = with_transaction store session (Some (stepped_in t e (counted_step t.own e))) } in P x.after.shared.world.catalog
+    by : (b : Bool)
+        → let x : Transacted = if b then refused store fault.InTransaction else record
+        { answer = (counted_step t.own e).answer; after = with_transaction store session (Some (stepped_in t e (counted_step t.own e))) } in P x.after.shared.world.catalog
     by true = h
     by false = h
 
@@ -204,9 +235,12 @@ transact_begun store session ask h = by ask (transaction_at store session) refl
         with_begun (record { shared = now; sessions = store.sessions }) session None (over_begun store now h (subst (λ (w : World). IsLater shared w.catalog) (sym world) later)) tt
 
     executes : (t : Transaction) (e : Execution) (b : Bool) → is_definition e.bound.statement ≡ b → IsBegun shared t
-        → AreBegun (let x : Transacted = if b then refused store fault.InTransaction else record { answer = (counted_step t.own e).answer; after = with_transaction store session (Some (stepped_in t e (counted_step t.own e))) } in x.after)
+        → AreBegun
+        (let x : Transacted = if b then refused store fault.InTransaction else record
+        { answer = (counted_step t.own e).answer; after = with_transaction store session (Some (stepped_in t e (counted_step t.own e))) } in x.after)
     executes t e true d k = h
-    executes t e false d k = with_begun store session (Some (stepped_in t e (counted_step t.own e))) h (record { earlier = k.earlier; next = λ v. next_next shared t.own.world.catalog (counted_step t.own e).after.world.catalog (k.next v) (next_catalog t.own e d) })
+    executes t e false d k = with_begun store session (Some (stepped_in t e (counted_step t.own e))) h
+        (record { earlier = k.earlier; next = λ v. next_next shared t.own.world.catalog (counted_step t.own e).after.world.catalog (k.next v) (next_catalog t.own e d) })
 
     begun_at : (t : Transaction) → transaction_at store session ≡ Some t → IsBegun shared t
     begun_at t is = subst (IsBegunIn shared) is (all_at (IsBegunIn shared) store.sessions (session - 1) None h tt)

@@ -27,7 +27,8 @@ not_last c s (Err f) w x h = absurd cc
 not_last c s (Ok answer) w x h = by (is_at_last_count c (target s)) refl h
   where
     by : (b : Bool) → is_at_last_count c (target s) ≡ b
-        → (let o : CountedOutcome = if b then record { answer = Err fault.Full; after = c } else record { answer = Ok answer; after = record { world = w; counts = counts_behind c s } } in o.answer) ≡ Ok x → is_at_last_count c (target s) ≡ false
+        → (let o : CountedOutcome = if b then record { answer = Err fault.Full; after = c } else record
+        { answer = Ok answer; after = record { world = w; counts = counts_behind c s } } in o.answer) ≡ Ok x → is_at_last_count c (target s) ≡ false
     by true e h = absurd cc
     by false e h = e
 

@@ -25,7 +25,25 @@ use Rattle.sql_tree.specs.Sorts.{control_in, is_definition, is_defining, tables_
 use Rattle.transactions.specs.Answers.{Transacts}
 use Rattle.transactions.specs.Counted.{Counted, CountedOutcome, Execution, changed_by, counts_behind, is_at_last_count, counted, step_of, counted_step, raised_at}
 use Rattle.transactions.specs.Forgotten.{used_in, used_by, forgotten_in, forgotten, HasNoted, IsUndone}
-use Rattle.transactions.specs.Stores.{Transaction, Store, Transacted, Executes, asked, ask_of, refused, transaction_at, with_transaction, seen_by, world_of, with_changed, changed_behind, stepped_in, executed_in, transacted, transact}
+use Rattle.transactions.specs.Stores.{
+  Transaction,
+  Store,
+  Transacted,
+  Executes,
+  asked,
+  ask_of,
+  refused,
+  transaction_at,
+  with_transaction,
+  seen_by,
+  world_of,
+  with_changed,
+  changed_behind,
+  stepped_in,
+  executed_in,
+  transacted,
+  transact,
+}
 use Rattle.transactions.specs.declared.uses.Used.{Used}
 use Rattle.transactions.proofs.Asking.{control_shows_no_rows}
 use Rattle.transactions.proofs.Noting.{noted_front}
@@ -60,13 +78,15 @@ module _ (c : Counted) (columns : List ResultColumn) (rows : List (List Atom)) w
   reads q shown (Ok found) = record { work = refl; target = refl; world = refl; counts = refl }
   reads q shown (Err f) = record { work = refl; target = refl; world = refl; counts = refl }
 
-  reading : (b : Bound) (encs : List Enc) (params : List Atom) (s : BoundStatement) → AnswersRows (outcome c.world (done_by c.world b encs s params)) → IsReading s (outcome c.world (done_by c.world b encs s params))
+  reading : (b : Bound) (encs : List Enc) (params : List Atom) (s : BoundStatement)
+      → AnswersRows (outcome c.world (done_by c.world b encs s params)) → IsReading s (outcome c.world (done_by c.world b encs s params))
   reading b encs params (bound.Definition d) h = absurd (defines (defined_by c.world.catalog d) (followed [] (effect_of c.world.catalog d) c.world.contents) h)
   reading b encs params (bound.Insert i) h = absurd (changes (rows_to_insert c.world i params) (λ rows. length rows) (λ rows. with_rows c.world i.table (rows_of c.world i.table ++ rows)) h)
   reading b encs params (bound.Update u) h =
       absurd (changes (rows_to_update c.world u params) (λ tested. count_by (λ (t : Tested). t.hit) tested) (λ tested. with_rows c.world u.table (map (λ (t : Tested). t.row) tested)) h)
   reading b encs params (bound.Delete d) h =
-      absurd (changes (rows_to_delete c.world d params) (λ tested. count_by (λ (t : Tested). t.hit) tested) (λ tested. with_rows c.world d.table (map (λ (t : Tested). t.row) (filter (λ (t : Tested). not t.hit) tested))) h)
+      absurd (changes (rows_to_delete c.world d params) (λ tested. count_by (λ (t : Tested). t.hit) tested)
+      (λ tested. with_rows c.world d.table (map (λ (t : Tested). t.row) (filter (λ (t : Tested). not t.hit) tested))) h)
   reading b encs params (bound.Select q) h = reads q (map (result_column b.columns b.params encs) q.items) (found_in c.world q params)
   reading b encs params (bound.Control control) h = absurd cc
 
@@ -79,7 +99,8 @@ module _ (c : Counted) (columns : List ResultColumn) (rows : List (List Atom)) w
       stays : (a : Result Answer SqlFault) (w : World) → target e.bound.statement ≡ None → w ≡ c.world → counts_behind c e.bound.statement ≡ c.counts → (counted c e.bound.statement a w).after ≡ c
       stays (Err f) w t same counts = refl
       stays (Ok answer) w t same counts =
-          ap (λ o. let x : CountedOutcome = if is_at_last_count c o then record { answer = Err fault.Full; after = c } else record { answer = Ok answer; after = record { world = w; counts = counts_behind c e.bound.statement } } in x.after) t
+          ap (λ o. let x : CountedOutcome = if is_at_last_count c o then record { answer = Err fault.Full; after = c }
+          else record { answer = Ok answer; after = record { world = w; counts = counts_behind c e.bound.statement } } in x.after) t
           ∙ ap (λ w. let x : Counted = record { world = w; counts = counts_behind c e.bound.statement } in x) same
           ∙ ap (λ ns. let x : Counted = record { world = c.world; counts = ns } in x) counts
 
@@ -92,7 +113,8 @@ changed_none s (Ok answer) n = n
 changed_none s (Err f) n = refl
 
 -- a change or a definition is not answered by rows
-pub changes_show_no_rows : (store : Store) (session : ℕ) (e : Execution) (columns : List ResultColumn) (rows : List (List Atom)) → (is_defining e.bound.statement || is_some (target e.bound.statement)) ≡ true
+pub changes_show_no_rows : (store : Store) (session : ℕ) (e : Execution) (columns : List ResultColumn) (rows : List (List Atom))
+    → (is_defining e.bound.statement || is_some (target e.bound.statement)) ≡ true
     → (transact store session (Executes e)).answer ≡ Ok (Rows columns rows) → ⊥
 changes_show_no_rows store session e columns rows changes h =
     let r = read_only (world_of store session) columns rows e (answered_by_step store session e (Rows columns rows) h) in
@@ -111,7 +133,8 @@ set_there (z ∷ xs) zero x y h = refl
 set_there (z ∷ xs) (suc k) x y h = set_there xs k x y h
 
 -- a slot without its later uses is as it was
-slot_back : (store : Store) (session used : ℕ) (t u : Transaction) → transaction_at store session ≡ Some t → forgotten_in used (Some u) ≡ Some t → forgotten (with_transaction store session (Some u)) session used ≡ store
+slot_back : (store : Store) (session used : ℕ) (t u : Transaction) → transaction_at store session ≡ Some t
+    → forgotten_in used (Some u) ≡ Some t → forgotten (with_transaction store session (Some u)) session used ≡ store
 slot_back store session used t u is back =
     let k = session - 1 in
     let there = set_there store.sessions k t (Some u) is in
@@ -133,7 +156,8 @@ set_none (x ∷ xs) (suc k) = set_none xs k
 forgotten_sees : (store : Store) (session used : ℕ) → world_of (forgotten store session used) session ≡ world_of store session
 forgotten_sees store session used = by (transaction_at store session) refl
   where
-    by : (o : Option Transaction) → transaction_at store session ≡ o → seen_by store.shared (get_or (set store.sessions (session - 1) (forgotten_in used (transaction_at store session))) (session - 1) None) ≡ seen_by store.shared (transaction_at store session)
+    by : (o : Option Transaction) → transaction_at store session ≡ o
+        → seen_by store.shared (get_or (set store.sessions (session - 1) (forgotten_in used (transaction_at store session))) (session - 1) None) ≡ seen_by store.shared (transaction_at store session)
     by None is =
         ap (λ o. seen_by store.shared (get_or (set store.sessions (session - 1) (forgotten_in used o)) (session - 1) None)) is
         ∙ ap (seen_by store.shared) (set_none store.sessions (session - 1)) ∙ ap (seen_by store.shared) (sym is)
@@ -157,16 +181,19 @@ module _ (store : Store) (session : ℕ) (e : Execution) (columns : List ResultC
       let own : record { own = o.after; version = t.version; used = take (length t.used) u.used; changed = u.changed } ≡ t =
       ap (λ c. made c (take (length t.used) u.used) u.changed) r.2 ∙ ap (λ us. made t.own us u.changed) (noted_front t.own (tables_of e.bound.statement) t.used)
       ∙ unchanged t o.answer r.0 r.1 in
-      ap (λ b. let x : Transacted = if b then refused store fault.InTransaction else record { answer = o.answer; after = with_transaction store session (Some u) } in forgotten x.after session (length t.used)) (no_definition e.bound.statement r.0)
+      ap (λ b. let x : Transacted = if b then refused store fault.InTransaction else record
+      { answer = o.answer; after = with_transaction store session (Some u) } in forgotten x.after session (length t.used)) (no_definition e.bound.statement r.0)
       ∙ slot_back store session (length t.used) t u is (ap Some own)
     where
       made : Counted → List Used → List (List ℕ) → Transaction
       made c used changed = record { own = c; version = t.version; used = used; changed = changed }
 
-      unchanged : (t : Transaction) (a : Result Answer SqlFault) → is_defining e.bound.statement ≡ false → target e.bound.statement ≡ None → made t.own t.used (changed_behind t.changed e.bound.statement a) ≡ made t.own t.used t.changed
+      unchanged : (t : Transaction) (a : Result Answer SqlFault) → is_defining e.bound.statement ≡ false
+          → target e.bound.statement ≡ None → made t.own t.used (changed_behind t.changed e.bound.statement a) ≡ made t.own t.used t.changed
       unchanged t a w n = ap (made t.own t.used) (work_behind t.changed e.bound.statement a w) ∙ ap (λ o. made t.own t.used (with_changed t.changed o)) (changed_none e.bound.statement a n)
 
-  undone_by : (o : Option Transaction) → transaction_at store session ≡ o → (step_of (seen_by store.shared o) e).answer ≡ Ok (Rows columns rows) → forgotten (transacted store session o (Executes e)).after session (used_in o) ≡ store
+  undone_by : (o : Option Transaction) → transaction_at store session ≡ o → (step_of (seen_by store.shared o) e).answer ≡ Ok (Rows columns rows)
+      → forgotten (transacted store session o (Executes e)).after session (used_in o) ≡ store
   undone_by None is h =
       let r = read_only store.shared columns rows e h in
       let o = counted_step store.shared e in
@@ -178,16 +205,19 @@ module _ (store : Store) (session : ℕ) (e : Execution) (columns : List ResultC
       with_shared c = record { shared = c; sessions = store.sessions }
   undone_by (Some t) is h = undone_in t is h
 
-pub undone : (store : Store) (session : ℕ) (e : Execution) (answer : Answer) → (transact store session (ask_of e)).answer ≡ Ok answer → IsUndone store session (transact store session (ask_of e)).after answer
+pub undone : (store : Store) (session : ℕ) (e : Execution) (answer : Answer) → (transact store session (ask_of e)).answer ≡ Ok answer
+    → IsUndone store session (transact store session (ask_of e)).after answer
 undone store session e (step.Changed count) h = tt
 undone store session e step.Defined h = tt
 undone store session e (Rows columns rows) h = noted_only store (transact store session (ask_of e)).after session (by (control_in e.bound.statement) h)
   where
-    by : (c : Option TransactionControl) → (transact store session (asked c e)).answer ≡ Ok (Rows columns rows) → forgotten (transact store session (asked c e)).after session (used_by store session) ≡ store
+    by : (c : Option TransactionControl) → (transact store session (asked c e)).answer ≡ Ok (Rows columns rows)
+        → forgotten (transact store session (asked c e)).after session (used_by store session) ≡ store
     by None h = undone_by store session e columns rows (transaction_at store session) refl (answered_by_step store session e (Rows columns rows) h)
     by (Some c) h = absurd (control_shows_no_rows store session e columns rows c (transaction_at store session) h)
 
-pub undone_so : {K : Type 0} (result : Result (code.Answer K) (Refusal SqlFault)) (old : Store) (session : ℕ) (new : Store) (e : Execution) → Transacts result old new (transact old session (ask_of e)) → IfOk result (λ answer. IsUndone old session new (answer_of answer))
+pub undone_so : {K : Type 0} (result : Result (code.Answer K) (Refusal SqlFault)) (old : Store) (session : ℕ) (new : Store) (e : Execution)
+    → Transacts result old new (transact old session (ask_of e)) → IfOk result (λ answer. IsUndone old session new (answer_of answer))
 undone_so (Ok answer) old session new e g =
     subst (λ s. IsUndone old session s (answer_of answer)) (ap (λ (t : Transacted). t.after) g) (undone old session e (answer_of answer) (ap (λ (t : Transacted). t.answer) g))
 undone_so (Err refusal) old session new e g = tt

@@ -53,7 +53,8 @@ module _ (world : World) (more : List (List (List Atom))) where
   insert_both : (i : BoundInsert) (params : List Atom) → Same i.table → Both world other (Some i.table) (step.insert world i params) (step.insert other i params)
   insert_both i params e =
       let reads : rows_to_insert other i params ≡ rows_to_insert world i params =
-      ap (λ (old : List (List Atom)). new_rows (columns_of world i.table) i.named params (length old) i.rows >>= λ rows. unless_twins (first_twins 1 (uniques_of world i.table) (old ++ rows)) rows) e in
+      ap (λ (old : List (List Atom)). new_rows (columns_of world i.table) i.named params (length old) i.rows
+      >>= λ rows. unless_twins (first_twins 1 (uniques_of world i.table) (old ++ rows)) rows) e in
       subst (λ (r : Result (List (List Atom)) SqlFault). Both world other (Some i.table) (step.insert world i params) (r >>= λ rows. Ok (inserted_done other i.table rows))) (sym reads)
       (both_then world other (Some i.table) (rows_to_insert world i params) (λ rows. inserted_done world i.table rows) (λ rows. inserted_done other i.table rows)
       (λ rows. (refl, (rows_of world i.table ++ rows, refl, ap (λ old. with_rows other i.table (old ++ rows)) e))))
@@ -61,7 +62,8 @@ module _ (world : World) (more : List (List (List Atom))) where
   update_both : (u : BoundUpdate) (params : List Atom) → Same u.table → Both world other (Some u.table) (step.update world u params) (step.update other u params)
   update_both u params e =
       let reads : rows_to_update other u params ≡ rows_to_update world u params =
-      ap (λ (old : List (List Atom)). each (row_to_update (columns_of world u.table) u params) old >>= λ tested. unless_twins (first_twins 1 (uniques_of world u.table) (map (λ (t : Tested). t.row) tested)) tested) e in
+      ap (λ (old : List (List Atom)). each (row_to_update (columns_of world u.table) u params) old >>= λ tested.
+      unless_twins (first_twins 1 (uniques_of world u.table) (map (λ (t : Tested). t.row) tested)) tested) e in
       subst (λ (r : Result (List Tested) SqlFault). Both world other (Some u.table) (step.update world u params) (r >>= λ tested. Ok (updated_done other u.table tested))) (sym reads)
       (both_then world other (Some u.table) (rows_to_update world u params) (λ tested. updated_done world u.table tested) (λ tested. updated_done other u.table tested)
       (λ tested. (refl, (map (λ (t : Tested). t.row) tested, refl, refl))))
@@ -92,11 +94,13 @@ module _ (world : World) (more : List (List (List Atom))) where
       → Both world other None (step.select world b.columns b.params encs q params) (step.select other b.columns b.params encs q params)
   select_both b encs q params h =
       let shown = map (result_column b.columns b.params encs) q.items in
-      subst (λ (r : Result (List (List Atom)) SqlFault). Both world other None (step.select world b.columns b.params encs q params) (r >>= λ rows. Ok (selected_done other shown rows))) (sym (found_same q params h))
+      subst (λ (r : Result (List (List Atom)) SqlFault). Both world other None (step.select world b.columns b.params encs q params)
+      (r >>= λ rows. Ok (selected_done other shown rows))) (sym (found_same q params h))
       (both_then world other None (found_in world q params) (λ rows. selected_done world shown rows) (λ rows. selected_done other shown rows)
       (λ rows. (refl, ([], refl, refl))))
 
-  done_both : (b : Bound) (encs : List Enc) (params : List Atom) (s : BoundStatement) → is_defining s ≡ false → All Same (tables_of s) → Both world other (target s) (done_by world b encs s params) (done_by other b encs s params)
+  done_both : (b : Bound) (encs : List Enc) (params : List Atom) (s : BoundStatement) → is_defining s ≡ false
+      → All Same (tables_of s) → Both world other (target s) (done_by world b encs s params) (done_by other b encs s params)
   done_both b encs params (bound.Definition x) d h = absurd cc
   done_both b encs params (bound.Insert i) d h = insert_both i params (All-head Same i.table [] h)
   done_both b encs params (bound.Update u) d h = update_both u params (All-head Same u.table [] h)
@@ -110,13 +114,15 @@ module _ (world : World) (more : List (List (List Atom))) where
   outcomes_both s (Err f) (Ok b) m = absurd m
   outcomes_both s (Err f) (Err g) m = record { answer = ap Err m; rows = []; left_after = refl; right_after = refl }
 
-pub step_reads : (world other : World) (e : Execution) → is_defining e.bound.statement ≡ false → other.catalog ≡ world.catalog → All (λ name. rows_of other name ≡ rows_of world name) (tables_of e.bound.statement)
+pub step_reads : (world other : World) (e : Execution) → is_defining e.bound.statement ≡ false
+    → other.catalog ≡ world.catalog → All (λ name. rows_of other name ≡ rows_of world name) (tables_of e.bound.statement)
     → AreDoneAlike world other e.bound.statement (step.step world e.bound e.encs e.params) (step.step other e.bound e.encs e.params)
 step_reads world other e d same h =
     let is : world_at world.catalog other.contents ≡ other = ap (λ c. world_at c other.contents) (sym same) in
     let all = subst (λ (u : World). All (λ name. rows_of u name ≡ rows_of world name) (tables_of e.bound.statement)) (sym is) h in
     subst (λ (u : World). AreDoneAlike world u e.bound.statement (step.step world e.bound e.encs e.params) (step.step u e.bound e.encs e.params)) is
-    (outcomes_both world other.contents e.bound.statement (done_by world e.bound e.encs e.bound.statement e.params) (done_by (world_at world.catalog other.contents) e.bound e.encs e.bound.statement e.params)
+    (outcomes_both world other.contents e.bound.statement (done_by world e.bound e.encs e.bound.statement e.params)
+    (done_by (world_at world.catalog other.contents) e.bound e.encs e.bound.statement e.params)
     (done_both world other.contents e.bound e.encs e.params e.bound.statement d all))
 
 -- ---- with counts
@@ -143,7 +149,8 @@ counts_same c (bound.Delete x) d = refl
 counts_same c (bound.Select q) d = refl
 counts_same c (bound.Control control) d = refl
 
-target_named : (P : List ℕ → Type 0) (c d : Counted) (s : BoundStatement) → All P (tables_of s) → ((name : List ℕ) → P name → count_of d name ≡ count_of c name) → is_at_last_count d (target s) ≡ is_at_last_count c (target s)
+target_named : (P : List ℕ → Type 0) (c d : Counted) (s : BoundStatement) → All P (tables_of s)
+    → ((name : List ℕ) → P name → count_of d name ≡ count_of c name) → is_at_last_count d (target s) ≡ is_at_last_count c (target s)
 target_named P c d (bound.Definition x) h g = refl
 target_named P c d (bound.Insert i) h g = ap (λ n. n == 18446744073709551615) (g i.table (All-head P i.table [] h))
 target_named P c d (bound.Update u) h g = ap (λ n. n == 18446744073709551615) (g u.table (All-head P u.table [] h))
@@ -164,7 +171,8 @@ module _ (catalog : Catalog) (contents others : List (List (List Atom))) (counts
   counted_both (Ok answer) w v rows l r last = by (is_at_last_count left_world (target s)) (is_at_last_count right_world (target s)) last
     where
       by : (x y : Bool) → y ≡ x
-          → Changes catalog contents others counts more s (if x then record { answer = Err fault.Full; after = left_world } else record { answer = Ok answer; after = record { world = w; counts = counts_behind left_world s } })
+          → Changes catalog contents others counts more s
+          (if x then record { answer = Err fault.Full; after = left_world } else record { answer = Ok answer; after = record { world = w; counts = counts_behind left_world s } })
           (if y then record { answer = Err fault.Full; after = right_world } else record { answer = Ok answer; after = record { world = v; counts = counts_behind right_world s } })
       by true true e = record { answer = refl; rows = rows; left_after = refl; right_after = refl }
       by true false e = absurd cc
@@ -174,8 +182,10 @@ module _ (catalog : Catalog) (contents others : List (List (List Atom))) (counts
           let m = counts_same right_world s d in
           record { answer = refl; rows = rows; left_after = cc; right_after = cc }
 
-pub counted_reads : (catalog : Catalog) (contents others : List (List (List Atom))) (counts more : List ℕ) (e : Execution) (U : List ℕ → Type 0) → is_defining e.bound.statement ≡ false → All U (tables_of e.bound.statement)
-    → ((name : List ℕ) → U name → rows_of (world_at catalog others) name ≡ rows_of (world_at catalog contents) name) → ((name : List ℕ) → U name → count_of (made catalog others more) name ≡ count_of (made catalog contents counts) name)
+pub counted_reads : (catalog : Catalog) (contents others : List (List (List Atom))) (counts more : List ℕ) (e : Execution) (U : List ℕ → Type 0)
+    → is_defining e.bound.statement ≡ false → All U (tables_of e.bound.statement)
+    → ((name : List ℕ) → U name → rows_of (world_at catalog others) name ≡ rows_of (world_at catalog contents) name)
+    → ((name : List ℕ) → U name → count_of (made catalog others more) name ≡ count_of (made catalog contents counts) name)
     → Changes catalog contents others counts more e.bound.statement (counted_step (made catalog contents counts) e) (counted_step (made catalog others more) e)
 counted_reads catalog contents others counts more e U d h rows counted_alike =
     let s = e.bound.statement in
@@ -183,5 +193,7 @@ counted_reads catalog contents others counts more e U d h rows counted_alike =
     let v = world_at catalog others in
     let f = step_reads w v e d refl (All-weaker U (λ name. rows_of v name ≡ rows_of w name) rows (tables_of s) h) in
     let last = target_named U (made catalog contents counts) (made catalog others more) s h counted_alike in
-    subst (λ (a : Result Answer SqlFault). Changes catalog contents others counts more s (counted_step (made catalog contents counts) e) (counted (made catalog others more) s a (step.step v e.bound e.encs e.params).world)) (sym f.answer)
-    (counted_both catalog contents others counts more s d (step.step w e.bound e.encs e.params).answer (step.step w e.bound e.encs e.params).world (step.step v e.bound e.encs e.params).world f.rows f.left_after f.right_after last)
+    subst (λ (a : Result Answer SqlFault). Changes catalog contents others counts more s
+    (counted_step (made catalog contents counts) e) (counted (made catalog others more) s a (step.step v e.bound e.encs e.params).world)) (sym f.answer)
+    (counted_both catalog contents others counts more s d (step.step w e.bound e.encs e.params).answer
+    (step.step w e.bound e.encs e.params).world (step.step v e.bound e.encs e.params).world f.rows f.left_after f.right_after last)

@@ -16,7 +16,30 @@ use Rattle.transactions.specs.Frames.{put}
 use Rattle.transactions.specs.Journal.{is_lasting, lasting, call_of, calls_in, whole, kept_of, journal, AreAccepted, AreReplayed, after_records}
 use Rattle.transactions.specs.Laws.{IsMadeAgain}
 use Rattle.transactions.specs.Serial.{Deed, Call, all_after, after_deeds, changed_in, after_unit, AreAnswered, no_logs, log_at, with_log, deed, record_of}
-use Rattle.transactions.specs.Stores.{Transaction, Store, Ask, Begins, Commits, RollsBack, Executes, Transacted, refused, transaction_at, with_transaction, seen_by, world_of, stepped_in, with_changed, changed_behind, conflict, why_not, taken_over, committed, transacted, transact}
+use Rattle.transactions.specs.Stores.{
+  Transaction,
+  Store,
+  Ask,
+  Begins,
+  Commits,
+  RollsBack,
+  Executes,
+  Transacted,
+  refused,
+  transaction_at,
+  with_transaction,
+  seen_by,
+  world_of,
+  stepped_in,
+  with_changed,
+  changed_behind,
+  conflict,
+  why_not,
+  taken_over,
+  committed,
+  transacted,
+  transact,
+}
 use Rattle.transactions.specs.declared.uses.Used.{Used}
 use Rattle.transactions.specs.WellKept.{IsStore, MayAsk, AreAllowed, HasNoTransactions}
 use Rattle.catalog.specs.Catalogs.{table_named}
@@ -78,16 +101,20 @@ fault_left : (c : Counted) (s : BoundStatement) (a : Result Answer SqlFault) (w 
 fault_left c s (Err g) w f e = refl
 fault_left c s (Ok answer) w f e = by (is_at_last_count c (target s)) e
   where
-    by : (b : Bool) → (let o : CountedOutcome = if b then record { answer = Err fault.Full; after = c } else record { answer = Ok answer; after = record { world = w; counts = counts_behind c s } } in o.answer) ≡ Err f
+    by : (b : Bool)
+        → (let o : CountedOutcome = if b then record { answer = Err fault.Full; after = c } else record
+        { answer = Ok answer; after = record { world = w; counts = counts_behind c s } } in o.answer) ≡ Err f
         → (let o : CountedOutcome = if b then record { answer = Err fault.Full; after = c } else record { answer = Ok answer; after = record { world = w; counts = counts_behind c s } } in o.after) ≡ c
     by true e = refl
     by false e = absurd cc
 
-work_left : (c : Counted) (e : Execution) → is_defining e.bound.statement ≡ false → target e.bound.statement ≡ None → (answer : Answer) → (counted_step c e).answer ≡ Ok answer → (counted_step c e).after ≡ c
+work_left : (c : Counted) (e : Execution) → is_defining e.bound.statement ≡ false → target e.bound.statement ≡ None
+    → (answer : Answer) → (counted_step c e).answer ≡ Ok answer → (counted_step c e).after ≡ c
 work_left c e d none answer is =
     let w = c.world in
     let f = counted_reads w.catalog w.contents w.contents c.counts c.counts e (λ name. Unit {0}) d (anything (tables_of e.bound.statement)) (λ name u. refl) (λ name u. refl) in
-    f.left_after ∙ ap (λ (a : Result Answer SqlFault). made w.catalog (put (lies w.catalog) (changed_by e.bound.statement a) f.rows w.contents) c.counts) is ∙ ap (λ t. made w.catalog (put (lies w.catalog) t f.rows w.contents) c.counts) none
+    f.left_after ∙ ap (λ (a : Result Answer SqlFault). made w.catalog (put (lies w.catalog) (changed_by e.bound.statement a) f.rows w.contents) c.counts)
+    is ∙ ap (λ t. made w.catalog (put (lies w.catalog) t f.rows w.contents) c.counts) none
   where
     anything : (names : List (List ℕ)) → All (λ name. Unit {0}) names
     anything names = λ i d lt. tt
@@ -210,7 +237,8 @@ module _ (shared : Counted) (base : IsBase shared) (long : IsCounted shared) (se
       append_none [] = refl
       append_none (x ∷ xs) = ap (λ ys. x ∷ ys) (append_none xs)
 
-  deeds_done : (deeds : List Deed) (t : Transaction) (log : List Deed) → IsLoggedFrom shared shared t log → AreWork deeds → AreThere (after_deeds shared log) deeds → All Accepted deeds → AreAnswered (after_deeds shared log) deeds → IsDone t log deeds
+  deeds_done : (deeds : List Deed) (t : Transaction) (log : List Deed) → IsLoggedFrom shared shared t log
+      → AreWork deeds → AreThere (after_deeds shared log) deeds → All Accepted deeds → AreAnswered (after_deeds shared log) deeds → IsDone t log deeds
   deeds_done [] t log h work there ok given = commit_done t log h
   deeds_done (d ∷ deeds) t log h work there ok given =
       let e = d.execution in
@@ -302,12 +330,14 @@ alone_kept shared session e = by (is_lasting e.bound.statement (alone shared e).
 unmoved : (shared : Counted) (t : Transaction) → why_not shared t ≡ None → (shared.world.catalog.version ≡ t.version) × (conflict shared t.used ≡ None)
 unmoved shared t = by (shared.world.catalog.version == t.version) refl
   where
-    by : (b : Bool) → (shared.world.catalog.version == t.version) ≡ b → (if b then conflict shared t.used else Some (fault.Moved (record { seen = t.version; now = shared.world.catalog.version }))) ≡ None
+    by : (b : Bool) → (shared.world.catalog.version == t.version) ≡ b
+        → (if b then conflict shared t.used else Some (fault.Moved (record { seen = t.version; now = shared.world.catalog.version }))) ≡ None
         → (shared.world.catalog.version ≡ t.version) × (conflict shared t.used ≡ None)
     by true v e = (is_there shared.world.catalog.version t.version v, e)
     by false v e = absurd cc
 
-one_kept : (store : Store) (session : ℕ) (ask : Ask) (o : Option Transaction) (log : List Deed) → IsBase store.shared → IsCounted store.shared → length store.sessions ≡ 64 → transaction_at store session ≡ o → IsSlot store.shared o log
+one_kept : (store : Store) (session : ℕ) (ask : Ask) (o : Option Transaction) (log : List Deed) → IsBase store.shared
+    → IsCounted store.shared → length store.sessions ≡ 64 → transaction_at store session ≡ o → IsSlot store.shared o log
     → IsKeptSo store.shared (transacted store session o ask).after.shared (kept_of o session ask (transacted store session o ask).answer log)
 one_kept store session Begins None log base long n is h = same_kept store.shared store.shared refl
 one_kept store session Commits None log base long n is h = same_kept store.shared store.shared refl
@@ -317,12 +347,16 @@ one_kept store session Begins (Some t) log base long n is h = same_kept store.sh
 one_kept store session RollsBack (Some t) log base long n is h = same_kept store.shared store.shared refl
 one_kept store session (Executes e) (Some t) log base long n is h = by (is_definition e.bound.statement)
   where
-    by : (b : Bool) → IsKeptSo store.shared (let x : Transacted = if b then refused store fault.InTransaction else record { answer = (counted_step t.own e).answer; after = with_transaction store session (Some (stepped_in t e (counted_step t.own e))) } in x).after.shared []
+    by : (b : Bool)
+        → IsKeptSo store.shared
+        (let x : Transacted = if b then refused store fault.InTransaction else record
+        { answer = (counted_step t.own e).answer; after = with_transaction store session (Some (stepped_in t e (counted_step t.own e))) } in x).after.shared []
     by true = same_kept store.shared store.shared refl
     by false = same_kept store.shared store.shared refl
 one_kept store session Commits (Some t) log base long n is h = by (why_not store.shared t) refl
   where
-    by : (f : Option SqlFault) → why_not store.shared t ≡ f → IsKeptSo store.shared (committed store session t f).after.shared (kept_of (Some t) session Commits (committed store session t f).answer log)
+    by : (f : Option SqlFault) → why_not store.shared t ≡ f
+        → IsKeptSo store.shared (committed store session t f).after.shared (kept_of (Some t) session Commits (committed store session t f).answer log)
     by (Some f) e = same_kept store.shared store.shared refl
     by None e =
         let free = unmoved store.shared t e in
@@ -355,7 +389,8 @@ pub record IsLoggedOn (store : Store) (logs : List (List Deed)) (session : ℕ) 
   pub long : length (transact store session ask).after.sessions ≡ 64
   pub kept : IsKeptSo store.shared (transact store session ask).after.shared (kept_of (transaction_at store session) session ask (transact store session ask).answer (log_at logs session))
 
-pub logged_on : (cell : List ℕ → Bool) (store : Store) (logs : List (List Deed)) (session : ℕ) (ask : Ask) → IsStore cell store → MayAsk cell (world_of store session).world ask → length store.sessions ≡ 64 → AreLogged store logs
+pub logged_on : (cell : List ℕ → Bool) (store : Store) (logs : List (List Deed)) (session : ℕ) (ask : Ask)
+    → IsStore cell store → MayAsk cell (world_of store session).world ask → length store.sessions ≡ 64 → AreLogged store logs
     → IsLoggedOn store logs session ask
 logged_on cell store logs session ask well may n inv =
     let base = base_of cell store.shared well.shared in
@@ -381,14 +416,16 @@ pub record IsCommittable (shared : Counted) (t : Transaction) (log : List Deed) 
   pub work : AreWork log
   pub answered : AreAnswered base log
 
-pub committable : (store : Store) (logs : List (List Deed)) (session : ℕ) (t : Transaction) → AreLogged store logs → transaction_at store session ≡ Some t → why_not store.shared t ≡ None → IsCommittable store.shared t (log_at logs session)
+pub committable : (store : Store) (logs : List (List Deed)) (session : ℕ) (t : Transaction) → AreLogged store logs
+    → transaction_at store session ≡ Some t → why_not store.shared t ≡ None → IsCommittable store.shared t (log_at logs session)
 committable store logs session t inv is e =
     let log = log_at logs session in
     let slot = subst (λ o. IsSlot store.shared o log) is (zip_at (IsSlot store.shared) store.sessions logs (session - 1) None [] inv.slots refl) in
     let from = slot.from in
     record { base = slot.base; catalog = (from.since.unmoved ((unmoved store.shared t e).0 ∙ from.version)).catalog; after = from.after; work = from.work; answered = from.answered }
 
-all_kept : (cell : List ℕ → Bool) (calls : List Call) (store : Store) (logs : List (List Deed)) → IsStore cell store → AreAllowed cell store calls → length store.sessions ≡ 64 → AreLogged store logs → IsKeptSo store.shared (all_after store calls).shared (journal store logs calls)
+all_kept : (cell : List ℕ → Bool) (calls : List Call) (store : Store) (logs : List (List Deed)) → IsStore cell store
+    → AreAllowed cell store calls → length store.sessions ≡ 64 → AreLogged store logs → IsKeptSo store.shared (all_after store calls).shared (journal store logs calls)
 all_kept cell [] store logs well allowed n inv = same_kept store.shared store.shared refl
 all_kept cell (call ∷ calls) store logs well allowed n inv =
     let s = call.session in
@@ -398,7 +435,8 @@ all_kept cell (call ∷ calls) store logs well allowed n inv =
     let kept = kept_of (transaction_at store s) s call.ask t.answer (log_at logs s) in
     let more = all_kept cell calls t.after logs_after (transact_keeps cell store s call.ask well allowed.0).0 allowed.1 one.long one.logged in
     record {
-      replayed = replayed_append (idle store.shared) kept (journal t.after logs_after calls) one.kept.replayed (subst (λ x. AreReplayed x (journal t.after logs_after calls)) (sym one.kept.after) more.replayed);
+      replayed = replayed_append (idle store.shared) kept (journal t.after logs_after calls) one.kept.replayed
+          (subst (λ x. AreReplayed x (journal t.after logs_after calls)) (sym one.kept.after) more.replayed);
       after = records_append (idle store.shared) kept (journal t.after logs_after calls) ∙ ap (λ x. after_records x (journal t.after logs_after calls)) one.kept.after ∙ more.after;
     }
 

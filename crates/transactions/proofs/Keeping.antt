@@ -1,5 +1,36 @@
 -- A state that can stand stays one.
-use Rattle.std.proofs.Common.{◌≡◌, ◌≢◌, ◌≤◌, ◌⊎◌, inl, inr, ℕ, zero, suc, ◌-◌, List, [], ◌∷◌, length, refl, ap, sym, subst, ◌∙◌, arith, Option, Some, None, unwrap_or, Result, Ok, Err, Bool, true, false}
+use Rattle.std.proofs.Common.{
+  ◌≡◌,
+  ◌≢◌,
+  ◌≤◌,
+  ◌⊎◌,
+  inl,
+  inr,
+  ℕ,
+  zero,
+  suc,
+  ◌-◌,
+  List,
+  [],
+  ◌∷◌,
+  length,
+  refl,
+  ap,
+  sym,
+  subst,
+  ◌∙◌,
+  arith,
+  Option,
+  Some,
+  None,
+  unwrap_or,
+  Result,
+  Ok,
+  Err,
+  Bool,
+  true,
+  false,
+}
 use Rattle.std.specs.Prelude.{slice_set, slice_index_or, ◌==◌, if◌then◌else◌}
 use Rattle.std.specs.List.{All, AllPairs, AllZip, remove}
 use Rattle.std.proofs.lemmas.List.Elements.{All-nil, All-cons, All-head, All-tail, All-weaker}
@@ -19,7 +50,32 @@ use Rattle.engine.proofs.Interface.{related_there, step_kept}
 use Rattle.sql_tree.specs.Sorts.{is_definition, is_defining, tables_of, target}
 use Rattle.transactions.specs.Counted.{Counted, CountedOutcome, Execution, changed_by, count_of, counts_behind, is_at_last_count, counted, counted_step, raised_at, alone}
 use Rattle.transactions.specs.Serial.{Deed}
-use Rattle.transactions.specs.Stores.{Transaction, Store, Ask, Begins, Commits, RollsBack, Executes, Transacted, begun_over, transaction_at, with_transaction, seen_by, is_used, with_uses, changed_behind, stepped_in, conflict, why_not, merged, over, taken_over, committed, executed_in, transacted}
+use Rattle.transactions.specs.Stores.{
+  Transaction,
+  Store,
+  Ask,
+  Begins,
+  Commits,
+  RollsBack,
+  Executes,
+  Transacted,
+  begun_over,
+  transaction_at,
+  with_transaction,
+  seen_by,
+  is_used,
+  with_uses,
+  changed_behind,
+  stepped_in,
+  conflict,
+  why_not,
+  merged,
+  over,
+  taken_over,
+  committed,
+  executed_in,
+  transacted,
+}
 use Rattle.transactions.specs.declared.uses.Used.{Used}
 use Rattle.transactions.specs.WellKept.{IsCountedWell, IsShared, IsOverShared, IsTransaction, IsOpen, IsStore, IsFor, MayAsk}
 use Rattle.transactions.proofs.Between.{between_deeds, between_refl, raised_counted, raised_world}
@@ -55,7 +111,8 @@ module _ (cell : List ℕ → Bool) where
   -- ---- a step, with counts
 
   -- either the statement's world or the old one
-  counted_typed : (c : Counted) (s : BoundStatement) (a : Result Answer SqlFault) (w : World) → IsWellTyped cell c.world → IsWellTyped cell w → IsAnswerOf cell a → IsWellTyped cell (counted c s a w).after.world × IsAnswerOf cell (counted c s a w).answer
+  counted_typed : (c : Counted) (s : BoundStatement) (a : Result Answer SqlFault) (w : World) → IsWellTyped cell c.world
+      → IsWellTyped cell w → IsAnswerOf cell a → IsWellTyped cell (counted c s a w).after.world × IsAnswerOf cell (counted c s a w).answer
   counted_typed c s (Err f) w h k r = (h, tt)
   counted_typed c s (Ok answer) w h k r = by (is_at_last_count c (target s))
     where
@@ -75,7 +132,8 @@ module _ (cell : List ℕ → Bool) where
 
   -- ---- the used tables take their places
 
-  zip_merged : {A : Type 0} (R : TableDef → A → Type 0) (U : List ℕ → Bool) (theirs : List ℕ → A) (tables : List TableDef) (items : List A) → AllZip R tables items → All (λ (def : TableDef). U def.name ≡ false → R def (theirs def.name)) tables → AllZip R tables (merged U theirs tables items)
+  zip_merged : {A : Type 0} (R : TableDef → A → Type 0) (U : List ℕ → Bool) (theirs : List ℕ → A) (tables : List TableDef) (items : List A)
+      → AllZip R tables items → All (λ (def : TableDef). U def.name ≡ false → R def (theirs def.name)) tables → AllZip R tables (merged U theirs tables items)
   zip_merged R U theirs [] [] h g = tt
   zip_merged R U theirs [] (x ∷ items) h g = tt
   zip_merged R U theirs (t ∷ tables) [] h g = absurd h
@@ -86,12 +144,15 @@ module _ (cell : List ℕ → Bool) where
       by true e = h.0
       by false e = All-head (λ (def : TableDef). U def.name ≡ false → R def (theirs def.name)) t tables g e
 
-  over_typed : (shared : Counted) (t : Transaction) → IsWellTyped cell shared.world → IsWellTyped cell t.own.world → All (IsShared shared.world.catalog t.used) t.own.world.catalog.tables → IsWellTyped cell (over (is_used t.used) shared t.own).world
+  over_typed : (shared : Counted) (t : Transaction) → IsWellTyped cell shared.world → IsWellTyped cell t.own.world
+      → All (IsShared shared.world.catalog t.used) t.own.world.catalog.tables → IsWellTyped cell (over (is_used t.used) shared t.own).world
   over_typed shared t h k same = record {
     catalog = k.catalog;
-    shaped = zip_merged HoldsRows (is_used t.used) (rows_of shared.world) t.own.world.catalog.tables t.own.world.contents k.shaped (λ i d lt u. related_there HoldsRows shared.world _ _ h.shaped (same i d lt u));
+    shaped = zip_merged HoldsRows (is_used t.used) (rows_of shared.world) t.own.world.catalog.tables
+        t.own.world.contents k.shaped (λ i d lt u. related_there HoldsRows shared.world _ _ h.shaped (same i d lt u));
     keys = k.keys;
-    tables = zip_merged (IsTableOf cell) (is_used t.used) (rows_of shared.world) t.own.world.catalog.tables t.own.world.contents k.tables (λ i d lt u. related_there (IsTableOf cell) shared.world _ _ h.tables (same i d lt u));
+    tables = zip_merged (IsTableOf cell) (is_used t.used) (rows_of shared.world) t.own.world.catalog.tables
+        t.own.world.contents k.tables (λ i d lt u. related_there (IsTableOf cell) shared.world _ _ h.tables (same i d lt u));
   }
 
   -- ---- the state
@@ -120,7 +181,8 @@ module _ (cell : List ℕ → Bool) where
         over = λ e. subst (λ c. IsOverShared c t) (sym (s.same (omega arith))) (h.over (omega arith));
       }
 
-  with_shared : (store : Store) (now : Counted) → IsStore cell store → IsLater store.shared.world.catalog now.world.catalog → length now.counts ≡ length now.world.contents → IsWellTyped cell now.world → IsStore cell (record { shared = now; sessions = store.sessions })
+  with_shared : (store : Store) (now : Counted) → IsStore cell store → IsLater store.shared.world.catalog now.world.catalog
+      → length now.counts ≡ length now.world.contents → IsWellTyped cell now.world → IsStore cell (record { shared = now; sessions = store.sessions })
   with_shared store now h k n w = record {
     shared = record { world = w; counts = n };
     sessions = All-weaker (IsOpen cell store.shared) (IsOpen cell now) (open_later store.shared now k) store.sessions h.sessions;
@@ -132,12 +194,16 @@ module _ (cell : List ℕ → Bool) where
   abbrev Keeps : Transacted → Type 0
   Keeps t = IsStore cell t.after × IsAnswerOf cell t.answer
 
-  alone_keeps : (store : Store) (e : Execution) → IsStore cell store → IsFor cell store.shared.world e → IsStore cell (record { shared = (alone store.shared e).after; sessions = store.sessions }) × IsAnswerOf cell (alone store.shared e).answer
+  alone_keeps : (store : Store) (e : Execution) → IsStore cell store → IsFor cell store.shared.world e
+      → IsStore cell (record { shared = (alone store.shared e).after; sessions = store.sessions }) × IsAnswerOf cell (alone store.shared e).answer
   alone_keeps store e h m =
       let k = alone_kept store.shared e (record { long = h.shared.counts }) in
       let s = step_typed store.shared e h.shared.world m in
-      let o = counted_step store.shared e in
-      (with_shared store (alone store.shared e).after h (later_of store.shared (alone store.shared e).after k.since) k.counted.long (raised_typed o.after (changed_by e.bound.statement o.answer) s.0), s.1)
+      let o = counted_step store.shared e in (
+        with_shared store (alone store.shared e).after h (later_of store.shared (alone store.shared e).after k.since)
+            k.counted.long (raised_typed o.after (changed_by e.bound.statement o.answer) s.0),
+        s.1,
+      )
 
   in_keeps : (store : Store) (session : ℕ) (t : Transaction) (e : Execution) → IsStore cell store → IsTransaction cell store.shared t → IsFor cell t.own.world e → Keeps (executed_in store session t e)
   in_keeps store session t e h k m = by (is_definition e.bound.statement) refl
@@ -159,7 +225,9 @@ module _ (cell : List ℕ → Bool) where
       more shared over = All-weaker (IsShared shared t.used) (IsShared shared used) (λ def r u. r (unused def.name u)) t.own.world.catalog.tables over.tables
 
       Next : Counted → Type 0
-      Next after = (t.version ≤ after.world.catalog.version) × (store.shared.world.catalog.version ≡ t.version → IsOverShared store.shared.world.catalog (record { own = after; version = t.version; used = used; changed = changed_behind t.changed e.bound.statement o.answer }))
+      Next after = (t.version ≤ after.world.catalog.version) ×
+          (store.shared.world.catalog.version ≡ t.version
+          → IsOverShared store.shared.world.catalog (record { own = after; version = t.version; used = used; changed = changed_behind t.changed e.bound.statement o.answer }))
 
       stays : (after : Counted) → after.world.catalog ≡ t.own.world.catalog → Next after
       stays after is = (
@@ -182,7 +250,8 @@ module _ (cell : List ℕ → Bool) where
           let place = unwrap_or (table_place t.own.world.catalog r.old) 0 in
           let x = k.later in
           let named : is_used used r.old ≡ true =
-          All-head (λ name. is_used used name ≡ true) r.old (r.new ∷ []) (subst (λ s. All (λ name. is_used used name ≡ true) (tables_of s)) r.is (noted_all t.own (tables_of e.bound.statement) t.used)) in
+          All-head (λ name. is_used used name ≡ true) r.old (r.new ∷ [])
+          (subst (λ s. All (λ name. is_used used name ≡ true) (tables_of s)) r.is (noted_all t.own (tables_of e.bound.statement) t.used)) in
           subst (λ (x : CountedOutcome). Next x.after) (sym is) (
             omega arith,
             λ v.
@@ -224,9 +293,11 @@ module _ (cell : List ℕ → Bool) where
           )
         where
           only : is_definition e.bound.statement ≡ false → AreWork (record { execution = e; answer = o.answer } ∷ [])
-          only d = All-cons (λ (x : Deed). is_definition x.execution.bound.statement ≡ false) (record { execution = e; answer = o.answer }) [] d (All-nil (λ (x : Deed). is_definition x.execution.bound.statement ≡ false))
+          only d = All-cons (λ (x : Deed). is_definition x.execution.bound.statement ≡ false)
+              (record { execution = e; answer = o.answer }) [] d (All-nil (λ (x : Deed). is_definition x.execution.bound.statement ≡ false))
 
-  commit_keeps : (store : Store) (session : ℕ) (t : Transaction) (f : Option SqlFault) → why_not store.shared t ≡ f → IsStore cell store → IsTransaction cell store.shared t → Keeps (committed store session t f)
+  commit_keeps : (store : Store) (session : ℕ) (t : Transaction) (f : Option SqlFault) → why_not store.shared t ≡ f
+      → IsStore cell store → IsTransaction cell store.shared t → Keeps (committed store session t f)
   commit_keeps store session t (Some fault) e h k = (with_session store session None h tt, tt)
   commit_keeps store session t None e h k =
       let shared = store.shared in
@@ -242,7 +313,8 @@ module _ (cell : List ℕ → Bool) where
       let counts = merged_long (is_used t.used) (count_of shared) t.own.world.catalog.tables t.own.counts (omega arith) in
       let long = raised_counted laid t.changed (record { long = omega arith }) in
       let x = k.later in
-      let later : IsLater shared.world.catalog now.world.catalog = subst (λ (w : World). IsLater shared.world.catalog w.catalog) (sym world) (record { later = omega arith; same = λ u. g.same (omega arith) }) in
+      let later : IsLater shared.world.catalog now.world.catalog = subst (λ (w : World). IsLater shared.world.catalog w.catalog)
+      (sym world) (record { later = omega arith; same = λ u. g.same (omega arith) }) in
       let s = with_shared store now h later long.long typed in
       (with_session (record { shared = now; sessions = store.sessions }) session None s tt, tt)
     where
@@ -252,7 +324,8 @@ module _ (cell : List ℕ → Bool) where
       version true v g = is_there store.shared.world.catalog.version t.version v
       version false v g = absurd cc
 
-  keeps : (store : Store) (session : ℕ) (ask : Ask) (o : Option Transaction) → IsStore cell store → IsOpen cell store.shared o → MayAsk cell (seen_by store.shared o).world ask → Keeps (transacted store session o ask)
+  keeps : (store : Store) (session : ℕ) (ask : Ask) (o : Option Transaction) → IsStore cell store
+      → IsOpen cell store.shared o → MayAsk cell (seen_by store.shared o).world ask → Keeps (transacted store session o ask)
   keeps store session Begins None h k m = (
     with_session store session (Some (record { own = store.shared; version = store.shared.world.catalog.version; used = []; changed = [] })) h (begun_open store.shared h.shared),
     tt,
@@ -265,5 +338,6 @@ module _ (cell : List ℕ → Bool) where
   keeps store session RollsBack (Some t) h k m = (with_session store session None h tt, tt)
   keeps store session (Executes e) (Some t) h k m = in_keeps store session t e h k m
 
-  pub transact_keeps : (store : Store) (session : ℕ) (ask : Ask) → IsStore cell store → MayAsk cell (seen_by store.shared (transaction_at store session)).world ask → Keeps (transacted store session (transaction_at store session) ask)
+  pub transact_keeps : (store : Store) (session : ℕ) (ask : Ask) → IsStore cell store
+      → MayAsk cell (seen_by store.shared (transaction_at store session)).world ask → Keeps (transacted store session (transaction_at store session) ask)
   transact_keeps store session ask h m = keeps store session ask (transaction_at store session) h (all_at (IsOpen cell store.shared) store.sessions (session - 1) None h.sessions tt) m

@@ -39,7 +39,8 @@ pub record IsMovedTo (before after : Counted) (name target : List ℕ) : Type 0 
   pub there : IsSome (table_named after.world.catalog target)
   pub count : count_of after target ≡ count_of before name
 
-module _ (c : Counted) (old new : List ℕ) (w : IsCatalog c.world.catalog) (old_there : IsSome (table_named c.world.catalog old)) (new_there : IsSome (table_named c.world.catalog new)) (apart : old ≢ new)
+module _ (c : Counted) (old new : List ℕ) (w : IsCatalog c.world.catalog) (old_there : IsSome (table_named c.world.catalog old))
+    (new_there : IsSome (table_named c.world.catalog new)) (apart : old ≢ new)
     (kept : IsCatalog (replacement c old new).world.catalog) where
   abbrev k : Catalog
   k = c.world.catalog
@@ -55,7 +56,8 @@ module _ (c : Counted) (old new : List ℕ) (w : IsCatalog c.world.catalog) (old
       let q = shifted place (lies k name) in
       let far : lies k name ≢ place = names_apart k old name old_there there (λ e. other (sym e)) in
       let is : slice_get after.world.catalog.tables q ≡ Some def =
-      renamed_at new old (remove k.tables place) q p.def (all_pairs_remove (λ a b. a.name ≢ b.name) k.tables place (slice_get_within k.tables place o.def o.is) w.tables_differ) (shifted_is k.tables place (lies k name) far ∙ p.is) in
+      renamed_at new old (remove k.tables place) q p.def
+      (all_pairs_remove (λ a b. a.name ≢ b.name) k.tables place (slice_get_within k.tables place o.def o.is) w.tables_differ) (shifted_is k.tables place (lies k name) far ∙ p.is) in
       let at : lies after.world.catalog target ≡ q = ap (lies after.world.catalog) (sym named) ∙ lies_there after.world.catalog q def kept.tables_differ is in
       let found : table_named after.world.catalog target ≡ Some def = ap (table_named after.world.catalog) (sym named) ∙ found_there after.world.catalog.tables q def kept.tables_differ is in
       record {

@@ -1,5 +1,36 @@
 -- How uses and changes are noted.
-use Rattle.std.proofs.Common.{◌≡◌, ◌≢◌, ◌<◌, ◌≤◌, ℕ, zero, suc, List, [], ◌∷◌, ◌++◌, filter, get_or, length, map, take, append_assoc, append-nil, cond, refl, ap, sym, subst, ◌∙◌, arith, Some, None, Bool, true, false}
+use Rattle.std.proofs.Common.{
+  ◌≡◌,
+  ◌≢◌,
+  ◌<◌,
+  ◌≤◌,
+  ℕ,
+  zero,
+  suc,
+  List,
+  [],
+  ◌∷◌,
+  ◌++◌,
+  filter,
+  get_or,
+  length,
+  map,
+  take,
+  append_assoc,
+  append-nil,
+  cond,
+  refl,
+  ap,
+  sym,
+  subst,
+  ◌∙◌,
+  arith,
+  Some,
+  None,
+  Bool,
+  true,
+  false,
+}
 use Rattle.std.specs.Prelude.{if◌then◌else◌, nat_lt, not, slice_set}
 use Rattle.std.specs.List.{All, list_any, position, position_or_len}
 use Rattle.std.specs.Str.{bytes_eq}
@@ -23,7 +54,9 @@ noted_more : (c : Counted) (names : List (List ℕ)) (used : List Used) → IsLo
 noted_more c [] used = record { more = []; is = sym (append-nil used) }
 noted_more c (n ∷ names) used = by (is_used used n) (λ b. noted_more c names (if b then used else used ++ record { table = n; seen = count_of c n } ∷ []))
   where
-    by : (b : Bool) → ((b : Bool) → IsLonger (if b then used else used ++ record { table = n; seen = count_of c n } ∷ []) (with_uses c (if b then used else used ++ record { table = n; seen = count_of c n } ∷ []) names))
+    by : (b : Bool)
+        → ((b : Bool)
+        → IsLonger (if b then used else used ++ record { table = n; seen = count_of c n } ∷ []) (with_uses c (if b then used else used ++ record { table = n; seen = count_of c n } ∷ []) names))
         → IsLonger used (with_uses c (if b then used else used ++ record { table = n; seen = count_of c n } ∷ []) names)
     by true more = more true
     by false more =
@@ -73,7 +106,8 @@ joined_new changed name h = sym (ap (λ b. if b then changed else changed ++ nam
 
 -- ---- names behind REPLACE BY
 
-pub renamed_all : (P Q : List ℕ → Type 0) (old new : List ℕ) (names : List (List ℕ)) → ((n : List ℕ) → n ≢ old → P n → Q (renamed_name new old n)) → All P names → All Q (renamed_names (Some (old, new)) names)
+pub renamed_all : (P Q : List ℕ → Type 0) (old new : List ℕ) (names : List (List ℕ))
+    → ((n : List ℕ) → n ≢ old → P n → Q (renamed_name new old n)) → All P names → All Q (renamed_names (Some (old, new)) names)
 renamed_all P Q old new [] f h = All-nil Q
 renamed_all P Q old new (n ∷ names) f h = by (bytes_eq n old) refl (renamed_all P Q old new names f (All-tail P n names h))
   where
@@ -120,7 +154,8 @@ none_renamed old new (n ∷ names) h =
     let one : n ≡ renamed_name new old n = sym (ap (λ b. if b then old else n) (All-head (λ n. bytes_eq n new ≡ false) n names h)) in
     ap (λ m. m ∷ names) one ∙ ap (λ ns. renamed_name new old n ∷ ns) (none_renamed old new names (All-tail (λ n. bytes_eq n new ≡ false) n names h))
 
-one_renamed : (old new : List ℕ) (names : List (List ℕ)) (k : ℕ) → AreApart names → k < length names → bytes_eq (get_or names k new) new ≡ true → slice_set names k old ≡ map (renamed_name new old) names
+one_renamed : (old new : List ℕ) (names : List (List ℕ)) (k : ℕ) → AreApart names → k < length names
+    → bytes_eq (get_or names k new) new ≡ true → slice_set names k old ≡ map (renamed_name new old) names
 one_renamed old new [] k h lt e = absurd (omega arith)
 one_renamed old new (n ∷ names) zero h lt e =
     let is : n ≡ new = (bytes_eq-Decides n new).0 e in
@@ -145,11 +180,13 @@ nowhere p xs e = λ i d lt.
     unnot false k = refl
 
 -- what the code does with them
-pub renamed_there : (old new : List ℕ) (names kept : List (List ℕ)) (k : ℕ) → AreApart names → kept ≡ filter (λ n. not (bytes_eq n old)) names → position (λ n. bytes_eq n new) kept ≡ Some k → slice_set kept k old ≡ renamed_names (Some (old, new)) names
+pub renamed_there : (old new : List ℕ) (names kept : List (List ℕ)) (k : ℕ) → AreApart names
+    → kept ≡ filter (λ n. not (bytes_eq n old)) names → position (λ n. bytes_eq n new) kept ≡ Some k → slice_set kept k old ≡ renamed_names (Some (old, new)) names
 renamed_there old new names kept k h e p =
     let at = position-Some (λ n. bytes_eq n new) kept k new p in
     let apart : AreApart kept = subst AreApart (sym e) (apart_kept (λ n. not (bytes_eq n old)) names h) in
     one_renamed old new kept k apart at.0 at.1 ∙ ap (map (renamed_name new old)) e
 
-pub renamed_nowhere : (old new : List ℕ) (names kept : List (List ℕ)) → kept ≡ filter (λ n. not (bytes_eq n old)) names → position (λ n. bytes_eq n new) kept ≡ None → kept ≡ renamed_names (Some (old, new)) names
+pub renamed_nowhere : (old new : List ℕ) (names kept : List (List ℕ)) → kept ≡ filter (λ n. not (bytes_eq n old)) names
+    → position (λ n. bytes_eq n new) kept ≡ None → kept ≡ renamed_names (Some (old, new)) names
 renamed_nowhere old new names kept e p = none_renamed old new kept (nowhere (λ n. bytes_eq n new) kept p) ∙ ap (map (renamed_name new old)) e

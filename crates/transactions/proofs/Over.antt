@@ -1,5 +1,35 @@
 -- A transaction's own world laid over the shared one: what is done in the own world is done there too.
-use Rattle.std.proofs.Common.{◌≡◌, ◌≢◌, ℕ, zero, suc, ◌<◌, ◌+◌, List, [], ◌∷◌, length, get_or, refl, ap, sym, subst, ◌∙◌, arith, Option, Some, None, unwrap_or, Result, Ok, Err, Bool, true, false, IsSome}
+use Rattle.std.proofs.Common.{
+  ◌≡◌,
+  ◌≢◌,
+  ℕ,
+  zero,
+  suc,
+  ◌<◌,
+  ◌+◌,
+  List,
+  [],
+  ◌∷◌,
+  length,
+  get_or,
+  refl,
+  ap,
+  sym,
+  subst,
+  ◌∙◌,
+  arith,
+  Option,
+  Some,
+  None,
+  unwrap_or,
+  Result,
+  Ok,
+  Err,
+  Bool,
+  true,
+  false,
+  IsSome,
+}
 use Rattle.std.specs.Prelude.{slice_set, if◌then◌else◌}
 use Rattle.std.specs.List.{All, AllPairs, find, position_or_len, remove, slice_get}
 use Rattle.std.specs.Str.{bytes_eq}
@@ -70,7 +100,8 @@ unlike a b other = decide (bytes_eq a b) refl
     decide false e = e
 
 -- a table lies where its name is found, as names differ
-first_there : (tables : List TableDef) (p : ℕ) (def : TableDef) → AllPairs (λ a b. a.name ≢ b.name) tables → slice_get tables p ≡ Some def → position_or_len (λ (t : TableDef). bytes_eq t.name def.name) tables ≡ p
+first_there : (tables : List TableDef) (p : ℕ) (def : TableDef) → AllPairs (λ a b. a.name ≢ b.name) tables
+    → slice_get tables p ≡ Some def → position_or_len (λ (t : TableDef). bytes_eq t.name def.name) tables ≡ p
 first_there tables p def h e =
     let lt = slice_get_within tables p def e in
     let at : get_or tables p def ≡ def = get_or_from_slice_get tables p def def e in
@@ -78,7 +109,8 @@ first_there tables p def h e =
     (λ k before. unlike (get_or tables k def).name def.name (λ same. h k p def before lt (same ∙ ap (λ (t : TableDef). t.name) (sym at))))
     (λ within. (bytes_eq-Decides (get_or tables p def).name def.name).1 (ap (λ (t : TableDef). t.name) at))
 
-pub found_there : (tables : List TableDef) (p : ℕ) (def : TableDef) → AllPairs (λ a b. a.name ≢ b.name) tables → slice_get tables p ≡ Some def → find (λ (t : TableDef). bytes_eq t.name def.name) tables ≡ Some def
+pub found_there : (tables : List TableDef) (p : ℕ) (def : TableDef) → AllPairs (λ a b. a.name ≢ b.name) tables
+    → slice_get tables p ≡ Some def → find (λ (t : TableDef). bytes_eq t.name def.name) tables ≡ Some def
 found_there tables p def h e = find_at (λ (t : TableDef). bytes_eq t.name def.name) tables ∙ ap (slice_get tables) (first_there tables p def h e) ∙ e
 
 pub lies_there : (catalog : Catalog) (p : ℕ) (def : TableDef) → AllPairs (λ a b. a.name ≢ b.name) catalog.tables → slice_get catalog.tables p ≡ Some def → lies catalog def.name ≡ p
@@ -89,7 +121,8 @@ lies_there catalog p def h e =
 
 module _ {A : Type 0} (U : List ℕ → Bool) (theirs : List ℕ → A) where
   -- a used table's own item stands
-  pub merged_own : (tables : List TableDef) (items : List A) (k : ℕ) (def : TableDef) → slice_get tables k ≡ Some def → U def.name ≡ true → slice_get (merged U theirs tables items) k ≡ slice_get items k
+  pub merged_own : (tables : List TableDef) (items : List A) (k : ℕ) (def : TableDef) → slice_get tables k ≡ Some def
+      → U def.name ≡ true → slice_get (merged U theirs tables items) k ≡ slice_get items k
   merged_own [] items k def e u = absurd cc
   merged_own (t ∷ tables) [] k def e u = refl
   merged_own (t ∷ tables) (x ∷ items) zero def e u =
@@ -108,7 +141,8 @@ module _ {A : Type 0} (U : List ℕ → Bool) (theirs : List ℕ → A) where
   merged_set (t ∷ tables) (x ∷ items) (suc k) def y e u = ap (λ ys. (if U t.name then x else theirs t.name) ∷ ys) (merged_set tables items k def y e u)
 
   -- a list that has a used table's own item, and theirs of the others
-  pub merged_is : (tables : List TableDef) (items others : List A) → length items ≡ length tables → length others ≡ length tables → ((p : ℕ) (def : TableDef) → slice_get tables p ≡ Some def → U def.name ≡ true → slice_get others p ≡ slice_get items p)
+  pub merged_is : (tables : List TableDef) (items others : List A) → length items ≡ length tables
+      → length others ≡ length tables → ((p : ℕ) (def : TableDef) → slice_get tables p ≡ Some def → U def.name ≡ true → slice_get others p ≡ slice_get items p)
       → ((p : ℕ) (def : TableDef) → slice_get tables p ≡ Some def → U def.name ≡ false → slice_get others p ≡ Some (theirs def.name)) → merged U theirs tables items ≡ others
   merged_is [] [] [] n m own other = refl
   merged_is [] (x ∷ items) others n m own other = absurd (omega arith)
@@ -136,7 +170,8 @@ module _ {A : Type 0} (U : List ℕ → Bool) (theirs : List ℕ → A) where
   merged_none items (t ∷ tables) = refl
 
   -- a used name for another
-  pub merged_renamed : (from to : List ℕ) → U from ≡ true → U to ≡ true → (tables : List TableDef) (items : List A) → merged U theirs (renamed_tables from to tables) items ≡ merged U theirs tables items
+  pub merged_renamed : (from to : List ℕ) → U from ≡ true → U to ≡ true → (tables : List TableDef) (items : List A)
+      → merged U theirs (renamed_tables from to tables) items ≡ merged U theirs tables items
   merged_renamed from to uf ut [] items = refl
   merged_renamed from to uf ut (t ∷ tables) [] = merged_none [] (renamed_tables from to (t ∷ tables))
   merged_renamed from to uf ut (t ∷ tables) (x ∷ items) = by (bytes_eq t.name from) refl (merged_renamed from to uf ut tables items)
@@ -166,18 +201,21 @@ module _ (U : List ℕ → Bool) (shared : Counted) where
   abbrev pub laid : Catalog → List (List (List Atom)) → List ℕ → Counted
   laid catalog contents counts = over U shared (made catalog contents counts)
 
-  pub same_item : {A : Type 0} (theirs : List ℕ → A) (catalog : Catalog) (items : List A) (name : List ℕ) → IsUsedHere U catalog name → slice_get (merged U theirs catalog.tables items) (lies catalog name) ≡ slice_get items (lies catalog name)
+  pub same_item : {A : Type 0} (theirs : List ℕ → A) (catalog : Catalog) (items : List A) (name : List ℕ)
+      → IsUsedHere U catalog name → slice_get (merged U theirs catalog.tables items) (lies catalog name) ≡ slice_get items (lies catalog name)
   same_item theirs catalog items name u =
       let p = placed_at catalog name u.there in
       merged_own U theirs catalog.tables items (lies catalog name) p.def p.is (ap U p.name_is ∙ u.used)
 
   put_over : (catalog : Catalog) (contents : List (List (List Atom))) (counts : List ℕ) (name : Option (List ℕ)) (rows : List (List Atom)) → ((n : List ℕ) → name ≡ Some n → IsUsedHere U catalog n)
-      → made catalog (put (lies catalog) name rows (merged U (rows_of shared.world) catalog.tables contents)) (merged U (count_of shared) catalog.tables counts) ≡ laid catalog (put (lies catalog) name rows contents) counts
+      → made catalog (put (lies catalog) name rows (merged U (rows_of shared.world) catalog.tables contents))
+      (merged U (count_of shared) catalog.tables counts) ≡ laid catalog (put (lies catalog) name rows contents) counts
   put_over catalog contents counts None rows h = refl
   put_over catalog contents counts (Some n) rows h =
       let u = h n refl in
       let p = placed_at catalog n u.there in
-      ap (λ xs. made catalog xs (merged U (count_of shared) catalog.tables counts)) (merged_set U (rows_of shared.world) catalog.tables contents (lies catalog n) p.def rows p.is (ap U p.name_is ∙ u.used))
+      ap (λ xs. made catalog xs (merged U (count_of shared) catalog.tables counts))
+      (merged_set U (rows_of shared.world) catalog.tables contents (lies catalog n) p.def rows p.is (ap U p.name_is ∙ u.used))
 
   target_among : (P : List ℕ → Type 0) (s : BoundStatement) (a : Result Answer SqlFault) → All P (tables_of s) → (n : List ℕ) → changed_by s a ≡ Some n → P n
   target_among P (bound.Definition d) (Ok x) h n e = absurd cc
@@ -189,7 +227,8 @@ module _ (U : List ℕ → Bool) (shared : Counted) where
   target_among P s (Err f) h n e = absurd cc
 
   -- a statement that changes rows alone
-  work_over : (catalog : Catalog) (contents : List (List (List Atom))) (counts : List ℕ) (e : Execution) → is_defining e.bound.statement ≡ false → All (IsUsedHere U catalog) (tables_of e.bound.statement)
+  work_over : (catalog : Catalog) (contents : List (List (List Atom))) (counts : List ℕ) (e : Execution)
+      → is_defining e.bound.statement ≡ false → All (IsUsedHere U catalog) (tables_of e.bound.statement)
       → IsDoneOver (counted_step (made catalog contents counts) e) (counted_step (laid catalog contents counts) e) U shared
   work_over catalog contents counts e d h =
       let others = merged U (rows_of shared.world) catalog.tables contents in
@@ -245,7 +284,8 @@ module _ (U : List ℕ → Bool) (shared : Counted) where
       by true = record { answer = refl; after = refl }
       by false = record {
         answer = refl;
-        after = ap (λ xs. made after xs (remove right.counts place)) (gone (rows_of shared.world) contents) ∙ ap (made after (merged U (rows_of shared.world) after.tables (remove contents place))) (gone (count_of shared) counts);
+        after = ap (λ xs. made after xs (remove right.counts place)) (gone (rows_of shared.world) contents) ∙
+            ap (made after (merged U (rows_of shared.world) after.tables (remove contents place))) (gone (count_of shared) counts);
       }
 
   step_by_statement : (c : Counted) (b : Bound) (encs : List Enc) (params : List Atom) (s : BoundStatement) → b.statement ≡ s
@@ -254,13 +294,15 @@ module _ (U : List ℕ → Bool) (shared : Counted) where
   step_by_statement c b encs params s e =
       ap (λ (z : BoundStatement). let x = outcome c.world (done_by c.world b encs z params) in counted c z x.answer x.world) e
 
-  pub step_over : (own : Counted) (e : Execution) → is_definition e.bound.statement ≡ false → All (IsUsedHere U own.world.catalog) (tables_of e.bound.statement) → IsDoneOver (counted_step own e) (counted_step (over U shared own) e) U shared
+  pub step_over : (own : Counted) (e : Execution) → is_definition e.bound.statement ≡ false
+      → All (IsUsedHere U own.world.catalog) (tables_of e.bound.statement) → IsDoneOver (counted_step own e) (counted_step (over U shared own) e) U shared
   step_over own e d h = by e.bound.statement refl d h
     where
       whole : (s : BoundStatement) → e.bound.statement ≡ s → is_defining s ≡ false → IsDoneOver (counted_step own e) (counted_step (over U shared own) e) U shared
       whole s is w = work_over own.world.catalog own.world.contents own.counts e (ap is_defining is ∙ w) h
 
-      by : (s : BoundStatement) → e.bound.statement ≡ s → is_definition s ≡ false → All (IsUsedHere U own.world.catalog) (tables_of s) → IsDoneOver (counted_step own e) (counted_step (over U shared own) e) U shared
+      by : (s : BoundStatement) → e.bound.statement ≡ s → is_definition s ≡ false → All (IsUsedHere U own.world.catalog) (tables_of s)
+          → IsDoneOver (counted_step own e) (counted_step (over U shared own) e) U shared
       by (bound.Insert i) is d k = whole (bound.Insert i) is refl
       by (bound.Update u) is d k = whole (bound.Update u) is refl
       by (bound.Delete x) is d k = whole (bound.Delete x) is refl
@@ -299,7 +341,8 @@ got (x ∷ xs) zero d lt = refl
 got (x ∷ xs) (suc p) d lt = got xs p d (omega arith)
 
 -- a list that is theirs, and at the used tables the own one
-pub level : {A : Type 0} (U : List ℕ → Bool) (theirs : List ℕ → A) (d : A) (catalog : Catalog) (items others : List A) → AllPairs (λ a b. a.name ≢ b.name) catalog.tables → length items ≡ length catalog.tables → length others ≡ length catalog.tables
+pub level : {A : Type 0} (U : List ℕ → Bool) (theirs : List ℕ → A) (d : A) (catalog : Catalog) (items others : List A)
+    → AllPairs (λ a b. a.name ≢ b.name) catalog.tables → length items ≡ length catalog.tables → length others ≡ length catalog.tables
     → ((name : List ℕ) → U name ≡ true → slice_get others (lies catalog name) ≡ slice_get items (lies catalog name))
     → ((name : List ℕ) → theirs name ≡ unwrap_or (slice_get others (lies catalog name)) d)
     → merged U theirs catalog.tables items ≡ others
@@ -312,6 +355,8 @@ level U theirs d catalog items others differ n m same is = merged_is U theirs ca
 pub over_level : (U : List ℕ → Bool) (own shared : Counted) → AreLevel U own shared → over U shared own ≡ shared
 over_level U own shared h =
     let k = own.world.catalog in
-    let rows = level U (rows_of shared.world) [] k own.world.contents shared.world.contents h.differ h.own_contents h.contents h.rows_same (λ name. ap (λ c. unwrap_or (slice_get shared.world.contents (lies c name)) []) h.catalog) in
-    let counts = level U (count_of shared) 0 k own.counts shared.counts h.differ h.own_counts h.counts h.counts_same (λ name. ap (λ c. unwrap_or (slice_get shared.counts (lies c name)) 0) h.catalog) in
+    let rows = level U (rows_of shared.world) [] k own.world.contents shared.world.contents h.differ h.own_contents
+    h.contents h.rows_same (λ name. ap (λ c. unwrap_or (slice_get shared.world.contents (lies c name)) []) h.catalog) in
+    let counts = level U (count_of shared) 0 k own.counts shared.counts h.differ h.own_counts h.counts h.counts_same
+    (λ name. ap (λ c. unwrap_or (slice_get shared.counts (lies c name)) 0) h.catalog) in
     ap (λ xs. made k xs (merged U (count_of shared) k.tables own.counts)) rows ∙ ap (made k shared.world.contents) counts ∙ ap (λ c. made c shared.world.contents shared.counts) (sym h.catalog)

@@ -80,7 +80,8 @@ covered_by : (place : List ℕ → ℕ) (names : List (List ℕ)) (name : List �
 covered_by place [] name p e h = absurd cc
 covered_by place (n ∷ names) name p e h = by (bytes_eq n name) refl e (λ k. covered_by place names name p k h)
   where
-    by : (b : Bool) → bytes_eq n name ≡ b → (b || list_any (λ m. bytes_eq m name) names) ≡ true → (list_any (λ m. bytes_eq m name) names ≡ true → covers place names p ≡ true) → covers place (n ∷ names) p ≡ true
+    by : (b : Bool) → bytes_eq n name ≡ b → (b || list_any (λ m. bytes_eq m name) names) ≡ true
+        → (list_any (λ m. bytes_eq m name) names ≡ true → covers place names p ≡ true) → covers place (n ∷ names) p ≡ true
     by true t k more =
         let same = (bytes_eq-Decides n name).0 t in
         ap (λ b. b || covers place names p) (ap (λ m. place m == p) same ∙ h)

@@ -22,7 +22,8 @@ use Rattle.transactions.proofs.Frame.{made}
 abbrev pub replacement : Counted → (old new : List ℕ) → Counted
 replacement c old new =
     let place = unwrap_or (table_place c.world.catalog old) 0 in
-    made (record c.world.catalog { tables = renamed_tables new old (remove c.world.catalog.tables place); version = c.world.catalog.version + 1 }) (remove c.world.contents place) (remove c.counts place)
+    made (record c.world.catalog { tables = renamed_tables new old (remove c.world.catalog.tables place); version = c.world.catalog.version + 1 })
+    (remove c.world.contents place) (remove c.counts place)
 
 abbrev pub at_last : Counted → CountedOutcome
 at_last c = record { answer = Err fault.Full; after = c }
@@ -74,7 +75,8 @@ step_cases c e d = by e.bound.statement refl d
     by (bound.Delete x) is d = inl (ap is_defining is)
     by (bound.Select q) is d = inl (ap is_defining is)
     by (bound.Control c) is d = inl (ap is_defining is)
-    by (bound.Definition (definition.ReplaceTable old new)) is d = inr (record { old = old; new = new; is = is; done = replace_done c e.bound e.encs e.params old new (bound.Definition (definition.ReplaceTable old new)) is refl })
+    by (bound.Definition (definition.ReplaceTable old new)) is d = inr
+        (record { old = old; new = new; is = is; done = replace_done c e.bound e.encs e.params old new (bound.Definition (definition.ReplaceTable old new)) is refl })
     by (bound.Definition other) is d = absurd cc
 
 -- a statement that changes rows alone renames nothing

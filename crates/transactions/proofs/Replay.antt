@@ -28,7 +28,8 @@ pub put_mixed : (place : List ℕ → ℕ) (changed : List (List ℕ)) (name : O
 put_mixed place changed None rows start xs ys p n e = e
 put_mixed place changed (Some name) rows start xs ys p n e = by (place name == p) refl
   where
-    by : (b : Bool) → (place name == p) ≡ b → slice_get (slice_set ys (place name) rows) p ≡ (if covers place (with_changed changed (Some name)) p then slice_get (slice_set xs (place name) rows) p else slice_get start p)
+    by : (b : Bool) → (place name == p) ≡ b
+        → slice_get (slice_set ys (place name) rows) p ≡ (if covers place (with_changed changed (Some name)) p then slice_get (slice_set xs (place name) rows) p else slice_get start p)
     by true t =
         subst (λ k. slice_get (slice_set ys (place name) rows) k ≡ slice_get (slice_set xs (place name) rows) k) (is_there (place name) p t) (set_same ys xs (place name) rows n)
         ∙ ap (λ b. if b then slice_get (slice_set xs (place name) rows) p else slice_get start p) (sym (joined_there place changed name p t))
@@ -54,7 +55,8 @@ pub record Replayed (U : List ℕ → Bool) (shared own again : Counted) (deeds 
   pub there : AreThere again deeds
   pub after : after_deeds again deeds ≡ over U shared (after_deeds own deeds)
 
-pub replayed : (U : List ℕ → Bool) (shared : Counted) (deeds : List Deed) (own again : Counted) → again ≡ over U shared own → AreWork deeds → AreAbout (λ name. U name ≡ true) deeds → AreThere own deeds → AreAnswered own deeds
+pub replayed : (U : List ℕ → Bool) (shared : Counted) (deeds : List Deed) (own again : Counted) → again ≡ over U shared own
+    → AreWork deeds → AreAbout (λ name. U name ≡ true) deeds → AreThere own deeds → AreAnswered own deeds
     → Replayed U shared own again deeds
 replayed U shared [] own again e works about there given = record { answered = tt; there = tt; after = e }
 replayed U shared (d ∷ deeds) own again e works about there given =
@@ -65,7 +67,8 @@ replayed U shared (d ∷ deeds) own again e works about there given =
     let s = step_over U shared own x work (λ i n lt. record { used = used i n lt; there = there.0 i n lt }) in
     let next : (counted_step again x).after ≡ over U shared (counted_step own x).after = ap (λ c. (counted_step c x).after) e ∙ s.after in
     let r = replayed U shared deeds (counted_step own x).after (counted_step again x).after next
-    (All-tail (λ (d : Deed). is_definition d.execution.bound.statement ≡ false) d deeds works) (All-tail (λ (d : Deed). All (λ name. U name ≡ true) (tables_of d.execution.bound.statement)) d deeds about) there.1 given.1 in
+    (All-tail (λ (d : Deed). is_definition d.execution.bound.statement ≡ false) d deeds works)
+    (All-tail (λ (d : Deed). All (λ name. U name ≡ true) (tables_of d.execution.bound.statement)) d deeds about) there.1 given.1 in
     record {
       answered = (ap (λ c. (counted_step c x).answer) e ∙ s.answer ∙ given.0, r.answered);
       there = (subst (λ (c : Counted). All (λ name. IsSome (table_named c.world.catalog name)) names) (sym e) there.0, r.there);
@@ -86,7 +89,8 @@ placed_one place name names start own again p n e = by (place name == p) refl (c
     by : (b : Bool) → (place name == p) ≡ b → (c : Bool) → slice_get again p ≡ (if b || c then slice_get own p else slice_get start p)
         → slice_get again p ≡ (if c then slice_get own p else slice_get (slice_set start (place name) (unwrap_or (slice_get own (place name)) [])) p)
     by true t true h = h
-    by true t false h = h ∙ subst (λ k. slice_get own k ≡ slice_get (slice_set start (place name) (unwrap_or (slice_get own (place name)) [])) k) (is_there (place name) p t) (sym (set_from start own (place name) [] (sym n)))
+    by true t false h = h ∙ subst (λ k. slice_get own k ≡ slice_get (slice_set start (place name) (unwrap_or (slice_get own (place name)) [])) k)
+        (is_there (place name) p t) (sym (set_from start own (place name) [] (sym n)))
     by false t true h = h
     by false t false h = h ∙ sym (set_other start (place name) p (unwrap_or (slice_get own (place name)) []) (not_there (place name) p t))
 

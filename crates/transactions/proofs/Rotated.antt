@@ -1,5 +1,40 @@
 -- A rotation that is committed has moved the rows.
-use Rattle.std.proofs.Common.{◌≡◌, ◌≢◌, ◌≤◌, ◌⊎◌, inl, inr, ℕ, zero, suc, ◌-◌, ◌+◌, List, [], ◌∷◌, ◌++◌, length, map, refl, ap, sym, subst, ◌∙◌, arith, Option, Some, None, IsSome, unwrap_or, Result, Ok, Err, Bool, true, false}
+use Rattle.std.proofs.Common.{
+  ◌≡◌,
+  ◌≢◌,
+  ◌≤◌,
+  ◌⊎◌,
+  inl,
+  inr,
+  ℕ,
+  zero,
+  suc,
+  ◌-◌,
+  ◌+◌,
+  List,
+  [],
+  ◌∷◌,
+  ◌++◌,
+  length,
+  map,
+  refl,
+  ap,
+  sym,
+  subst,
+  ◌∙◌,
+  arith,
+  Option,
+  Some,
+  None,
+  IsSome,
+  unwrap_or,
+  Result,
+  Ok,
+  Err,
+  Bool,
+  true,
+  false,
+}
 use Rattle.std.specs.Prelude.{if◌then◌else◌, nat_le, slice_set}
 use Rattle.std.specs.List.{All, remove, slice_get}
 use Rattle.std.specs.Str.{bytes_eq}
@@ -49,7 +84,8 @@ use Rattle.transactions.proofs.Rotating.{row_is, select_left}
 
 -- ---- one row is put
 
-one_put : (columns : List ColumnDef) (named : List ℕ) (values : List (operands.Operand ℕ ℕ)) (params : List Atom) (at count : ℕ) (rows : List (List Atom)) → length named ≡ length params → length columns ≡ length params → ArePut 0 named values
+one_put : (columns : List ColumnDef) (named : List ℕ) (values : List (operands.Operand ℕ ℕ)) (params : List Atom) (at count : ℕ) (rows : List (List Atom))
+    → length named ≡ length params → length columns ≡ length params → ArePut 0 named values
     → new_rows columns named params count (record { at = at; values = values } ∷ []) ≡ Ok rows → rows ≡ params ∷ []
 one_put columns named values params at count rows n m h is = by (nat_le most_table_rows count) (new_row columns named params values) refl is
   where
@@ -65,11 +101,13 @@ untwinned : {A : Type 0} (o : Option ℕ) (x y : A) → unless_twins o x ≡ Ok 
 untwinned None x y e = cc
 untwinned (Some n) x y e = absurd cc
 
-put_left : (c : Counted) (b : Bound) (encs : List Enc) (params : List Atom) (s : BoundStatement) (table : List ℕ) (named : List ℕ) (values : List (operands.Operand ℕ ℕ)) (at : ℕ) (answer : Answer) → b.statement ≡ s
+put_left : (c : Counted) (b : Bound) (encs : List Enc) (params : List Atom) (s : BoundStatement) (table : List ℕ)
+    (named : List ℕ) (values : List (operands.Operand ℕ ℕ)) (at : ℕ) (answer : Answer) → b.statement ≡ s
     → s ≡ bound.Insert (record { table = table; named = named; rows = record { at = at; values = values } ∷ [] })
     → length named ≡ length params → length (columns_among c.world.catalog.tables table) ≡ length params → ArePut 0 named values
     → (counted_step c (record { bound = b; encs = encs; params = params })).answer ≡ Ok answer
-    → (counted_step c (record { bound = b; encs = encs; params = params })).after ≡ made c.world.catalog (slice_set c.world.contents (lies c.world.catalog table) (rows_of c.world table ++ params ∷ [])) c.counts
+    → (counted_step c (record { bound = b; encs = encs; params = params })).after ≡ made c.world.catalog
+    (slice_set c.world.contents (lies c.world.catalog table) (rows_of c.world table ++ params ∷ [])) c.counts
 put_left c b encs params s table named values at answer is so n m h ok =
     ap (λ (o : CountedOutcome). o.after) whole ∙ by (rows_to_insert c.world i params) refl (ap (λ (o : CountedOutcome). o.answer) (sym whole) ∙ ok)
   where
@@ -93,7 +131,8 @@ put_left c b encs params s table named values at answer is so n m h ok =
         split : (r : Result (List (List Atom)) SqlFault) → new_rows (columns_of c.world table) named params (length (rows_of c.world table)) (record { at = at; values = values } ∷ []) ≡ r
             → (r >>= λ rows. unless_twins (first_twins 1 (uniques_of c.world table) (rows_of c.world table ++ rows)) rows) ≡ Ok rows → rows ≡ params ∷ []
         split (Err f) g e = absurd cc
-        split (Ok made) g e = sym (untwinned (first_twins 1 (uniques_of c.world table) (rows_of c.world table ++ made)) made rows e) ∙ one_put (columns_of c.world table) named values params at (length (rows_of c.world table)) made n m h g
+        split (Ok made) g e = sym (untwinned (first_twins 1 (uniques_of c.world table) (rows_of c.world table ++ made)) made rows e)
+            ∙ one_put (columns_of c.world table) named values params at (length (rows_of c.world table)) made n m h g
 
     by : (r : Result (List (List Atom)) SqlFault) → rows_to_insert c.world i params ≡ r → (outcome_of r).answer ≡ Ok answer → (outcome_of r).after ≡ wanted
     by (Err f) e k = absurd cc
@@ -102,7 +141,8 @@ put_left c b encs params s table named values at answer is so n m h ok =
         after : Counted
         after = record { world = with_rows c.world table (rows_of c.world table ++ rows); counts = c.counts }
 
-        last : (b : Bool) → (let o : CountedOutcome = if b then record { answer = Err fault.Full; after = c } else record { answer = Ok (step.Changed (length rows)); after = after } in o.answer) ≡ Ok answer
+        last : (b : Bool)
+            → (let o : CountedOutcome = if b then record { answer = Err fault.Full; after = c } else record { answer = Ok (step.Changed (length rows)); after = after } in o.answer) ≡ Ok answer
             → (let o : CountedOutcome = if b then record { answer = Err fault.Full; after = c } else record { answer = Ok (step.Changed (length rows)); after = after } in o.after) ≡ wanted
         last true k = absurd cc
         last false k = ap (λ rs. made c.world.catalog (slice_set c.world.contents (lies c.world.catalog table) (rows_of c.world table ++ rs)) c.counts) (rows_are rows e)
@@ -139,7 +179,8 @@ pub record IsSoFar (before now : Counted) (new : List ℕ) (rows : List (List At
   pub others : (name : List ℕ) → IsSome (table_named before.world.catalog name) → name ≢ new → rows_of now.world name ≡ rows_of before.world name
 
 module _ (before : Counted) (new : List ℕ) (width : ℕ) (there : IsSome (table_named before.world.catalog new)) (columns : length (columns_among before.world.catalog.tables new) ≡ width) where
-  put_more : (now after : Counted) (rows : List (List Atom)) (row : List Atom) → IsSoFar before now new rows → after ≡ made now.world.catalog (slice_set now.world.contents (lies now.world.catalog new) (rows_of now.world new ++ row ∷ [])) now.counts
+  put_more : (now after : Counted) (rows : List (List Atom)) (row : List Atom) → IsSoFar before now new rows
+      → after ≡ made now.world.catalog (slice_set now.world.contents (lies now.world.catalog new) (rows_of now.world new ++ row ∷ [])) now.counts
       → IsSoFar before after new (rows ++ row ∷ [])
   put_more now after rows row h e =
       let k = before.world.catalog in
@@ -147,7 +188,8 @@ module _ (before : Counted) (new : List ℕ) (width : ℕ) (there : IsSome (tabl
       let p = placed_at k new there in
       let within = as_long xs k.tables (lies k new) h.long (subst IsSome (sym p.is) refl) in
       let is : after ≡ made k (slice_set xs (lies k new) (rows ++ row ∷ [])) now.counts =
-      e ∙ ap (λ rs. made now.world.catalog (slice_set xs (lies now.world.catalog new) (rs ++ row ∷ [])) now.counts) h.rows_are ∙ ap (λ c. made c (slice_set xs (lies c new) (rows ++ row ∷ [])) now.counts) h.catalog in
+      e ∙ ap (λ rs. made now.world.catalog (slice_set xs (lies now.world.catalog new) (rs ++ row ∷ [])) now.counts)
+      h.rows_are ∙ ap (λ c. made c (slice_set xs (lies c new) (rows ++ row ∷ [])) now.counts) h.catalog in
       subst (λ c. IsSoFar before c new (rows ++ row ∷ [])) (sym is) (record {
         catalog = refl;
         long = set_length xs (lies k new) (rows ++ row ∷ []) ∙ h.long;
@@ -163,7 +205,8 @@ module _ (before : Counted) (new : List ℕ) (width : ℕ) (there : IsSome (tabl
     pub answered : AreAnswered (after_deeds now puts) more
     pub after : after_deeds now (puts ++ more) ≡ after_deeds (after_deeds now puts) more
 
-  puts_done : (puts : List Deed) (now : Counted) (rows : List (List Atom)) (more : List Deed) → IsSoFar before now new rows → All (HasPut new width) puts → AreAnswered now (puts ++ more) → ArePutSo now rows puts more
+  puts_done : (puts : List Deed) (now : Counted) (rows : List (List Atom)) (more : List Deed) → IsSoFar before now new rows
+      → All (HasPut new width) puts → AreAnswered now (puts ++ more) → ArePutSo now rows puts more
   puts_done [] now rows more h all given = record { so_far = subst (IsSoFar before now new) (sym (nothing rows)) h; answered = given; after = refl }
     where
       nothing : (xs : List (List Atom)) → xs ++ [] ≡ xs
@@ -174,7 +217,8 @@ module _ (before : Counted) (new : List ℕ) (width : ℕ) (there : IsSome (tabl
       let e = d.execution in
       let i = p.row in
       let wide : length (columns_among now.world.catalog.tables new) ≡ length e.params = ap (λ (c : Catalog). length (columns_among c.tables new)) h.catalog ∙ columns ∙ sym p.wide in
-      let left = put_left now e.bound e.encs e.params (bound.Insert p.insert) new i.named i.values i.at (step.Changed 1) p.statement (ap bound.Insert i.is) (i.wide ∙ sym p.wide) wide i.put (given.0 ∙ p.answer) in
+      let left = put_left now e.bound e.encs e.params (bound.Insert p.insert) new i.named i.values i.at
+      (step.Changed 1) p.statement (ap bound.Insert i.is) (i.wide ∙ sym p.wide) wide i.put (given.0 ∙ p.answer) in
       let next = put_more now (counted_step now e).after rows e.params h left in
       let r = puts_done puts (counted_step now e).after (rows ++ e.params ∷ []) more next (All-tail (HasPut new width) d puts all) given.1 in
       record {
@@ -205,7 +249,8 @@ shifted_is (x ∷ xs) zero (suc p) h = refl
 shifted_is (x ∷ xs) (suc k) zero h = refl
 shifted_is (x ∷ xs) (suc k) (suc p) h = shifted_is xs k p (λ e. h (ap suc e))
 
-module _ (c : Counted) (old new : List ℕ) (w : IsCatalog c.world.catalog) (old_there : IsSome (table_named c.world.catalog old)) (new_there : IsSome (table_named c.world.catalog new)) (apart : old ≢ new)
+module _ (c : Counted) (old new : List ℕ) (w : IsCatalog c.world.catalog) (old_there : IsSome (table_named c.world.catalog old))
+    (new_there : IsSome (table_named c.world.catalog new)) (apart : old ≢ new)
     (defined : defined_by c.world.catalog (definition.ReplaceTable old new) ≡ Ok (replacement c old new).world.catalog) where
   abbrev k : Catalog
   k = c.world.catalog
@@ -220,14 +265,16 @@ module _ (c : Counted) (old new : List ℕ) (w : IsCatalog c.world.catalog) (old
     pub rows : rows_of after.world target ≡ rows_of c.world name
     pub columns : columns_among after.world.catalog.tables target ≡ columns_among k.tables name
 
-  moved : (name target : List ℕ) (p : IsPlacedAt k name) → IsSome (table_named k name) → name ≢ old → (renamed_table new old p.def).name ≡ target → (renamed_table new old p.def).columns ≡ p.def.columns → IsMoved name target
+  moved : (name target : List ℕ) (p : IsPlacedAt k name) → IsSome (table_named k name) → name ≢ old
+      → (renamed_table new old p.def).name ≡ target → (renamed_table new old p.def).columns ≡ p.def.columns → IsMoved name target
   moved name target p there other named same =
       let place = lies k old in
       let o = placed_at k old old_there in
       let old_within = slice_get_within k.tables place o.def o.is in
       let q = shifted place (lies k name) in
       let far = lie_apart k name old there old_there other in
-      let is : slice_get after.world.catalog.tables q ≡ Some (renamed_table new old p.def) = renamed_at new old (remove k.tables place) q p.def (all_pairs_remove (λ a b. a.name ≢ b.name) k.tables place old_within w.tables_differ) (shifted_is k.tables place (lies k name) far ∙ p.is) in
+      let is : slice_get after.world.catalog.tables q ≡ Some (renamed_table new old p.def) = renamed_at new old
+      (remove k.tables place) q p.def (all_pairs_remove (λ a b. a.name ≢ b.name) k.tables place old_within w.tables_differ) (shifted_is k.tables place (lies k name) far ∙ p.is) in
       let at : lies after.world.catalog target ≡ q = ap (lies after.world.catalog) (sym named) ∙ lies_there after.world.catalog q (renamed_table new old p.def) kept.tables_differ is in
       let found : table_named after.world.catalog target ≡ Some (renamed_table new old p.def) =
       ap (table_named after.world.catalog) (sym named) ∙ found_there after.world.catalog.tables q (renamed_table new old p.def) kept.tables_differ is in
@@ -242,14 +289,16 @@ module _ (c : Counted) (old new : List ℕ) (w : IsCatalog c.world.catalog) (old
   new_moved =
       let p = placed_at k new new_there in
       let t : bytes_eq p.def.name new ≡ true = (bytes_eq-Decides p.def.name new).1 p.name_is in
-      moved new old p new_there (λ e. apart (sym e)) (ap (λ b. let d : TableDef = if b then record p.def { name = old } else p.def in d.name) t) (ap (λ b. let d : TableDef = if b then record p.def { name = old } else p.def in d.columns) t)
+      moved new old p new_there (λ e. apart (sym e)) (ap (λ b. let d : TableDef = if b then record p.def { name = old } else p.def in d.name) t)
+      (ap (λ b. let d : TableDef = if b then record p.def { name = old } else p.def in d.columns) t)
 
   -- every other one
   pub other_moved : (name : List ℕ) → IsSome (table_named k name) → name ≢ old → name ≢ new → IsMoved name name
   other_moved name there first second =
       let p = placed_at k name there in
       let t : bytes_eq p.def.name new ≡ false = unlike p.def.name new (λ e. second (sym p.name_is ∙ e)) in
-      moved name name p there first (ap (λ b. let d : TableDef = if b then record p.def { name = old } else p.def in d.name) t ∙ p.name_is) (ap (λ b. let d : TableDef = if b then record p.def { name = old } else p.def in d.columns) t)
+      moved name name p there first (ap (λ b. let d : TableDef = if b then record p.def { name = old } else p.def in d.name) t ∙ p.name_is)
+      (ap (λ b. let d : TableDef = if b then record p.def { name = old } else p.def in d.columns) t)
 
 -- ---- all together
 
@@ -272,7 +321,8 @@ pub record IsReadSo (c : Counted) (d : Deed) (table : List ℕ) (rows : List (Li
   pub rows_are : rows_of c.world table ≡ rows
   pub after : (counted_step c d.execution).after ≡ c
 
-read_done : (cell : List ℕ → Bool) (c : Counted) (d : Deed) (table : List ℕ) (width : ℕ) (rows : List (List Atom)) → IsWellTyped cell c.world → IsSome (table_named c.world.catalog table) → length (columns_among c.world.catalog.tables table) ≡ width
+read_done : (cell : List ℕ → Bool) (c : Counted) (d : Deed) (table : List ℕ) (width : ℕ) (rows : List (List Atom))
+    → IsWellTyped cell c.world → IsSome (table_named c.world.catalog table) → length (columns_among c.world.catalog.tables table) ≡ width
     → HasRead table width rows d → (counted_step c d.execution).answer ≡ d.answer → IsReadSo c d table rows
 read_done cell c d table width rows w there wide r given = by (table_named c.world.catalog table) refl there
   where
@@ -295,7 +345,8 @@ read_done cell c d table width rows w there wide r given = by (table_named c.wor
         (subst (λ rs. All (λ row. length row ≡ length q.items) rs) (sym from_rows) (subst (λ m. All (λ row. length row ≡ m) (rows_of c.world table)) n h.wide))
         (subst (λ rs. length rs ≤ 1000000) (sym from_rows) m) in
         record {
-          rows_are = sym from_rows ∙ same_rows (map (result_column e.bound.columns e.bound.params e.encs) q.items) r.columns (rows_of c.world q.from.table) rows d.answer (sym given ∙ ap (λ (o : CountedOutcome). o.answer) left) r.answer;
+          rows_are = sym from_rows ∙ same_rows (map (result_column e.bound.columns e.bound.params e.encs) q.items)
+              r.columns (rows_of c.world q.from.table) rows d.answer (sym given ∙ ap (λ (o : CountedOutcome). o.answer) left) r.answer;
           after = ap (λ (o : CountedOutcome). o.after) left;
         }
 
@@ -329,11 +380,13 @@ rotated cell before old new width read log w apart old_wide new_wide r answered 
     new_there : IsSome (table_named before.world.catalog new)
     new_there = table_there r.nothing (here.0)
       where
-        table_there : HasRead new width [] r.empty → All (λ name. IsSome (table_named before.world.catalog name)) (tables_of r.empty.execution.bound.statement) → IsSome (table_named before.world.catalog new)
+        table_there : HasRead new width [] r.empty → All (λ name. IsSome (table_named before.world.catalog name)) (tables_of r.empty.execution.bound.statement)
+            → IsSome (table_named before.world.catalog new)
         table_there x h =
             let from = x.whole in
             subst (λ n. IsSome (table_named before.world.catalog n)) from.of_table
-            (All-head (λ name. IsSome (table_named before.world.catalog name)) from.from.table [] (subst (λ s. All (λ name. IsSome (table_named before.world.catalog name)) (tables_of s)) (x.statement ∙ ap bound.Select from.is) h))
+            (All-head (λ name. IsSome (table_named before.world.catalog name)) from.from.table []
+            (subst (λ s. All (λ name. IsSome (table_named before.world.catalog name)) (tables_of s)) (x.statement ∙ ap bound.Select from.is) h))
 
     one : IsReadSo before r.empty new []
     one = read_done cell before r.empty new width [] w new_there new_wide r.nothing given.0
@@ -347,11 +400,13 @@ rotated cell before old new width read log w apart old_wide new_wide r answered 
     old_there : IsSome (table_named before.world.catalog old)
     old_there = table_there r.rows (here_two.0)
       where
-        table_there : HasRead old width read r.whole → All (λ name. IsSome (table_named before.world.catalog name)) (tables_of r.whole.execution.bound.statement) → IsSome (table_named before.world.catalog old)
+        table_there : HasRead old width read r.whole → All (λ name. IsSome (table_named before.world.catalog name)) (tables_of r.whole.execution.bound.statement)
+            → IsSome (table_named before.world.catalog old)
         table_there x h =
             let from = x.whole in
             subst (λ n. IsSome (table_named before.world.catalog n)) from.of_table
-            (All-head (λ name. IsSome (table_named before.world.catalog name)) from.from.table [] (subst (λ s. All (λ name. IsSome (table_named before.world.catalog name)) (tables_of s)) (x.statement ∙ ap bound.Select from.is) h))
+            (All-head (λ name. IsSome (table_named before.world.catalog name)) from.from.table []
+            (subst (λ s. All (λ name. IsSome (table_named before.world.catalog name)) (tables_of s)) (x.statement ∙ ap bound.Select from.is) h))
 
     two : IsReadSo before r.whole old read
     two = read_done cell before r.whole old width read w old_there old_wide r.rows given_two.0

@@ -45,7 +45,8 @@ long_more [] a = refl
 long_more (x ∷ front) a = let h = long_more front a in omega arith
 
 -- the columns of a row from a place on
-items_are : (params : List Atom) (items : List BoundItem) (front rest : List Atom) (k : ℕ) → k ≡ length front → length rest ≡ length items → AreColumns k items → items_of params 0 (front ++ rest) items ≡ Ok rest
+items_are : (params : List Atom) (items : List BoundItem) (front rest : List Atom) (k : ℕ) → k ≡ length front
+    → length rest ≡ length items → AreColumns k items → items_of params 0 (front ++ rest) items ≡ Ok rest
 items_are params [] front [] k e n h = refl
 items_are params [] front (a ∷ rest) k e n h = absurd (omega arith)
 items_are params (item ∷ items) front [] k e n h = absurd (omega arith)
@@ -67,13 +68,16 @@ found_row row = record { keys = []; shown = row }
 not_over : (n : ℕ) → n < 1000000 → nat_le 1000000 n ≡ false
 not_over n lt = grind (arith, nat_tests)
 
-results_are : (params : List Atom) (items : List BoundItem) (from : BoundSource) (rows : List (List Atom)) (count : ℕ) → AreColumns 0 items → All (λ row. length row ≡ length items) rows → count + length rows ≤ 1000000
+results_are : (params : List Atom) (items : List BoundItem) (from : BoundSource) (rows : List (List Atom)) (count : ℕ)
+    → AreColumns 0 items → All (λ row. length row ≡ length items) rows → count + length rows ≤ 1000000
     → results (found_of (whole_query items from) params 0) count (scan_of rows) ≡ Ok (map found_row rows)
 results_are params items from [] count h wide few = refl
 results_are params items from (row ∷ rows) count h wide few =
-    let first : found_of (whole_query items from) params 0 row ≡ Ok (found_row row) = ap (λ r. r >>= λ shown. Ok (found_row shown)) (items_are params items [] row 0 refl (All-head (λ row. length row ≡ length items) row rows wide) h) in
+    let first : found_of (whole_query items from) params 0 row ≡ Ok (found_row row) = ap (λ r. r >>= λ shown. Ok (found_row shown))
+    (items_are params items [] row 0 refl (All-head (λ row. length row ≡ length items) row rows wide) h) in
     let rest = results_are params items from rows (count + 1) h (All-tail (λ row. length row ≡ length items) row rows wide) (omega arith) in
-    ap (λ b. (if b then Err fault.TooManyRows else found_of (whole_query items from) params 0 row) >>= λ found. results (found_of (whole_query items from) params 0) (count + 1) (scan_of rows) >>= λ more. Ok (found ∷ more)) (not_over count (omega arith))
+    ap (λ b. (if b then Err fault.TooManyRows else found_of (whole_query items from) params 0 row) >>= λ found.
+    results (found_of (whole_query items from) params 0) (count + 1) (scan_of rows) >>= λ more. Ok (found ∷ more)) (not_over count (omega arith))
     ∙ ap (λ r. r >>= λ found. results (found_of (whole_query items from) params 0) (count + 1) (scan_of rows) >>= λ more. Ok (found ∷ more)) first
     ∙ ap (λ r. r >>= λ more. Ok (found_row row ∷ more)) rest
 
@@ -108,7 +112,8 @@ admitted_same column (Plain datum) kept e = by (is_within datum column.ty) e
     by false e = absurd cc
 admitted_same column (Sealed cell) kept e = cc
 
-values_are : (columns : List ColumnDef) (named : List ℕ) (values : List (operands.Operand ℕ ℕ)) (front rest : List Atom) (k : ℕ) (given : List (ℕ × Atom)) → k ≡ length front → length named ≡ length rest → ArePut k named values
+values_are : (columns : List ColumnDef) (named : List ℕ) (values : List (operands.Operand ℕ ℕ)) (front rest : List Atom) (k : ℕ) (given : List (ℕ × Atom))
+    → k ≡ length front → length named ≡ length rest → ArePut k named values
     → values_into columns [] (front ++ rest) named values ≡ Ok given → given ≡ pairs k rest
 values_are columns [] [] front [] k given e n h is = cc
 values_are columns [] [] front (a ∷ rest) k given e n h is = absurd (omega arith)
@@ -126,13 +131,15 @@ values_are columns (p ∷ named) (v ∷ values) front (a ∷ rest) k given e n h
     here : atom_at params k ≡ a
     here = ap (atom_at params) e ∙ atom_there front a rest
 
-    shape : ((admitted (column_at columns k) a >>= λ kept. Ok (k, kept)) >>= λ given. values_into columns [] params named values >>= λ more. Ok (given ∷ more)) ≡ values_into columns [] params (p ∷ named) (v ∷ values)
+    shape : ((admitted (column_at columns k) a >>= λ kept. Ok (k, kept)) >>= λ given. values_into columns [] params named values >>= λ more. Ok (given ∷ more))
+        ≡ values_into columns [] params (p ∷ named) (v ∷ values)
     shape =
         ap (λ x. (admitted (column_at columns k) x >>= λ kept. Ok (k, kept)) >>= λ given. values_into columns [] params named values >>= λ more. Ok (given ∷ more)) (sym here)
         ∙ ap (λ w. value_into columns [] params k w >>= λ given. values_into columns [] params named values >>= λ more. Ok (given ∷ more)) (sym h.1.1)
         ∙ ap (λ q. value_into columns [] params q v >>= λ given. values_into columns [] params named values >>= λ more. Ok (given ∷ more)) (sym h.0)
 
-    by : (r : Result Atom SqlFault) → admitted (column_at columns k) a ≡ r → (q : Result (List (ℕ × Atom)) SqlFault) → values_into columns [] params named values ≡ q → ((r >>= λ kept. Ok (k, kept)) >>= λ given. q >>= λ more. Ok (given ∷ more)) ≡ Ok given
+    by : (r : Result Atom SqlFault) → admitted (column_at columns k) a ≡ r → (q : Result (List (ℕ × Atom)) SqlFault)
+        → values_into columns [] params named values ≡ q → ((r >>= λ kept. Ok (k, kept)) >>= λ given. q >>= λ more. Ok (given ∷ more)) ≡ Ok given
         → ((more : List (ℕ × Atom)) → values_into columns [] params named values ≡ Ok more → more ≡ pairs (k + 1) rest) → given ≡ pairs k (a ∷ rest)
     by (Err f) g q i is later = absurd cc
     by (Ok kept) g (Err f) i is later = absurd cc
@@ -144,7 +151,8 @@ values_are columns (p ∷ named) (v ∷ values) front (a ∷ rest) k given e n h
 
 -- the value that was given for a place
 pair_there : (front : List Atom) (a : Atom) (rest : List Atom) (j k : ℕ) → k ≡ j + length front → value_at (pairs j (front ++ a ∷ rest)) k ≡ Some a
-pair_there [] a rest j k e = ap (λ b. Rattle.std.specs.Option.option_map (λ (v : ℕ × Atom). v.1) (if b then Some (j, a) else find (λ (v : ℕ × Atom). v.0 == k) (pairs (j + 1) rest))) ((Decides-eqb j k).1 (omega arith))
+pair_there [] a rest j k e = ap
+    (λ b. Rattle.std.specs.Option.option_map (λ (v : ℕ × Atom). v.1) (if b then Some (j, a) else find (λ (v : ℕ × Atom). v.0 == k) (pairs (j + 1) rest))) ((Decides-eqb j k).1 (omega arith))
 pair_there (x ∷ front) a rest j k e =
     ap (λ b. Rattle.std.specs.Option.option_map (λ (v : ℕ × Atom). v.1) (if b then Some (j, x) else find (λ (v : ℕ × Atom). v.0 == k) (pairs (j + 1) (front ++ a ∷ rest)))) (other (j == k) refl)
     ∙ pair_there front a rest (j + 1) k (omega arith)
@@ -160,12 +168,14 @@ completed_are (c ∷ columns) front [] k e n = absurd (omega arith)
 completed_are (c ∷ columns) front (a ∷ rest) k e n =
     let given = pairs 0 (front ++ a ∷ rest) in
     let later : completed (k + 1) given columns ≡ Ok rest =
-    ap (λ params. completed (k + 1) (pairs 0 params) columns) (sym (one_more front a rest)) ∙ completed_are columns (front ++ a ∷ []) rest (k + 1) (ap (λ m. m + 1) e ∙ sym (long_more front a)) (omega arith) in
+    ap (λ params. completed (k + 1) (pairs 0 params) columns) (sym (one_more front a rest)) ∙ completed_are
+    columns (front ++ a ∷ []) rest (k + 1) (ap (λ m. m + 1) e ∙ sym (long_more front a)) (omega arith) in
     ap (λ o. Rattle.row_changes.specs.Rows.value_or_null c o >>= λ atom. completed (k + 1) given columns >>= λ more. Ok (atom ∷ more)) (pair_there front a rest 0 k (omega arith))
     ∙ ap (λ r. r >>= λ more. Ok (a ∷ more)) later
 
 -- the new row is that of the parameters
-pub row_is : (columns : List ColumnDef) (named : List ℕ) (values : List (operands.Operand ℕ ℕ)) (params row : List Atom) → length named ≡ length params → length columns ≡ length params → ArePut 0 named values
+pub row_is : (columns : List ColumnDef) (named : List ℕ) (values : List (operands.Operand ℕ ℕ)) (params row : List Atom)
+    → length named ≡ length params → length columns ≡ length params → ArePut 0 named values
     → new_row columns named params values ≡ Ok row → row ≡ params
 row_is columns named values params row n m h is = by (values_into columns [] params named values) refl is
   where
@@ -178,9 +188,11 @@ row_is columns named values params row n m h is = by (values_into columns [] par
 
 -- ---- the deeds
 
-pub select_left : (c : Counted) (b : Bound) (encs : List Enc) (params : List Atom) (s : BoundStatement) (items : List BoundItem) (from : BoundSource) → b.statement ≡ s → s ≡ bound.Select (whole_query items from)
+pub select_left : (c : Counted) (b : Bound) (encs : List Enc) (params : List Atom) (s : BoundStatement) (items : List BoundItem) (from : BoundSource)
+    → b.statement ≡ s → s ≡ bound.Select (whole_query items from)
     → AreColumns 0 items → All (λ row. length row ≡ length items) (rows_of c.world from.table) → length (rows_of c.world from.table) ≤ 1000000
-    → counted_step c (record { bound = b; encs = encs; params = params }) ≡ record { answer = Ok (step.Rows (map (result_column b.columns b.params encs) items) (rows_of c.world from.table)); after = c }
+    → counted_step c (record { bound = b; encs = encs; params = params }) ≡ record
+    { answer = Ok (step.Rows (map (result_column b.columns b.params encs) items) (rows_of c.world from.table)); after = c }
 select_left c b encs params s items from is so h wide few =
     let q = whole_query items from in
     let rows = rows_of c.world from.table in
@@ -190,4 +202,5 @@ select_left c b encs params s items from is so h wide few =
     ∙ ap (λ xs. Ok (map (λ (f : Found). f.shown) xs)) (as_they_are (map found_row rows))
     ∙ ap Ok (shown_are rows) in
     ap (λ (z : BoundStatement). let x = outcome c.world (done_by c.world b encs z params) in counted c z x.answer x.world) (is ∙ so)
-    ∙ ap (λ r. let x = outcome c.world (r >>= λ rs. Ok (record { answer = step.Rows (map (result_column b.columns b.params encs) items) rs; world = c.world })) in counted c (bound.Select q) x.answer x.world) found
+    ∙ ap (λ r. let x = outcome c.world (r >>= λ rs. Ok (record { answer = step.Rows (map (result_column b.columns b.params encs) items) rs; world = c.world }))
+    in counted c (bound.Select q) x.answer x.world) found

@@ -11,7 +11,25 @@ use Rattle.transactions.specs.Alone.{others_of, LeavesShared}
 use Rattle.transactions.specs.Counted.{Execution, counted_step}
 use Rattle.transactions.specs.Rotating.{HasRotated, IsRotated, IsQuiet, AreQuiet, logs_behind, sent_by}
 use Rattle.transactions.specs.Serial.{Deed, Call, all_after, after_unit, no_logs, log_at, with_log, record_of}
-use Rattle.transactions.specs.Stores.{Transaction, Store, Ask, Begins, Commits, RollsBack, Executes, Transacted, transaction_at, with_transaction, seen_by, stepped_in, conflict, why_not, committed, transacted, transact}
+use Rattle.transactions.specs.Stores.{
+  Transaction,
+  Store,
+  Ask,
+  Begins,
+  Commits,
+  RollsBack,
+  Executes,
+  Transacted,
+  transaction_at,
+  with_transaction,
+  seen_by,
+  stepped_in,
+  conflict,
+  why_not,
+  committed,
+  transacted,
+  transact,
+}
 use Rattle.transactions.specs.WellKept.{IsStore, AreAllowed, HasNoTransactions}
 use Rattle.transactions.proofs.Apart as apart
 use Rattle.transactions.proofs.Journaling.{nothing_logged}
@@ -26,14 +44,16 @@ pub record AreSo (cell : List ℕ → Bool) (store : Store) (logs : List (List D
   pub well : IsStore cell store
   pub logged : AreLogged store logs
 
-all_so : (cell : List ℕ → Bool) (calls : List Call) (store : Store) (logs : List (List Deed)) → AreSo cell store logs → AreAllowed cell store calls → AreSo cell (all_after store calls) (logs_behind store logs calls)
+all_so : (cell : List ℕ → Bool) (calls : List Call) (store : Store) (logs : List (List Deed)) → AreSo cell store logs
+    → AreAllowed cell store calls → AreSo cell (all_after store calls) (logs_behind store logs calls)
 all_so cell [] store logs h allowed = h
 all_so cell (call ∷ calls) store logs h allowed =
     let s = call.session in
     let o = transaction_at store s in
     let slot = zip_at (IsSlot store.shared) store.sessions logs (s - 1) None [] h.logged.slots refl in
     let g = goes store logs s call.ask o (log_at logs s) (base_of cell store.shared h.well.shared) (asked_there cell (seen_by store.shared o) call.ask allowed.0) h.logged refl slot in
-    all_so cell calls (transact store s call.ask).after (with_log logs s (record_of store call logs).log) (record { well = (transact_keeps cell store s call.ask h.well allowed.0).0; logged = g.logged }) allowed.1
+    all_so cell calls (transact store s call.ask).after (with_log logs s (record_of store call logs).log)
+    (record { well = (transact_keeps cell store s call.ask h.well allowed.0).0; logged = g.logged }) allowed.1
 
 committed_free : (store : Store) (session : ℕ) (t : Transaction) → (committed store session t (why_not store.shared t)).answer ≡ Ok Defined → why_not store.shared t ≡ None
 committed_free store session t e = by (why_not store.shared t) refl e
@@ -45,12 +65,14 @@ committed_free store session t e = by (why_not store.shared t) refl e
 free_parts : (store : Store) (t : Transaction) → why_not store.shared t ≡ None → (store.shared.world.catalog.version ≡ t.version) × (conflict store.shared t.used ≡ None)
 free_parts store t e = by (store.shared.world.catalog.version == t.version) refl e
   where
-    by : (b : Bool) → (store.shared.world.catalog.version == t.version) ≡ b → (if b then conflict store.shared t.used else Some (fault.Moved (record { seen = t.version; now = store.shared.world.catalog.version }))) ≡ None
+    by : (b : Bool) → (store.shared.world.catalog.version == t.version) ≡ b
+        → (if b then conflict store.shared t.used else Some (fault.Moved (record { seen = t.version; now = store.shared.world.catalog.version }))) ≡ None
         → (store.shared.world.catalog.version ≡ t.version) × (conflict store.shared t.used ≡ None)
     by true v k = (is_there store.shared.world.catalog.version t.version v, k)
     by false v k = absurd cc
 
-pub rotations_whole : (cell : List ℕ → Bool) (store : Store) (calls : List Call) (session : ℕ) (old new : List ℕ) (width : ℕ) (read : List (List Atom)) → IsStore cell store → HasNoTransactions store → AreAllowed cell store calls
+pub rotations_whole : (cell : List ℕ → Bool) (store : Store) (calls : List Call) (session : ℕ) (old new : List ℕ) (width : ℕ) (read : List (List Atom))
+    → IsStore cell store → HasNoTransactions store → AreAllowed cell store calls
     → old ≢ new → length (columns_among (all_after store calls).shared.world.catalog.tables old) ≡ width → length (columns_among (all_after store calls).shared.world.catalog.tables new) ≡ width
     → (r : HasRotated old new width read (log_at (logs_behind store no_logs calls) session))
     → let s = all_after store calls in
@@ -89,7 +111,8 @@ quiet_leaves : (store : Store) (session : ℕ) (ask : Ask) → IsQuiet session s
 quiet_leaves store session ask q = by (transaction_at store session) refl ask q.inside q.open_ended
   where
     in_own : (t : Transaction) (e : Execution) (b : Bool)
-        → (let x : Transacted = if b then record { answer = Err fault.InTransaction; after = store } else record { answer = (counted_step t.own e).answer; after = with_transaction store session (Some (stepped_in t e (counted_step t.own e))) } in x.after.shared) ≡ store.shared
+        → (let x : Transacted = if b then record { answer = Err fault.InTransaction; after = store } else record
+        { answer = (counted_step t.own e).answer; after = with_transaction store session (Some (stepped_in t e (counted_step t.own e))) } in x.after.shared) ≡ store.shared
     in_own t e true = refl
     in_own t e false = refl
 
@@ -97,7 +120,8 @@ quiet_leaves store session ask q = by (transaction_at store session) refl ask q.
     refused t None h = absurd cc
     refused t (Some f) h = refl
 
-    by : (o : Option Transaction) → transaction_at store session ≡ o → (a : Ask) → ((e : Execution) → a ≡ Executes e → IsSome (transaction_at store session)) → (a ≡ Commits → IsErr (transact store session a).answer)
+    by : (o : Option Transaction) → transaction_at store session ≡ o → (a : Ask)
+        → ((e : Execution) → a ≡ Executes e → IsSome (transaction_at store session)) → (a ≡ Commits → IsErr (transact store session a).answer)
         → (transacted store session o a).after.shared ≡ store.shared
     by None is Begins i c = refl
     by None is Commits i c = refl

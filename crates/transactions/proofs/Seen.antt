@@ -15,7 +15,26 @@ use Rattle.engine.specs.Worlds.{World}
 use Rattle.sql_tree.specs.Sorts.{is_definition, is_defining, tables_of, target}
 use Rattle.transactions.specs.Counted.{Counted, CountedOutcome, Execution, counts_behind, is_at_last_count, counted, step_of, counted_step}
 use Rattle.transactions.specs.Correspond.{CountedCorrespond, SessionsCorrespond, StoresCorrespond}
-use Rattle.transactions.specs.Stores.{Transaction, Store, Ask, Begins, Commits, RollsBack, Executes, Transacted, refused, transaction_at, with_transaction, seen_by, world_of, stepped_in, why_not, committed, transacted, transact}
+use Rattle.transactions.specs.Stores.{
+  Transaction,
+  Store,
+  Ask,
+  Begins,
+  Commits,
+  RollsBack,
+  Executes,
+  Transacted,
+  refused,
+  transaction_at,
+  with_transaction,
+  seen_by,
+  world_of,
+  stepped_in,
+  why_not,
+  committed,
+  transacted,
+  transact,
+}
 use Rattle.transactions.specs.WellKept.{IsCountedWell, IsOpen, IsStore}
 use Rattle.transactions.proofs.Alike.{zip_at}
 use Rattle.transactions.proofs.Frame.{counted_reads}
@@ -48,14 +67,18 @@ counted_rows : (c : Counted) (s : BoundStatement) (a : Result Answer SqlFault) (
 counted_rows c s (Err f) w x h = h
 counted_rows c s (Ok answer) w x h = by (is_at_last_count c (target s)) h
   where
-    by : (b : Bool) → (let o : CountedOutcome = if b then record { answer = Err fault.Full; after = c } else record { answer = Ok answer; after = record { world = w; counts = counts_behind c s } } in o.answer) ≡ Ok x → let y : Result Answer SqlFault = Ok answer in y ≡ Ok x
+    by : (b : Bool)
+        → (let o : CountedOutcome = if b then record { answer = Err fault.Full; after = c } else record
+        { answer = Ok answer; after = record { world = w; counts = counts_behind c s } } in o.answer) ≡ Ok x → let y : Result Answer SqlFault = Ok answer in y ≡ Ok x
     by true h = absurd cc
     by false h = h
 
 pub answered_by_step : (store : Store) (session : ℕ) (e : Execution) (x : Answer) → (transact store session (Executes e)).answer ≡ Ok x → (step_of (world_of store session) e).answer ≡ Ok x
 answered_by_step store session e x h = by (transaction_at store session) h
   where
-    in_own : (t : Transaction) (b : Bool) → (let y : Transacted = if b then refused store fault.InTransaction else record { answer = (counted_step t.own e).answer; after = with_transaction store session (Some (stepped_in t e (counted_step t.own e))) } in y.answer) ≡ Ok x → (step_of t.own e).answer ≡ Ok x
+    in_own : (t : Transaction) (b : Bool)
+        → (let y : Transacted = if b then refused store fault.InTransaction else record
+        { answer = (counted_step t.own e).answer; after = with_transaction store session (Some (stepped_in t e (counted_step t.own e))) } in y.answer) ≡ Ok x → (step_of t.own e).answer ≡ Ok x
     in_own t true h = absurd cc
     in_own t false h = counted_rows t.own e.bound.statement (step_of t.own e).answer (step_of t.own e).world x h
 
@@ -94,7 +117,11 @@ own_catalog shared None = tt
 own_catalog shared (Some t) = same_next t.own.world.catalog t.own.world.catalog refl
 
 pub same_slot : (store after : Store) (session : ℕ) → after.sessions ≡ store.sessions → IsSlotOf store session after
-same_slot store after session e = record { slot = transaction_at store session; sessions = e ∙ set_back store.sessions (session - 1) None; own = own_catalog store.shared (transaction_at store session) }
+same_slot store after session e = record {
+  slot = transaction_at store session;
+  sessions = e ∙ set_back store.sessions (session - 1) None;
+  own = own_catalog store.shared (transaction_at store session);
+}
 
 sessions_committed : (store : Store) (session : ℕ) (t : Transaction) (f : Option SqlFault) → (committed store session t f).after.sessions ≡ slice_set store.sessions (session - 1) None
 sessions_committed store session t None = refl
@@ -116,7 +143,8 @@ next_catalog c e d = by (step_cases c e d)
   where
     replaced : (r : IsReplacing c e) → (counted_step c e ≡ at_last c) ⊎ IsReplaced c e r.old r.new → IsNext c.world.catalog (counted_step c e).after.world.catalog
     replaced r (inl is) = same_next c.world.catalog _ (ap (λ (o : CountedOutcome). o.after.world.catalog) is)
-    replaced r (inr done) = subst (λ (o : CountedOutcome). IsNext c.world.catalog o.after.world.catalog) (sym done.step) (record { masters = refl; keys = refl; next_id = refl; newer = inr (omega arith) })
+    replaced r (inr done) = subst (λ (o : CountedOutcome). IsNext c.world.catalog o.after.world.catalog)
+        (sym done.step) (record { masters = refl; keys = refl; next_id = refl; newer = inr (omega arith) })
 
     by : (is_defining e.bound.statement ≡ false) ⊎ IsReplacing c e → IsNext c.world.catalog (counted_step c e).after.world.catalog
     by (inl w) = same_next c.world.catalog _ (work_catalog c e w)
@@ -127,7 +155,8 @@ abbrev pub catalog_behind : Catalog → BoundStatement → Result Answer SqlFaul
 catalog_behind catalog (bound.Definition d) (Ok answer) = result_unwrap_or (defined_by catalog d) catalog
 catalog_behind catalog s answer = catalog
 
-pub step_catalog : (c : Counted) (e : Execution) → is_definition e.bound.statement ≡ false → (counted_step c e).after.world.catalog ≡ catalog_behind c.world.catalog e.bound.statement (counted_step c e).answer
+pub step_catalog : (c : Counted) (e : Execution) → is_definition e.bound.statement ≡ false
+    → (counted_step c e).after.world.catalog ≡ catalog_behind c.world.catalog e.bound.statement (counted_step c e).answer
 step_catalog c e d = by (step_cases c e d)
   where
     still : (s : BoundStatement) (a : Result Answer SqlFault) → is_defining s ≡ false → catalog_behind c.world.catalog s a ≡ c.world.catalog
@@ -138,7 +167,8 @@ step_catalog c e d = by (step_cases c e d)
     refused_still (bound.Definition x) f = refl
     refused_still other f = refl
 
-    replaced : (r : IsReplacing c e) → (counted_step c e ≡ at_last c) ⊎ IsReplaced c e r.old r.new → (counted_step c e).after.world.catalog ≡ catalog_behind c.world.catalog e.bound.statement (counted_step c e).answer
+    replaced : (r : IsReplacing c e) → (counted_step c e ≡ at_last c) ⊎ IsReplaced c e r.old r.new
+        → (counted_step c e).after.world.catalog ≡ catalog_behind c.world.catalog e.bound.statement (counted_step c e).answer
     replaced r (inl is) =
         ap (λ (o : CountedOutcome). o.after.world.catalog) is ∙ sym (refused_still e.bound.statement fault.Full)
         ∙ ap (λ (o : CountedOutcome). catalog_behind c.world.catalog e.bound.statement o.answer) (sym is)
@@ -155,7 +185,8 @@ pub slot_of : (store : Store) (session : ℕ) (ask : Ask) → IsSlotOf store ses
 slot_of store session ask = by ask (transaction_at store session) refl
   where
     in_own : (e : Execution) (t : Transaction) (b : Bool) → is_definition e.bound.statement ≡ b → transaction_at store session ≡ Some t
-        → let y : Transacted = if b then refused store fault.InTransaction else record { answer = (counted_step t.own e).answer; after = with_transaction store session (Some (stepped_in t e (counted_step t.own e))) } in
+        → let y : Transacted = if b then refused store fault.InTransaction else record
+        { answer = (counted_step t.own e).answer; after = with_transaction store session (Some (stepped_in t e (counted_step t.own e))) } in
         IsSlotOf store session y.after
     in_own e t true d is = same_slot store store session refl
     in_own e t false d is =

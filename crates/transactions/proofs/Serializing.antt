@@ -1,5 +1,37 @@
 -- Whatever the sessions ask, the shared world is that of the units of the history.
-use Rattle.std.proofs.Common.{◌≡◌, ◌≢◌, ◌⊎◌, inl, inr, ℕ, zero, suc, ◌-◌, List, [], ◌∷◌, ◌++◌, length, refl, ap, sym, subst, ◌∙◌, arith, Option, Some, None, IsSome, unwrap_or, Result, Ok, Err, Bool, true, false}
+use Rattle.std.proofs.Common.{
+  ◌≡◌,
+  ◌≢◌,
+  ◌⊎◌,
+  inl,
+  inr,
+  ℕ,
+  zero,
+  suc,
+  ◌-◌,
+  List,
+  [],
+  ◌∷◌,
+  ◌++◌,
+  length,
+  refl,
+  ap,
+  sym,
+  subst,
+  ◌∙◌,
+  arith,
+  Option,
+  Some,
+  None,
+  IsSome,
+  unwrap_or,
+  Result,
+  Ok,
+  Err,
+  Bool,
+  true,
+  false,
+}
 use Rattle.std.specs.Prelude.{slice_set, slice_index_or, replicate, ◌==◌, ◌||◌, if◌then◌else◌}
 use Rattle.std.proofs.lemmas.Slice.Zip.{AllZip-long}
 use Rattle.ae_base.specs.declared.faults.SqlFault.TheVariants as fault
@@ -21,9 +53,52 @@ use Rattle.engine.specs.Step.{Answer, Defined}
 use Rattle.engine.specs.WellTyped.{IsTableOf}
 use Rattle.sql_tree.specs.Sorts.{is_definition, is_defining, tables_of}
 use Rattle.transactions.specs.Counted.{Counted, CountedOutcome, Execution, count_of, changed_by, replaced_by, counted_step, raised_at, raised_all, alone}
-use Rattle.transactions.specs.Stores.{Transaction, Store, Ask, Begins, Commits, RollsBack, Executes, Transacted, transaction_at, with_transaction, seen_by, is_used, with_uses, with_changed, renamed_names, changed_behind, stepped_in, conflict, why_not, over, taken_over, committed, executed_in, transacted, transact}
+use Rattle.transactions.specs.Stores.{
+  Transaction,
+  Store,
+  Ask,
+  Begins,
+  Commits,
+  RollsBack,
+  Executes,
+  Transacted,
+  transaction_at,
+  with_transaction,
+  seen_by,
+  is_used,
+  with_uses,
+  with_changed,
+  renamed_names,
+  changed_behind,
+  stepped_in,
+  conflict,
+  why_not,
+  over,
+  taken_over,
+  committed,
+  executed_in,
+  transacted,
+  transact,
+}
 use Rattle.transactions.specs.declared.uses.Used.{Used}
-use Rattle.transactions.specs.Serial.{Deed, Call, Recorded, all_after, after_deeds, changed_in, after_unit, after_units, AreAnswered, AreUnitsAnswered, no_logs, log_at, with_log, deed, recorded, history}
+use Rattle.transactions.specs.Serial.{
+  Deed,
+  Call,
+  Recorded,
+  all_after,
+  after_deeds,
+  changed_in,
+  after_unit,
+  after_units,
+  AreAnswered,
+  AreUnitsAnswered,
+  no_logs,
+  log_at,
+  with_log,
+  deed,
+  recorded,
+  history,
+}
 use Rattle.transactions.specs.Laws.{IsSerial}
 use Rattle.transactions.specs.WellKept.{IsCountedWell, IsStore, MayAsk, AreAllowed, HasNoTransactions}
 use Rattle.transactions.proofs.Between.{between_deeds, between_refl, raised_counted, unit_since}
@@ -92,7 +167,8 @@ pub unconflicted : (shared : Counted) (used : List Used) → conflict shared use
 unconflicted shared [] h = All-nil (Seen shared)
 unconflicted shared (u ∷ used) h = by (count_of shared u.table == u.seen) refl h (λ k. unconflicted shared used k)
   where
-    by : (b : Bool) → (count_of shared u.table == u.seen) ≡ b → (if b then conflict shared used else Some (fault.Conflict u.table (record { seen = u.seen; now = count_of shared u.table }))) ≡ None → (conflict shared used ≡ None → All (Seen shared) used)
+    by : (b : Bool) → (count_of shared u.table == u.seen) ≡ b
+        → (if b then conflict shared used else Some (fault.Conflict u.table (record { seen = u.seen; now = count_of shared u.table }))) ≡ None → (conflict shared used ≡ None → All (Seen shared) used)
         → All (Seen shared) (u ∷ used)
     by true e k more = All-cons (Seen shared) u used (sym (is_there (count_of shared u.table) u.seen e)) (more k)
     by false e k more = absurd cc
@@ -185,7 +261,8 @@ begun_logged shared h = record {
       (λ p def n is at e. ap (λ o. unwrap_or o 0) (sym at) ∙ ap (λ q. unwrap_or (slice_get shared.counts q) 0) (sym (lies_there shared.world.catalog p def h.differ is)));
 }
   where
-    zip_places : {A B : Type 0} (R : A → B → Type 0) (xs : List A) (ys : List B) → length xs ≡ length ys → ((p : ℕ) (x : A) (y : B) → slice_get xs p ≡ Some x → slice_get ys p ≡ Some y → R x y) → AllZip R xs ys
+    zip_places : {A B : Type 0} (R : A → B → Type 0) (xs : List A) (ys : List B) → length xs ≡ length ys
+        → ((p : ℕ) (x : A) (y : B) → slice_get xs p ≡ Some x → slice_get ys p ≡ Some y → R x y) → AllZip R xs ys
     zip_places R [] [] n r = tt
     zip_places R [] (y ∷ ys) n r = absurd (omega arith)
     zip_places R (x ∷ xs) [] n r = absurd (omega arith)
@@ -200,7 +277,8 @@ zip_there R (a ∷ xs) (b ∷ ys) zero x h e = let same : a ≡ x = cc in (b, re
 zip_there R (a ∷ xs) (b ∷ ys) (suc k) x h e = zip_there R xs ys k x h.1 e
 
 -- a table that is there and was not used has its count at BEGIN
-fresh_count : (base own : Counted) (used : List Used) (name : List ℕ) → AllZip (IsFresh base used) own.world.catalog.tables own.counts → IsSome (table_named own.world.catalog name) → is_used used name ≡ false → count_of own name ≡ count_of base name
+fresh_count : (base own : Counted) (used : List Used) (name : List ℕ) → AllZip (IsFresh base used) own.world.catalog.tables own.counts
+    → IsSome (table_named own.world.catalog name) → is_used used name ≡ false → count_of own name ≡ count_of base name
 fresh_count base own used name h there e =
     let p = placed_at own.world.catalog name there in
     let z = zip_there (IsFresh base used) own.world.catalog.tables own.counts (lies own.world.catalog name) p.def h p.is in
@@ -215,21 +293,25 @@ zip_gone R (x ∷ xs) (b ∷ ys) zero h = h.1
 zip_gone R (x ∷ xs) (b ∷ ys) (suc k) h = (h.0, zip_gone R xs ys k h.1)
 
 -- more is used
-fresh_more : (base : Counted) (used now : List Used) → ((name : List ℕ) → is_used now name ≡ false → is_used used name ≡ false) → (tables : List TableDef) (counts : List ℕ) → AllZip (IsFresh base used) tables counts → AllZip (IsFresh base now) tables counts
+fresh_more : (base : Counted) (used now : List Used) → ((name : List ℕ) → is_used now name ≡ false → is_used used name ≡ false)
+    → (tables : List TableDef) (counts : List ℕ) → AllZip (IsFresh base used) tables counts → AllZip (IsFresh base now) tables counts
 fresh_more base used now f tables counts h = zip_map (IsFresh base used) (IsFresh base now) tables counts (λ def n r e. r (f def.name e)) h
 
 -- a used name for another
-fresh_renamed : (base : Counted) (used : List Used) (from to : List ℕ) → is_used used to ≡ true → (tables : List TableDef) (counts : List ℕ) → AllZip (IsFresh base used) tables counts → AllZip (IsFresh base used) (renamed_tables from to tables) counts
+fresh_renamed : (base : Counted) (used : List Used) (from to : List ℕ) → is_used used to ≡ true
+    → (tables : List TableDef) (counts : List ℕ) → AllZip (IsFresh base used) tables counts → AllZip (IsFresh base used) (renamed_tables from to tables) counts
 fresh_renamed base used from to u [] [] h = tt
 fresh_renamed base used from to u [] (n ∷ counts) h = absurd h
 fresh_renamed base used from to u (t ∷ tables) [] h = absurd h
 fresh_renamed base used from to u (t ∷ tables) (n ∷ counts) h = by (bytes_eq t.name from) (fresh_renamed base used from to u tables counts h.1)
   where
-    by : (b : Bool) → AllZip (IsFresh base used) (renamed_tables from to tables) counts → AllZip (IsFresh base used) (if b then record t { name = to } ∷ tables else t ∷ renamed_tables from to tables) (n ∷ counts)
+    by : (b : Bool) → AllZip (IsFresh base used) (renamed_tables from to tables) counts
+        → AllZip (IsFresh base used) (if b then record t { name = to } ∷ tables else t ∷ renamed_tables from to tables) (n ∷ counts)
     by true rest = (λ e. absurd cc, h.1)
     by false rest = (h.0, rest)
 
-pub stepped_logged : (base shared : Counted) (t : Transaction) (log : List Deed) (e : Execution) → is_definition e.bound.statement ≡ false → All (λ name. IsSome (table_named t.own.world.catalog name)) (tables_of e.bound.statement) → IsLoggedFrom base shared t log
+pub stepped_logged : (base shared : Counted) (t : Transaction) (log : List Deed) (e : Execution)
+    → is_definition e.bound.statement ≡ false → All (λ name. IsSome (table_named t.own.world.catalog name)) (tables_of e.bound.statement) → IsLoggedFrom base shared t log
     → IsLoggedFrom base shared (stepped_in t e (counted_step t.own e)) (log ++ deed e (counted_step t.own e).answer ∷ [])
 stepped_logged base shared t log e d here h =
     let own = t.own in
@@ -245,8 +327,10 @@ stepped_logged base shared t log e d here h =
       answered = answered_push base log one h.answered (ap (λ c. (counted_step c e).answer) h.after);
       work = All-push (λ (x : Deed). is_definition x.execution.bound.statement ≡ false) log one h.work d;
       about = All-push (λ (x : Deed). All (λ name. is_used (with_uses own t.used names) name ≡ true) (tables_of x.execution.bound.statement)) log one
-          (All-weaker (λ (x : Deed). All (λ name. is_used t.used name ≡ true) (tables_of x.execution.bound.statement)) (λ (x : Deed). All (λ name. is_used (with_uses own t.used names) name ≡ true) (tables_of x.execution.bound.statement))
-          (λ x g. All-weaker (λ name. is_used t.used name ≡ true) (λ name. is_used (with_uses own t.used names) name ≡ true) (λ name u. noted_keeps own names t.used name u) (tables_of x.execution.bound.statement) g) log h.about)
+          (All-weaker (λ (x : Deed). All (λ name. is_used t.used name ≡ true) (tables_of x.execution.bound.statement))
+          (λ (x : Deed). All (λ name. is_used (with_uses own t.used names) name ≡ true) (tables_of x.execution.bound.statement))
+          (λ x g. All-weaker (λ name. is_used t.used name ≡ true) (λ name. is_used (with_uses own t.used names) name ≡ true)
+          (λ name u. noted_keeps own names t.used name u) (tables_of x.execution.bound.statement) g) log h.about)
           (noted_all own names t.used);
       there = there_push base log one h.there (subst (λ (c : Counted). All (λ name. IsSome (table_named c.world.catalog name)) names) (sym h.after) here);
       seen = noted_seen base own names t.used (λ i x lt e. fresh_count base own t.used _ h.fresh (here i x lt) e) h.seen;
@@ -277,7 +361,8 @@ stepped_logged base shared t log e d here h =
         let is = done.step in
         let place = unwrap_or (table_place t.own.world.catalog r.old) 0 in
         let named : is_used used r.old ≡ true =
-        All-head (λ name. is_used used name ≡ true) r.old (r.new ∷ []) (subst (λ s. All (λ name. is_used used name ≡ true) (tables_of s)) r.is (noted_all t.own (tables_of e.bound.statement) t.used)) in
+        All-head (λ name. is_used used name ≡ true) r.old (r.new ∷ [])
+        (subst (λ s. All (λ name. is_used used name ≡ true) (tables_of s)) r.is (noted_all t.own (tables_of e.bound.statement) t.used)) in
         subst (λ (o : CountedOutcome). AllZip (IsFresh base used) o.after.world.catalog.tables o.after.counts) (sym is)
         (fresh_renamed base used r.new r.old named (remove t.own.world.catalog.tables place) (remove t.own.counts place)
         (zip_gone (IsFresh base used) t.own.world.catalog.tables t.own.counts place more))
@@ -289,7 +374,8 @@ stepped_logged base shared t log e d here h =
         subst (λ (c : Counted). AllZip (IsFresh base used) c.world.catalog.tables c.counts) (sym f.left_after) more
     fresh_after (inr r) = replaced r r.done
 
-    there_push : (c : Counted) (deeds : List Deed) (d : Deed) → AreThere c deeds → All (λ name. IsSome (table_named (after_deeds c deeds).world.catalog name)) (tables_of d.execution.bound.statement) → AreThere c (deeds ++ d ∷ [])
+    there_push : (c : Counted) (deeds : List Deed) (d : Deed) → AreThere c deeds
+        → All (λ name. IsSome (table_named (after_deeds c deeds).world.catalog name)) (tables_of d.execution.bound.statement) → AreThere c (deeds ++ d ∷ [])
     there_push c [] d h g = (g, tt)
     there_push c (x ∷ deeds) d h g = (h.0, there_push (counted_step c x.execution).after deeds d h.1 g)
 
@@ -302,7 +388,8 @@ pub record IsUnitDone (shared : Counted) (t : Transaction) (log : List Deed) : T
   pub since : Since shared (taken_over shared t)
   pub counted : IsCounted (taken_over shared t)
 
-pub committed_done : (base shared : Counted) (t : Transaction) (log : List Deed) → IsCounted shared → shared.world.catalog.version ≡ t.version → conflict shared t.used ≡ None → IsLoggedFrom base shared t log → IsUnitDone shared t log
+pub committed_done : (base shared : Counted) (t : Transaction) (log : List Deed) → IsCounted shared
+    → shared.world.catalog.version ≡ t.version → conflict shared t.used ≡ None → IsLoggedFrom base shared t log → IsUnitDone shared t log
 committed_done base shared t log long v c h =
     let u = h.since.unmoved (v ∙ h.version) in
     let k = base.world.catalog in
@@ -369,7 +456,8 @@ sets store logs session answer o log inv slot = record {
   logged = record { counted = inv.counted; slots = zip_set (IsSlot store.shared) store.sessions logs (session - 1) o log inv.slots slot };
 }
 
-commits : (store : Store) (logs : List (List Deed)) (session : ℕ) (t : Transaction) (log : List Deed) (f : Option SqlFault) → why_not store.shared t ≡ f → AreLogged store logs → IsLogged store.shared t log
+commits : (store : Store) (logs : List (List Deed)) (session : ℕ) (t : Transaction) (log : List Deed) (f : Option SqlFault)
+    → why_not store.shared t ≡ f → AreLogged store logs → IsLogged store.shared t log
     → Going store logs session (committed store session t f) (recorded (Some t) Commits (committed store session t f).answer log)
 commits store logs session t log (Some fault) e inv h = sets store logs session (Err fault) None [] inv refl
 commits store logs session t log None e inv h =
@@ -385,12 +473,14 @@ commits store logs session t log None e inv h =
       };
     }
   where
-    unmoved : (b : Bool) → (store.shared.world.catalog.version == t.version) ≡ b → (if b then conflict store.shared t.used else Some (fault.Moved (record { seen = t.version; now = store.shared.world.catalog.version }))) ≡ None
+    unmoved : (b : Bool) → (store.shared.world.catalog.version == t.version) ≡ b
+        → (if b then conflict store.shared t.used else Some (fault.Moved (record { seen = t.version; now = store.shared.world.catalog.version }))) ≡ None
         → (store.shared.world.catalog.version ≡ t.version) × (conflict store.shared t.used ≡ None)
     unmoved true v e = (is_there store.shared.world.catalog.version t.version v, e)
     unmoved false v e = absurd cc
 
-executes_in : (store : Store) (logs : List (List Deed)) (session : ℕ) (t : Transaction) (log : List Deed) (e : Execution) → All (λ name. IsSome (table_named t.own.world.catalog name)) (tables_of e.bound.statement) → AreLogged store logs → transaction_at store session ≡ Some t → IsLogged store.shared t log
+executes_in : (store : Store) (logs : List (List Deed)) (session : ℕ) (t : Transaction) (log : List Deed) (e : Execution)
+    → All (λ name. IsSome (table_named t.own.world.catalog name)) (tables_of e.bound.statement) → AreLogged store logs → transaction_at store session ≡ Some t → IsLogged store.shared t log
     → Going store logs session (executed_in store session t e) (recorded (Some t) (Executes e) (executed_in store session t e).answer log)
 executes_in store logs session t log e there inv is h = by (is_definition e.bound.statement) refl
   where
@@ -398,23 +488,28 @@ executes_in store logs session t log e there inv is h = by (is_definition e.boun
     o = counted_step t.own e
 
     by : (b : Bool) → is_definition e.bound.statement ≡ b
-        → let x : Transacted = if b then record { answer = Err fault.InTransaction; after = store } else record { answer = o.answer; after = with_transaction store session (Some (stepped_in t e o)) } in
+        → let x : Transacted = if b then record { answer = Err fault.InTransaction; after = store } else record
+        { answer = o.answer; after = with_transaction store session (Some (stepped_in t e o)) } in
         Going store logs session x (record { units = []; log = if b then log else log ++ deed e x.answer ∷ [] })
     by true d = stays store logs session (Err fault.InTransaction) log inv (subst (λ s. IsSlot store.shared s log) (sym is) h)
-    by false d = sets store logs session o.answer (Some (stepped_in t e o)) (log ++ deed e o.answer ∷ []) inv (record { base = h.base; from = stepped_logged h.base store.shared t log e d there h.from })
+    by false d = sets store logs session o.answer (Some (stepped_in t e o)) (log ++ deed e o.answer ∷ []) inv
+        (record { base = h.base; from = stepped_logged h.base store.shared t log e d there h.from })
 
 executes_alone : (store : Store) (logs : List (List Deed)) (session : ℕ) (e : Execution) → AreLogged store logs → transaction_at store session ≡ None
-    → Going store logs session (record { answer = (alone store.shared e).answer; after = record store { shared = (alone store.shared e).after } }) (record { units = (deed e (alone store.shared e).answer ∷ []) ∷ []; log = [] })
+    → Going store logs session (record { answer = (alone store.shared e).answer; after = record store { shared = (alone store.shared e).after } })
+    (record { units = (deed e (alone store.shared e).answer ∷ []) ∷ []; log = [] })
 executes_alone store logs session e inv is =
     let kept = alone_kept store.shared e inv.counted in
     let now = (alone store.shared e).after in
     let o = counted_step store.shared e in
     record {
-      shared = ap (λ names. raised_all o.after (with_changed names (changed_by e.bound.statement o.answer))) (nothing_renamed (replaced_by e.bound.statement o.answer)) ∙ raised_once o.after (changed_by e.bound.statement o.answer);
+      shared = ap (λ names. raised_all o.after (with_changed names (changed_by e.bound.statement o.answer)))
+          (nothing_renamed (replaced_by e.bound.statement o.answer)) ∙ raised_once o.after (changed_by e.bound.statement o.answer);
       answered = ((refl, tt), tt);
       logged = record {
         counted = kept.counted;
-        slots = zip_right (IsSlot now) store.sessions logs (session - 1) None [] (zip_map (IsSlot store.shared) (IsSlot now) store.sessions logs (slot_later store.shared now kept.since) inv.slots) (subst (λ s. IsSlot now s []) (sym is) refl);
+        slots = zip_right (IsSlot now) store.sessions logs (session - 1) None []
+            (zip_map (IsSlot store.shared) (IsSlot now) store.sessions logs (slot_later store.shared now kept.since) inv.slots) (subst (λ s. IsSlot now s []) (sym is) refl);
       };
     }
   where
@@ -431,9 +526,11 @@ abbrev pub IsAskedThere : Counted → Ask → Type 0
 IsAskedThere c (Executes e) = All (λ name. IsSome (table_named c.world.catalog name)) (tables_of e.bound.statement)
 IsAskedThere c other = Unit {0}
 
-pub goes : (store : Store) (logs : List (List Deed)) (session : ℕ) (ask : Ask) (o : Option Transaction) (log : List Deed) → IsBase store.shared → IsAskedThere (seen_by store.shared o) ask → AreLogged store logs → transaction_at store session ≡ o → IsSlot store.shared o log
+pub goes : (store : Store) (logs : List (List Deed)) (session : ℕ) (ask : Ask) (o : Option Transaction) (log : List Deed)
+    → IsBase store.shared → IsAskedThere (seen_by store.shared o) ask → AreLogged store logs → transaction_at store session ≡ o → IsSlot store.shared o log
     → Going store logs session (transacted store session o ask) (recorded o ask (transacted store session o ask).answer log)
-goes store logs session Begins None log base there inv is h = sets store logs session (Ok Defined) (Some (record { own = store.shared; version = store.shared.world.catalog.version; used = []; changed = [] })) [] inv (record { base = store.shared; from = begun_logged store.shared base })
+goes store logs session Begins None log base there inv is h = sets store logs session (Ok Defined)
+    (Some (record { own = store.shared; version = store.shared.world.catalog.version; used = []; changed = [] })) [] inv (record { base = store.shared; from = begun_logged store.shared base })
 goes store logs session Commits None log base there inv is h = stays store logs session (Err fault.NoTransaction) [] inv (subst (λ s. IsSlot store.shared s []) (sym is) refl)
 goes store logs session RollsBack None log base there inv is h = stays store logs session (Err fault.NoTransaction) [] inv (subst (λ s. IsSlot store.shared s []) (sym is) refl)
 goes store logs session (Executes e) None log base there inv is h = executes_alone store logs session e inv is
@@ -455,7 +552,8 @@ base_of cell c h =
     record { differ = h.world.catalog.tables_differ; contents = n; counts = omega arith }
 
 -- the tables of a statement that is bound on a catalog
-pub statement_there : (catalog : Catalog) (columns : List ColumnSite) (s : BoundStatement) → IsStatementOn catalog.tables columns s → MayDefine catalog s → All (λ name. IsSome (table_named catalog name)) (tables_of s)
+pub statement_there : (catalog : Catalog) (columns : List ColumnSite) (s : BoundStatement)
+    → IsStatementOn catalog.tables columns s → MayDefine catalog s → All (λ name. IsSome (table_named catalog name)) (tables_of s)
 statement_there catalog columns (bound.Insert i) h m = All-cons (λ name. IsSome (table_named catalog name)) i.table [] h.0 (All-nil (λ name. IsSome (table_named catalog name)))
 statement_there catalog columns (bound.Update u) h m = All-cons (λ name. IsSome (table_named catalog name)) u.table [] h.0 (All-nil (λ name. IsSome (table_named catalog name)))
 statement_there catalog columns (bound.Delete d) h m = All-cons (λ name. IsSome (table_named catalog name)) d.table [] h.0 (All-nil (λ name. IsSome (table_named catalog name)))
@@ -471,7 +569,8 @@ asked_there cell c Begins m = tt
 asked_there cell c Commits m = tt
 asked_there cell c RollsBack m = tt
 
-pub all_serial : (cell : List ℕ → Bool) (calls : List Call) (store : Store) (logs : List (List Deed)) → IsStore cell store → AreAllowed cell store calls → AreLogged store logs → AreSerial store logs calls
+pub all_serial : (cell : List ℕ → Bool) (calls : List Call) (store : Store) (logs : List (List Deed))
+    → IsStore cell store → AreAllowed cell store calls → AreLogged store logs → AreSerial store logs calls
 all_serial cell [] store logs well allowed inv = record { shared = refl; answers = tt }
 all_serial cell (call ∷ calls) store logs well allowed inv =
     let s = call.session in
@@ -490,7 +589,8 @@ all_serial cell (call ∷ calls) store logs well allowed inv =
 
 pub serial : (cell : List ℕ → Bool) (store : Store) (calls : List Call) → IsStore cell store → HasNoTransactions store → AreAllowed cell store calls → IsSerial store calls
 serial cell store calls well none allowed =
-    let a = all_serial cell calls store no_logs well allowed (record { counted = record { long = none.counts }; slots = subst (λ ts. AllZip (IsSlot store.shared) ts no_logs) (sym none.none) (empty_slots 64) }) in
+    let a = all_serial cell calls store no_logs well allowed
+    (record { counted = record { long = none.counts }; slots = subst (λ ts. AllZip (IsSlot store.shared) ts no_logs) (sym none.none) (empty_slots 64) }) in
     record { shared = a.shared; answers = a.answers }
   where
     empty_slots : (n : ℕ) → AllZip (IsSlot store.shared) (replicate n None) (replicate n [])

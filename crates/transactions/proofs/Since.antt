@@ -132,7 +132,8 @@ placed_kept own (name ∷ names) shared h =
 
 -- ---- a statement outside transactions
 
-changed_kept : (c after : Counted) (name : Option (List ℕ)) (rows : List (List Atom)) → IsCounted c → after ≡ made c.world.catalog (put (lies c.world.catalog) name rows c.world.contents) c.counts → Kept c (raised_at after name)
+changed_kept : (c after : Counted) (name : Option (List ℕ)) (rows : List (List Atom)) → IsCounted c
+    → after ≡ made c.world.catalog (put (lies c.world.catalog) name rows c.world.contents) c.counts → Kept c (raised_at after name)
 changed_kept c after None rows h e = subst (Kept c) (sym e) (kept_refl c h)
 changed_kept c after (Some name) rows h e = subst (λ x. Kept c (raised x name)) (sym e) (given_kept c name rows h)
 
@@ -181,11 +182,13 @@ module _ (c : Counted) (h : IsCounted c) where
     since = newer c (defined_as d new) (defined_by-followed c.world.catalog new d e).1;
     shape = λ n.
         let f = tables_follow c.world.catalog new d e in
-        long_behind [] f.def (effect_of c.world.catalog d) c.world.contents c.world.catalog.tables n ∙ sym (long_named d (followed f.def (effect_of c.world.catalog d) c.world.catalog.tables)) ∙ ap (λ ts. length ts) (sym f.tables);
+        long_behind [] f.def (effect_of c.world.catalog d) c.world.contents c.world.catalog.tables n ∙ sym
+        (long_named d (followed f.def (effect_of c.world.catalog d) c.world.catalog.tables)) ∙ ap (λ ts. length ts) (sym f.tables);
   }
   defined_kept d (Err f) e = kept_refl c h
 
-  statement_kept : (b : Bound) (encs : List Enc) (params : List Atom) (s : BoundStatement) → b.statement ≡ s → (is_defining s ≡ false → Kept c (alone c (record { bound = b; encs = encs; params = params })).after)
+  statement_kept : (b : Bound) (encs : List Enc) (params : List Atom) (s : BoundStatement) → b.statement ≡ s
+      → (is_defining s ≡ false → Kept c (alone c (record { bound = b; encs = encs; params = params })).after)
       → Kept c (left_by s (outcome c.world (done_by c.world b encs s params)))
   statement_kept b encs params (bound.Definition d) e g = defined_kept d (defined_by c.world.catalog d) refl
   statement_kept b encs params (bound.Insert i) e g = subst (λ s. Kept c (left_by s (outcome c.world (done_by c.world b encs s params)))) e (g refl)

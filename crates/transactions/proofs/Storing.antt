@@ -13,7 +13,25 @@ use Rattle.transactions.specs.Answers.{GivesCounted, StepsIn, StepsWhere, Transa
 use Rattle.transactions.specs.Counted.{Counted, CountedOutcome, Execution, counted_step, alone}
 use Rattle.transactions.specs.Forgotten.{forgotten_in, forgotten}
 use Rattle.transactions.specs.Noted.{IsHeld}
-use Rattle.transactions.specs.Stores.{Transaction, Store, Transacted, Begins, Commits, Executes, refused, begun_over, transaction_at, with_transaction, stepped_in, why_not, taken_over, committed, executed_in, transacted, transact}
+use Rattle.transactions.specs.Stores.{
+  Transaction,
+  Store,
+  Transacted,
+  Begins,
+  Commits,
+  Executes,
+  refused,
+  begun_over,
+  transaction_at,
+  with_transaction,
+  stepped_in,
+  why_not,
+  taken_over,
+  committed,
+  executed_in,
+  transacted,
+  transact,
+}
 use Rattle.transactions.proofs.Padding.{set_twice}
 use Rattle.transactions.proofs.Seen.{set_back}
 
@@ -40,7 +58,8 @@ module _ (store : Store) (session : ℕ) where
 
   -- ---- outside transactions
 
-  pub alone_transacts : {K : Type 0} (result : Result (code.Answer K) (Refusal SqlFault)) (e : Execution) (shared : Counted) (sessions : List (Option Transaction)) → transaction_at store session ≡ None → sessions ≡ set store.sessions k None
+  pub alone_transacts : {K : Type 0} (result : Result (code.Answer K) (Refusal SqlFault)) (e : Execution) (shared : Counted) (sessions : List (Option Transaction))
+      → transaction_at store session ≡ None → sessions ≡ set store.sessions k None
       → GivesCounted result store.shared shared (alone store.shared e) → Transacts result store (store_of shared sessions) (transact store session (Executes e))
   alone_transacts (Ok answer) e shared sessions is s g =
       ap (λ o. transacted store session o (Executes e)) is
@@ -58,7 +77,8 @@ module _ (store : Store) (session : ℕ) where
   set_in sessions t u e same = e ∙ set_twice store.sessions k None (Some u) ∙ ap (λ x. set store.sessions k (Some x)) same
 
   in_transacts : {K : Type 0} (result : Result (code.Answer K) (Refusal SqlFault)) (e : Execution) (t u : Transaction) (sessions : List (Option Transaction)) → transaction_at store session ≡ Some t
-      → sessions ≡ set (set store.sessions k None) k (Some u) → is_definition e.bound.statement ≡ false → StepsIn result t u e → Transacts result store (store_of store.shared sessions) (executed_in store session t e)
+      → sessions ≡ set (set store.sessions k None) k (Some u) → is_definition e.bound.statement ≡ false
+      → StepsIn result t u e → Transacts result store (store_of store.shared sessions) (executed_in store session t e)
   in_transacts (Ok answer) e t u sessions is s d g =
       let o = counted_step t.own e in
       ap (λ b. let x : Transacted = if b then refused store fault.InTransaction else record { answer = o.answer; after = with_transaction store session (Some (stepped_in t e o)) } in x) d
@@ -71,7 +91,8 @@ module _ (store : Store) (session : ℕ) where
       ∙ ap (λ xs. let x : Transacted = record { answer = Err f; after = store_of store.shared xs } in x) (sym (set_in sessions (stepped_in t e o) u s g.1))
   in_transacts (Err OutOfMemory) e t u sessions is s d g = ap (store_of store.shared) (put_back sessions t is (s ∙ ap (λ x. set (set store.sessions k None) k (Some x)) g))
 
-  where_transacts : {K : Type 0} (b : Bool) (result : Result (code.Answer K) (Refusal SqlFault)) (e : Execution) (t u : Transaction) (sessions : List (Option Transaction)) → is_definition e.bound.statement ≡ b → transaction_at store session ≡ Some t
+  where_transacts : {K : Type 0} (b : Bool) (result : Result (code.Answer K) (Refusal SqlFault)) (e : Execution)
+      (t u : Transaction) (sessions : List (Option Transaction)) → is_definition e.bound.statement ≡ b → transaction_at store session ≡ Some t
       → sessions ≡ set (set store.sessions k None) k (Some u) → StepsWhere b result t u e → Transacts result store (store_of store.shared sessions) (executed_in store session t e)
   where_transacts true (Ok answer) e t u sessions d is s g = absurd g
   where_transacts true (Err (Fault f)) e t u sessions d is s g =
@@ -82,10 +103,13 @@ module _ (store : Store) (session : ℕ) where
   where_transacts true (Err OutOfMemory) e t u sessions d is s g = absurd g
   where_transacts false result e t u sessions d is s g = in_transacts result e t u sessions is s d g
 
-  pub steps_transacts : {K : Type 0} (result : Result (code.Answer K) (Refusal SqlFault)) (e : Execution) (t u : Transaction) (sessions : List (Option Transaction)) → transaction_at store session ≡ Some t
-      → sessions ≡ set (set store.sessions k None) k (Some u) → StepsWhere (is_definition e.bound.statement) result t u e → Transacts result store (store_of store.shared sessions) (transact store session (Executes e))
+  pub steps_transacts : {K : Type 0} (result : Result (code.Answer K) (Refusal SqlFault)) (e : Execution) (t u : Transaction) (sessions : List (Option Transaction))
+      → transaction_at store session ≡ Some t
+      → sessions ≡ set (set store.sessions k None) k (Some u) → StepsWhere (is_definition e.bound.statement) result t u e
+      → Transacts result store (store_of store.shared sessions) (transact store session (Executes e))
   steps_transacts result e t u sessions is s g =
-      subst (λ o. Transacts result store (store_of store.shared sessions) (transacted store session o (Executes e))) (sym is) (where_transacts (is_definition e.bound.statement) result e t u sessions refl is s g)
+      subst (λ o. Transacts result store (store_of store.shared sessions) (transacted store session o (Executes e)))
+      (sym is) (where_transacts (is_definition e.bound.statement) result e t u sessions refl is s g)
 
   -- ---- BEGIN, COMMIT and ROLLBACK
 
@@ -95,7 +119,8 @@ module _ (store : Store) (session : ℕ) where
       ap (λ o. transacted store session o Begins) is
       ∙ ap (λ xs. let x : Transacted = record { answer = Ok Defined; after = store_of store.shared xs } in x) (sym (s ∙ ap (λ x. set store.sessions k (Some x)) e))
 
-  pub commits : (t : Transaction) (shared : Counted) (sessions : List (Option Transaction)) → transaction_at store session ≡ Some t → sessions ≡ set store.sessions k None → why_not store.shared t ≡ None → shared ≡ taken_over store.shared t
+  pub commits : (t : Transaction) (shared : Counted) (sessions : List (Option Transaction))
+      → transaction_at store session ≡ Some t → sessions ≡ set store.sessions k None → why_not store.shared t ≡ None → shared ≡ taken_over store.shared t
       → transact store session Commits ≡ record { answer = Ok Defined; after = store_of shared sessions }
   commits t shared sessions is s w e =
       ap (λ o. transacted store session o Commits) is ∙ ap (committed store session t) w
@@ -104,7 +129,12 @@ module _ (store : Store) (session : ℕ) where
 
   -- ---- what is forgotten
 
-  pub forgets : (used : ℕ) (t u : Transaction) (sessions : List (Option Transaction)) → transaction_at store session ≡ Some t → u ≡ record { own = t.own; version = t.version; used = take used t.used; changed = t.changed }
+  pub forgets : (used : ℕ) (t u : Transaction) (sessions : List (Option Transaction)) → transaction_at store session ≡ Some t → u ≡ record {
+    own = t.own;
+    version = t.version;
+    used = take used t.used;
+    changed = t.changed;
+  }
       → sessions ≡ set (set store.sessions k None) k (Some u) → store_of store.shared sessions ≡ forgotten store session used
   forgets used t u sessions is e s =
       ap (store_of store.shared) (s ∙ set_twice store.sessions k None (Some u) ∙ ap (λ x. set store.sessions k (Some x)) e)

@@ -1,5 +1,35 @@
 -- Tables that are taken one after another, until one world is laid over another; and counts that are raised.
-use Rattle.std.proofs.Common.{◌≡◌, ◌≢◌, ◌<◌, ℕ, zero, suc, ◌+◌, List, [], ◌∷◌, ◌++◌, length, take, drop, drop-cons, add-one, get_or, refl, ap, sym, subst, ◌∙◌, arith, Some, None, unwrap_or, Bool, true, false}
+use Rattle.std.proofs.Common.{
+  ◌≡◌,
+  ◌≢◌,
+  ◌<◌,
+  ℕ,
+  zero,
+  suc,
+  ◌+◌,
+  List,
+  [],
+  ◌∷◌,
+  ◌++◌,
+  length,
+  take,
+  drop,
+  drop-cons,
+  add-one,
+  get_or,
+  refl,
+  ap,
+  sym,
+  subst,
+  ◌∙◌,
+  arith,
+  Some,
+  None,
+  unwrap_or,
+  Bool,
+  true,
+  false,
+}
 use Rattle.std.specs.Prelude.{slice_set, ◌==◌, IsSome, if◌then◌else◌}
 use Rattle.std.specs.List.{All, AllPairs, slice_get}
 use Rattle.std.proofs.lemmas.List.Elements.{All-drop, All-head, All-tail}
@@ -31,9 +61,11 @@ names_apart catalog a b ha hb other same =
     other (sym x.name_is ∙ ap (λ (t : TableDef). t.name) (sym d) ∙ y.name_is)
 
 -- of the names that are left none lies where the first one does
-apart_first : (catalog : Catalog) (name : List ℕ) (names : List (List ℕ)) → All (λ n. IsSome (table_named catalog n)) (name ∷ names) → All (λ n. name ≢ n) names → All (λ n. lies catalog n ≢ lies catalog name) names
+apart_first : (catalog : Catalog) (name : List ℕ) (names : List (List ℕ)) → All (λ n. IsSome (table_named catalog n)) (name ∷ names)
+    → All (λ n. name ≢ n) names → All (λ n. lies catalog n ≢ lies catalog name) names
 apart_first catalog name names there apart =
-    λ i d lt. names_apart catalog name (get_or names i d) (All-head (λ n. IsSome (table_named catalog n)) name names there) (All-tail (λ n. IsSome (table_named catalog n)) name names there i d lt) (apart i d lt)
+    λ i d lt. names_apart catalog name (get_or names i d) (All-head (λ n. IsSome (table_named catalog n)) name names there)
+    (All-tail (λ n. IsSome (table_named catalog n)) name names there i d lt) (apart i d lt)
 
 -- what holds of each table holds of the one at a place
 pub table_at : (P : TableDef → Type 0) (tables : List TableDef) (i : ℕ) (def : TableDef) → All P tables → slice_get tables i ≡ Some def → P def
@@ -42,12 +74,14 @@ table_at P tables i def h e = subst P (get_or_from_slice_get tables i def def e)
 -- ---- one list is laid over another, place by place
 
 module _ {A : Type 0} (U : List ℕ → Bool) where
-  merged_alike : (f g : List ℕ → A) (tables : List TableDef) (items : List A) → All (λ (t : TableDef). U t.name ≡ false → g t.name ≡ f t.name) tables → merged U g tables items ≡ merged U f tables items
+  merged_alike : (f g : List ℕ → A) (tables : List TableDef) (items : List A)
+      → All (λ (t : TableDef). U t.name ≡ false → g t.name ≡ f t.name) tables → merged U g tables items ≡ merged U f tables items
   merged_alike f g [] items h = refl
   merged_alike f g (t ∷ tables) [] h = refl
   merged_alike f g (t ∷ tables) (x ∷ items) h = by (U t.name) refl (merged_alike f g tables items (All-tail (λ (t : TableDef). U t.name ≡ false → g t.name ≡ f t.name) t tables h))
     where
-      by : (b : Bool) → U t.name ≡ b → merged U g tables items ≡ merged U f tables items → (if U t.name then x else g t.name) ∷ merged U g tables items ≡ (if U t.name then x else f t.name) ∷ merged U f tables items
+      by : (b : Bool) → U t.name ≡ b → merged U g tables items ≡ merged U f tables items
+          → (if U t.name then x else g t.name) ∷ merged U g tables items ≡ (if U t.name then x else f t.name) ∷ merged U f tables items
       by true u rest = ap (λ b. (if b then x else g t.name) ∷ merged U g tables items) u ∙ ap (λ xs. x ∷ xs) rest ∙ ap (λ b. (if b then x else f t.name) ∷ merged U f tables items) (sym u)
       by false u rest =
           ap (λ b. (if b then x else g t.name) ∷ merged U g tables items) u
@@ -60,7 +94,8 @@ module _ {A : Type 0} (U : List ℕ → Bool) where
   so_far i theirs tables items = take i items ++ merged U theirs (drop i tables) (drop i items)
 
   -- a used table's own item stands
-  pub stays : (theirs : List ℕ → A) (tables : List TableDef) (items : List A) (i : ℕ) (def : TableDef) → length items ≡ length tables → slice_get tables i ≡ Some def → U def.name ≡ true → so_far (suc i) theirs tables items ≡ so_far i theirs tables items
+  pub stays : (theirs : List ℕ → A) (tables : List TableDef) (items : List A) (i : ℕ) (def : TableDef)
+      → length items ≡ length tables → slice_get tables i ≡ Some def → U def.name ≡ true → so_far (suc i) theirs tables items ≡ so_far i theirs tables items
   stays theirs [] items i def n e u = absurd cc
   stays theirs (t ∷ tables) [] i def n e u = absurd (omega arith)
   stays theirs (t ∷ tables) (x ∷ items) zero def n e u =
@@ -92,7 +127,8 @@ there_at (x ∷ xs) zero lt = record { item = x; is = refl }
 there_at (x ∷ xs) (suc i) lt = let t = there_at xs i (omega arith) in record { item = t.item; is = t.is }
 
 -- the further tables have other names
-apart_after : (tables : List TableDef) (i : ℕ) (def : TableDef) → AllPairs (λ a b. a.name ≢ b.name) tables → slice_get tables i ≡ Some def → All (λ (t : TableDef). def.name ≢ t.name) (drop (suc i) tables)
+apart_after : (tables : List TableDef) (i : ℕ) (def : TableDef) → AllPairs (λ a b. a.name ≢ b.name) tables
+    → slice_get tables i ≡ Some def → All (λ (t : TableDef). def.name ≢ t.name) (drop (suc i) tables)
 apart_after [] i def h e = absurd cc
 apart_after (t ∷ tables) zero def h e =
     let same : t ≡ def = cc in
@@ -140,7 +176,8 @@ module _ (start first : Counted) (used : List Used) (m : MayLieOver start first 
         same : (a b : ℕ) → Some a ≡ Some b → a ≡ b
         same a b e = cc
 
-        choose : (def : TableDef) (b : Bool) → U def.name ≡ b → Some from ≡ (if b then None else Some (lies shared.world.catalog def.name)) → (U def.name ≡ false) × (from ≡ lies shared.world.catalog def.name)
+        choose : (def : TableDef) (b : Bool) → U def.name ≡ b → Some from ≡ (if b then None else Some (lies shared.world.catalog def.name))
+            → (U def.name ≡ false) × (from ≡ lies shared.world.catalog def.name)
         choose def true u k = absurd cc
         choose def false u k = (u, same from (lies shared.world.catalog def.name) k)
 
@@ -193,13 +230,15 @@ module _ (start first : Counted) (used : List Used) (m : MayLieOver start first 
               counts = rw add-one (stays U (count_of start) tables own.counts i def h.counts_long first_is u ∙ h.counts);
             }
 
-    taken_next : (from : ℕ) → IsFrom U shared own i from → IsTaking U start first (with_rows_at shared from (rows_at own.world i)) (given own i (rows_at shared.world from) (count_at shared from)) (i + 1)
+    taken_next : (from : ℕ) → IsFrom U shared own i from
+        → IsTaking U start first (with_rows_at shared from (rows_at own.world i)) (given own i (rows_at shared.world from) (count_at shared from)) (i + 1)
     taken_next from f =
         let def = f.def in
         let first_is : slice_get tables i ≡ Some def = ap (λ (c : Catalog). slice_get c.tables i) (sym h.catalog) ∙ f.is in
         let theirs : rows_of shared.world def.name ≡ rows_at shared.world from = ap (rows_at shared.world) (sym f.from_is) in
         let count : count_of start def.name ≡ count_at shared from =
-        ap (λ ns. unwrap_or (slice_get ns (lies start.world.catalog def.name)) 0) (sym h.theirs_counts) ∙ ap (λ (c : Catalog). unwrap_or (slice_get shared.counts (lies c def.name)) 0) (sym h.theirs) ∙ ap (count_at shared) (sym f.from_is) in
+        ap (λ ns. unwrap_or (slice_get ns (lies start.world.catalog def.name)) 0) (sym h.theirs_counts) ∙ ap
+        (λ (c : Catalog). unwrap_or (slice_get shared.counts (lies c def.name)) 0) (sym h.theirs) ∙ ap (count_at shared) (sym f.from_is) in
         let after = with_rows_at shared from (rows_at own.world i) in
         record {
           catalog = h.catalog;
@@ -222,12 +261,16 @@ module _ (start first : Counted) (used : List Used) (m : MayLieOver start first 
             let other : f.def.name ≢ t.name = apart_after tables i f.def m.differ first_is j d within in
             let there : table_named start.world.catalog t.name ≡ Some t = All-drop (IsShared start.world.catalog used) (suc i) tables m.tables j d within u in
             let mine : table_named start.world.catalog f.def.name ≡ Some f.def = table_at (IsShared start.world.catalog used) tables i f.def m.tables first_is f.unused in
-            let far : lies start.world.catalog t.name ≢ lies start.world.catalog f.def.name = names_apart start.world.catalog f.def.name t.name (subst IsSome (sym mine) refl) (subst IsSome (sym there) refl) other in
-            let apart : lies shared.world.catalog t.name ≢ from = λ same. far (ap (λ (c : Catalog). lies c t.name) (sym h.theirs) ∙ same ∙ f.from_is ∙ ap (λ (c : Catalog). lies c f.def.name) h.theirs) in
+            let far : lies start.world.catalog t.name ≢ lies start.world.catalog f.def.name = names_apart
+            start.world.catalog f.def.name t.name (subst IsSome (sym mine) refl) (subst IsSome (sym there) refl) other in
+            let apart : lies shared.world.catalog t.name ≢ from = λ same. far
+            (ap (λ (c : Catalog). lies c t.name) (sym h.theirs) ∙ same ∙ f.from_is ∙ ap (λ (c : Catalog). lies c f.def.name) h.theirs) in
             ap (λ o. unwrap_or o []) (set_other shared.world.contents from (lies shared.world.catalog t.name) (rows_at own.world i) apart)
 
-    pub taken_so : (from : ℕ) → IsFrom U shared own i from → (after more : Counted) → after ≡ given own i (rows_at shared.world from) (count_at shared from) → more ≡ with_rows_at shared from (rows_at own.world i) → IsTaking U start first more after (i + 1)
-    taken_so from f after more a m = subst (λ c. IsTaking U start first c after (i + 1)) (sym m) (subst (λ c. IsTaking U start first (with_rows_at shared from (rows_at own.world i)) c (i + 1)) (sym a) (taken_next from f))
+    pub taken_so : (from : ℕ) → IsFrom U shared own i from → (after more : Counted)
+        → after ≡ given own i (rows_at shared.world from) (count_at shared from) → more ≡ with_rows_at shared from (rows_at own.world i) → IsTaking U start first more after (i + 1)
+    taken_so from f after more a m = subst (λ c. IsTaking U start first c after (i + 1)) (sym m)
+        (subst (λ c. IsTaking U start first (with_rows_at shared from (rows_at own.world i)) c (i + 1)) (sym a) (taken_next from f))
 
 pub split : {A : Type 0} (xs : List A) (i : ℕ) (x : A) → i < length xs → x ≡ get_or xs i x → drop i xs ≡ x ∷ drop (i + 1) xs
 split xs i x lt e = rw add-one (drop-cons xs i x lt ∙ ap (λ n. n ∷ drop (suc i) xs) (sym e))

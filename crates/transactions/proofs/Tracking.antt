@@ -1,5 +1,40 @@
 -- What is true of the notes of transactions stays so.
-use Rattle.std.proofs.Common.{◌≡◌, ◌≢◌, ◌<◌, ◌≤◌, ◌⊎◌, inl, inr, ℕ, zero, suc, ◌-◌, ◌+◌, List, [], ◌∷◌, ◌++◌, get_or, length, refl, ap, sym, subst, ◌∙◌, arith, Option, Some, None, unwrap_or, Result, Ok, Err, Bool, true, false}
+use Rattle.std.proofs.Common.{
+  ◌≡◌,
+  ◌≢◌,
+  ◌<◌,
+  ◌≤◌,
+  ◌⊎◌,
+  inl,
+  inr,
+  ℕ,
+  zero,
+  suc,
+  ◌-◌,
+  ◌+◌,
+  List,
+  [],
+  ◌∷◌,
+  ◌++◌,
+  get_or,
+  length,
+  refl,
+  ap,
+  sym,
+  subst,
+  ◌∙◌,
+  arith,
+  Option,
+  Some,
+  None,
+  unwrap_or,
+  Result,
+  Ok,
+  Err,
+  Bool,
+  true,
+  false,
+}
 use Rattle.std.specs.Prelude.{◌==◌, ◌||◌, IsSome, if◌then◌else◌, replicate}
 use Rattle.std.specs.List.{All, slice_get, list_any, remove}
 use Rattle.std.specs.Str.{bytes_eq}
@@ -24,7 +59,38 @@ use Rattle.engine.specs.Step.{Answer}
 use Rattle.engine.specs.Worlds.{World, place_of, rows_of}
 use Rattle.transactions.specs.Counted.{Counted, CountedOutcome, Execution, count_of, changed_by, is_at_last_count, counted_step, nothing_counted, raised, raised_all, alone}
 use Rattle.transactions.specs.Noted.{AreApart, IsInShape, IsUnused, IsUnreplaced, IsChanged, IsNoted, IsNotedIn, IsHeld, MayLieOver}
-use Rattle.transactions.specs.Stores.{Transaction, Store, Ask, Begins, Commits, RollsBack, Executes, Transacted, refused, empty_store, begun_over, transaction_at, with_transaction, seen_by, world_of, is_used, with_uses, with_changed, changed_behind, renamed_names, stepped_in, conflict, why_not, merged, over, taken_over, committed, executed_in, transacted, transact}
+use Rattle.transactions.specs.Stores.{
+  Transaction,
+  Store,
+  Ask,
+  Begins,
+  Commits,
+  RollsBack,
+  Executes,
+  Transacted,
+  refused,
+  empty_store,
+  begun_over,
+  transaction_at,
+  with_transaction,
+  seen_by,
+  world_of,
+  is_used,
+  with_uses,
+  with_changed,
+  changed_behind,
+  renamed_names,
+  stepped_in,
+  conflict,
+  why_not,
+  merged,
+  over,
+  taken_over,
+  committed,
+  executed_in,
+  transacted,
+  transact,
+}
 use Rattle.transactions.specs.WellKept.{IsShared}
 use Rattle.transactions.specs.declared.uses.Used.{Used}
 use Rattle.transactions.proofs.Between.{raised_world}
@@ -76,7 +142,8 @@ unused_before used u name h = by (is_used used name) refl
     by false e = e
 
 -- what holds of the uses, and of each that is noted then
-noted_each : (P : Used → Type 0) (c : Counted) (names : List (List ℕ)) (used : List Used) → All (λ name. is_used used name ≡ false → P (record { table = name; seen = count_of c name })) names → All P used → All P (with_uses c used names)
+noted_each : (P : Used → Type 0) (c : Counted) (names : List (List ℕ)) (used : List Used)
+    → All (λ name. is_used used name ≡ false → P (record { table = name; seen = count_of c name })) names → All P used → All P (with_uses c used names)
 noted_each P c [] used new h = h
 noted_each P c (n ∷ names) used new h = by (is_used used n) refl (λ us k g. noted_each P c names us k g)
   where
@@ -108,7 +175,8 @@ same_some : (a b : List ℕ) → Some a ≡ Some b → a ≡ b
 same_some a b e = cc
 
 used_alone : (c : Counted) (used : List Used) (table name : List ℕ) → table ≡ name → is_used (with_uses c used (table ∷ [])) name ≡ true
-used_alone c used table name e = subst (λ n. is_used (with_uses c used (table ∷ [])) n ≡ true) e (All-head (λ n. is_used (with_uses c used (table ∷ [])) n ≡ true) table [] (noted_all c (table ∷ []) used))
+used_alone c used table name e = subst (λ n. is_used (with_uses c used (table ∷ [])) n ≡ true) e
+    (All-head (λ n. is_used (with_uses c used (table ∷ [])) n ≡ true) table [] (noted_all c (table ∷ []) used))
 
 target_used : (c : Counted) (used : List Used) (s : BoundStatement) (name : List ℕ) → target s ≡ Some name → is_used (with_uses c used (tables_of s)) name ≡ true
 target_used c used (bound.Definition d) name e = absurd cc
@@ -166,7 +234,8 @@ of_name P catalog name h there =
     let p = placed_at catalog name there in
     record { def = p.def; name_is = p.name_is; holds = table_at P catalog.tables (lies catalog name) p.def h p.is }
 
-module _ (shared : Counted) (t : Transaction) (e : Execution) (h : IsNoted shared t) (on : IsStatementOn t.own.world.catalog.tables e.bound.columns e.bound.statement) (may : MayDefine t.own.world.catalog e.bound.statement) where
+module _ (shared : Counted) (t : Transaction) (e : Execution) (h : IsNoted shared t)
+    (on : IsStatementOn t.own.world.catalog.tables e.bound.columns e.bound.statement) (may : MayDefine t.own.world.catalog e.bound.statement) where
   abbrev own : Counted
   own = t.own
 
@@ -196,7 +265,8 @@ module _ (shared : Counted) (t : Transaction) (e : Execution) (h : IsNoted share
       subst (λ n. count_of own n ≤ count_of shared n) x.name_is (x.holds (ap (is_used t.used) x.name_is ∙ new)).1) b.seen
 
   -- the world has its tables and counts, and the changed ones
-  stays : (changed : List (List ℕ)) (after : Counted) → IsSame own after → All (λ name. IsSome (table_named catalog name) × (is_used used name ≡ true) × (is_at_last_count own (Some name) ≡ false)) changed → AreApart changed
+  stays : (changed : List (List ℕ)) (after : Counted) → IsSame own after
+      → All (λ name. IsSome (table_named catalog name) × (is_used used name ≡ true) × (is_at_last_count own (Some name) ≡ false)) changed → AreApart changed
       → IsNoted shared (record { own = after; version = t.version; used = used; changed = changed })
   stays changed after same all apart = record {
     catalog = subst IsCatalog (sym same.catalog) h.catalog;
@@ -488,7 +558,8 @@ raised_more c (name ∷ names) p =
     omega arith
 
 -- what a table that was not used gives
-merged_theirs : {A : Type 0} (U : List ℕ → Bool) (theirs : List ℕ → A) (tables : List TableDef) (items : List A) (k : ℕ) (def : TableDef) → length items ≡ length tables → slice_get tables k ≡ Some def → U def.name ≡ false
+merged_theirs : {A : Type 0} (U : List ℕ → Bool) (theirs : List ℕ → A) (tables : List TableDef) (items : List A) (k : ℕ) (def : TableDef)
+    → length items ≡ length tables → slice_get tables k ≡ Some def → U def.name ≡ false
     → slice_get (merged U theirs tables items) k ≡ Some (theirs def.name)
 merged_theirs U theirs [] items k def n e u = absurd cc
 merged_theirs U theirs (t ∷ tables) [] k def n e u = absurd (omega arith)
@@ -550,7 +621,8 @@ module _ (shared : Counted) (t : Transaction) (h : IsNoted shared t) (e : why_no
       by : (b : Bool) → U def.name ≡ b → at shared.counts i ≤ at laid.counts i
       by true u =
           let f = free shared t e in
-          let x = used_seen_by (λ u. (u.seen ≡ count_of shared u.table) × (u.seen ≤ count_of t.own u.table)) t.used def.name (λ j d lt. (unconflicted shared t.used f.unconflicted j d lt, r.seen j d lt)) u in
+          let x = used_seen_by (λ u. (u.seen ≡ count_of shared u.table) × (u.seen ≤ count_of t.own u.table))
+          t.used def.name (λ j d lt. (unconflicted shared t.used f.unconflicted j d lt, r.seen j d lt)) u in
           let one : x.u.seen ≡ count_of shared def.name = x.holds.0 ∙ ap (count_of shared) x.name_is in
           let two : x.u.seen ≤ count_of t.own def.name = subst (λ n. x.u.seen ≤ count_of t.own n) x.name_is x.holds.1 in
           let item : at laid.counts i ≡ at t.own.counts i = ap (λ o. unwrap_or o 0) (merged_own U (count_of shared) k.tables t.own.counts i def is u) in
@@ -588,7 +660,8 @@ module _ (shared : Counted) (t : Transaction) (h : IsNoted shared t) (e : why_no
             };
       }
 
-taken_held : (store : Store) (t : Transaction) → IsHeld store → IsNoted store.shared t → why_not store.shared t ≡ None → IsHeld (record { shared = taken_over store.shared t; sessions = store.sessions })
+taken_held : (store : Store) (t : Transaction) → IsHeld store → IsNoted store.shared t → why_not store.shared t ≡ None
+    → IsHeld (record { shared = taken_over store.shared t; sessions = store.sessions })
 taken_held store t h k e =
     let shared = store.shared in
     let laid = over (is_used t.used) shared t.own in
@@ -604,22 +677,26 @@ IsOn k Commits = Unit {0}
 IsOn k RollsBack = Unit {0}
 IsOn k (Executes e) = IsStatementOn k.tables e.bound.columns e.bound.statement × MayDefine k e.bound.statement
 
-held_in : (store : Store) (session : ℕ) (t : Transaction) (e : Execution) → IsHeld store → IsNoted store.shared t → IsStatementOn t.own.world.catalog.tables e.bound.columns e.bound.statement → MayDefine t.own.world.catalog e.bound.statement → IsHeld (executed_in store session t e).after
+held_in : (store : Store) (session : ℕ) (t : Transaction) (e : Execution) → IsHeld store → IsNoted store.shared t
+    → IsStatementOn t.own.world.catalog.tables e.bound.columns e.bound.statement → MayDefine t.own.world.catalog e.bound.statement → IsHeld (executed_in store session t e).after
 held_in store session t e h k on may = by (is_definition e.bound.statement) refl
   where
     by : (b : Bool) → is_definition e.bound.statement ≡ b
-        → IsHeld (let x : Transacted = if b then refused store fault.InTransaction else record { answer = (counted_step t.own e).answer; after = with_transaction store session (Some (stepped_in t e (counted_step t.own e))) } in x.after)
+        → IsHeld (let x : Transacted = if b then refused store fault.InTransaction else record
+        { answer = (counted_step t.own e).answer; after = with_transaction store session (Some (stepped_in t e (counted_step t.own e))) } in x.after)
     by true d = h
     by false d = with_slot store session (Some (stepped_in t e (counted_step t.own e))) h (stepped_noted store.shared t e k on may d)
 
-held_by : (store : Store) (session : ℕ) (o : Option Transaction) (ask : Ask) → IsHeld store → IsNotedIn store.shared o → IsOn (seen_by store.shared o).world.catalog ask → IsHeld (transacted store session o ask).after
+held_by : (store : Store) (session : ℕ) (o : Option Transaction) (ask : Ask) → IsHeld store → IsNotedIn store.shared o
+    → IsOn (seen_by store.shared o).world.catalog ask → IsHeld (transacted store session o ask).after
 held_by store session None Begins h k on = with_slot store session (Some (begun_over store.shared)) h (begun_noted store.shared h.catalog h.shape)
 held_by store session None Commits h k on = h
 held_by store session None RollsBack h k on = h
 held_by store session None (Executes e) h k on =
     let kept = alone_kept store.shared e (record { long = long_of store.shared h.shape }) in
     let contents = kept.shape h.shape.contents in
-    with_shared store (alone store.shared e).after h (alone_catalog store.shared e on.1 h.catalog) (record { contents = contents; counts = kept.counted.long ∙ contents }) (risen_since store.shared (alone store.shared e).after kept.since)
+    with_shared store (alone store.shared e).after h (alone_catalog store.shared e on.1 h.catalog)
+    (record { contents = contents; counts = kept.counted.long ∙ contents }) (risen_since store.shared (alone store.shared e).after kept.since)
 held_by store session (Some t) Begins h k on = h
 held_by store session (Some t) Commits h k on = by (why_not store.shared t) refl
   where

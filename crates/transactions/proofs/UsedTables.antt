@@ -42,7 +42,9 @@ pub noted_keeps : (c : Counted) (names : List (List ℕ)) (used : List Used) (na
 noted_keeps c [] used name h = h
 noted_keeps c (n ∷ names) used name h = by (is_used used n) (λ b e. noted_keeps c names (if b then used else used ++ record { table = n; seen = count_of c n } ∷ []) name e)
   where
-    by : (b : Bool) → ((b : Bool) → is_used (if b then used else used ++ record { table = n; seen = count_of c n } ∷ []) name ≡ true → is_used (with_uses c (if b then used else used ++ record { table = n; seen = count_of c n } ∷ []) names) name ≡ true)
+    by : (b : Bool)
+        → ((b : Bool) → is_used (if b then used else used ++ record { table = n; seen = count_of c n } ∷ []) name ≡ true
+        → is_used (with_uses c (if b then used else used ++ record { table = n; seen = count_of c n } ∷ []) names) name ≡ true)
         → is_used (with_uses c (if b then used else used ++ record { table = n; seen = count_of c n } ∷ []) names) name ≡ true
     by true more = more true h
     by false more = more false (used_push used (record { table = n; seen = count_of c n }) name h)
@@ -67,7 +69,8 @@ unused_push used u name h = by (is_used used name) refl
     by true e = let t = used_push used u name e in absurd cc
     by false e = e
 
-pub noted_seen : (base own : Counted) (names : List (List ℕ)) (used : List Used) → All (λ name. is_used used name ≡ false → count_of own name ≡ count_of base name) names → All (Seen base) used → All (Seen base) (with_uses own used names)
+pub noted_seen : (base own : Counted) (names : List (List ℕ)) (used : List Used)
+    → All (λ name. is_used used name ≡ false → count_of own name ≡ count_of base name) names → All (Seen base) used → All (Seen base) (with_uses own used names)
 noted_seen base own [] used same h = h
 noted_seen base own (n ∷ names) used same h = by (is_used used n) refl (λ us k g. noted_seen base own names us k g)
   where
@@ -80,7 +83,8 @@ noted_seen base own (n ∷ names) used same h = by (is_used used n) refl (λ us 
     u : Used
     u = record { table = n; seen = count_of own n }
 
-    by : (b : Bool) → is_used used n ≡ b → ((us : List Used) → Same us → All (Seen base) us → All (Seen base) (with_uses own us names)) → All (Seen base) (with_uses own (if b then used else used ++ u ∷ []) names)
+    by : (b : Bool) → is_used used n ≡ b → ((us : List Used) → Same us → All (Seen base) us → All (Seen base) (with_uses own us names))
+        → All (Seen base) (with_uses own (if b then used else used ++ u ∷ []) names)
     by true e more = more used rest h
     by false e more = more (used ++ u ∷ []) (λ i d lt k. rest i d lt (unused_push used u _ k))
         (All-push (Seen base) used u h (All-head (λ name. is_used used name ≡ false → count_of own name ≡ count_of base name) n names same e))

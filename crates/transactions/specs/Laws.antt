@@ -31,7 +31,8 @@ TransactionsAreSerial = (cell : List ℕ → Bool) (store : Store) (calls : List
 -- over any pairing that is one-to-one in deterministic classes, of values within their types: from states that correspond a session
 -- gets answers and states that do, fault for fault
 abbrev pub TransactionsSimulate : Type 0
-TransactionsSimulate = (cell : List ℕ → Bool) (related : Class → Atom → Atom → Bool) (store other : Store) (session : ℕ) (ask second : Ask) → IsOneToOne (Related related) → ArePairsWithin (Related related) → IsStore cell store
+TransactionsSimulate = (cell : List ℕ → Bool) (related : Class → Atom → Atom → Bool) (store other : Store) (session : ℕ) (ask second : Ask)
+    → IsOneToOne (Related related) → ArePairsWithin (Related related) → IsStore cell store
     → StoresCorrespond (Related related) store other → AsksCorrespond (Related related) ask second → MayAsk cell (world_of store session).world ask
     → TransactedCorrespond (Related related) (transact store session ask) (transact other session second)
 
@@ -42,7 +43,8 @@ TransactionsKeepStores = (cell : List ℕ → Bool) (store : Store) (session : �
 
 -- a statement with its parameters at other places does what it did, over their values there
 abbrev pub TransactionsRenamed : Type 0
-TransactionsRenamed = (store : Store) (session : ℕ) (b : Bound) (f : ℕ → ℕ) (tys : List Ty) (encs others : List Enc) (params moved : List Atom) → AreMoved (λ place. uses place b) f params moved → AreTypesMoved b f encs tys others
+TransactionsRenamed = (store : Store) (session : ℕ) (b : Bound) (f : ℕ → ℕ) (tys : List Ty) (encs others : List Enc) (params moved : List Atom)
+    → AreMoved (λ place. uses place b) f params moved → AreTypesMoved b f encs tys others
     → transact store session (Executes (execution (renamed f tys b) others moved)) ≡ transact store session (Executes (execution b encs params))
 
 -- from a state that can stand and has no transactions, the records of some calls lead to the shared world that the calls lead to

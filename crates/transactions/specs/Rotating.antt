@@ -108,7 +108,8 @@ logs_behind store logs (call ∷ calls) = logs_behind (transact store call.sessi
 -- whatever else was called before and between: where a session that has rotated so commits, and is accepted, the shared world is rotated from what it was
 -- just before
 abbrev pub RotationsAreWhole : Type 0
-RotationsAreWhole = (cell : List ℕ → Bool) (store : Store) (calls : List Call) (session : ℕ) (old new : List ℕ) (width : ℕ) (read : List (List Atom)) → IsStore cell store → HasNoTransactions store → AreAllowed cell store calls
+RotationsAreWhole = (cell : List ℕ → Bool) (store : Store) (calls : List Call) (session : ℕ) (old new : List ℕ) (width : ℕ) (read : List (List Atom))
+    → IsStore cell store → HasNoTransactions store → AreAllowed cell store calls
     → old ≢ new → length (columns_among (all_after store calls).shared.world.catalog.tables old) ≡ width → length (columns_among (all_after store calls).shared.world.catalog.tables new) ≡ width
     → (r : HasRotated old new width read (log_at (logs_behind store no_logs calls) session))
     → let s = all_after store calls in

@@ -1,5 +1,38 @@
 -- Rows that go and come in the indexes of unique keys, one index after another.
-use Rattle.std.proofs.Common.{◌≡◌, ℕ, zero, suc, ◌+◌, ◌<◌, ◌≤◌, List, [], ◌∷◌, ◌++◌, length, get_or, take, drop, map, slice_set, refl, ap, sym, ◌∙◌, subst, arith, length-drop, true, false, Bool, Option, Some, None, Ok, Err}
+use Rattle.std.proofs.Common.{
+  ◌≡◌,
+  ℕ,
+  zero,
+  suc,
+  ◌+◌,
+  ◌<◌,
+  ◌≤◌,
+  List,
+  [],
+  ◌∷◌,
+  ◌++◌,
+  length,
+  get_or,
+  take,
+  drop,
+  map,
+  slice_set,
+  refl,
+  ap,
+  sym,
+  ◌∙◌,
+  subst,
+  arith,
+  length-drop,
+  true,
+  false,
+  Bool,
+  Option,
+  Some,
+  None,
+  Ok,
+  Err,
+}
 use Rattle.std.specs.List.{All}
 use Rattle.std.proofs.lemmas.List.{take_all, take_more, drop_all, drop-map, drop-set-lt, length-map, map-append}
 use Rattle.std.proofs.lemmas.List.Elements.{All-cons, All-nil, All-head, All-tail}
@@ -29,7 +62,8 @@ all_taken P [] i x lt h p = absurd (omega arith)
 all_taken P (y ∷ xs) zero x lt h p = All-cons P x [] p (All-nil P)
 all_taken P (y ∷ xs) (suc i) x lt h p =
     let one : suc i + 1 ≡ suc (i + 1) = omega arith in
-    subst (λ n. All P (take n (slice_set (y ∷ xs) (suc i) x))) (sym one) (All-cons P y (take (i + 1) (slice_set xs i x)) (All-head P y (take i xs) h) (all_taken P xs i x (omega (arith, lt)) (All-tail P y (take i xs) h) p))
+    subst (λ n. All P (take n (slice_set (y ∷ xs) (suc i) x))) (sym one)
+    (All-cons P y (take (i + 1) (slice_set xs i x)) (All-head P y (take i xs) h) (all_taken P xs i x (omega (arith, lt)) (All-tail P y (take i xs) h) p))
 
 all_read : {A : Type 0} (P : A → Type 0) (xs : List A) (i : ℕ) (x : A) → All P xs → i < length xs → x ≡ get_or xs i x → P x
 all_read P [] i x h lt e = absurd (omega arith)
@@ -87,7 +121,8 @@ module _ (numbers : List ℕ) (there rows : List (List Atom)) (indexes : List In
   pub none_more : NoneRefuses indexes rows i → has_twins index.places rows ≡ false → NoneRefuses indexes rows (i + 1)
   none_more s t = first_next rows (keys_of indexes) i index.places key_within key_is (first_twins 1 (keys_of indexes) rows) s t
 
-  pub keys_more : (all : List (List (List Atom))) (new keys : List (List Atom)) → all ≡ keys_for (take i (keys_of indexes)) new → keys ≡ map (key_of index.places) new → all ++ keys ∷ [] ≡ keys_for (take (i + 1) (keys_of indexes)) new
+  pub keys_more : (all : List (List (List Atom))) (new keys : List (List Atom)) → all ≡ keys_for (take i (keys_of indexes)) new
+      → keys ≡ map (key_of index.places) new → all ++ keys ∷ [] ≡ keys_for (take (i + 1) (keys_of indexes)) new
   keys_more all new keys a e =
       let ks = keys_of indexes in
       ap (λ l. l ++ keys ∷ []) a ∙ ap (λ k. keys_for (take i ks) new ++ k ∷ []) e ∙ sym (map-append (λ key. map (key_of key) new) (take i ks) (index.places ∷ []))
@@ -119,7 +154,8 @@ pub record AreReserved (count i : ℕ) (before now : List Indexed) : Type 0 wher
 pub reserved_start : (count : ℕ) (before : List Indexed) → AreReserved count 0 before before
 reserved_start count before = record { kept = kept_start before; room = All-nil (λ (index : Indexed). count ≤ index.keyed.spare) }
 
-pub reserved_more : (count i : ℕ) (before now : List Indexed) (after : Indexed) → i < length now → AreReserved count i before now → AreKept before (slice_set now i after) → count ≤ after.keyed.spare → AreReserved count (i + 1) before (slice_set now i after)
+pub reserved_more : (count i : ℕ) (before now : List Indexed) (after : Indexed) → i < length now
+    → AreReserved count i before now → AreKept before (slice_set now i after) → count ≤ after.keyed.spare → AreReserved count (i + 1) before (slice_set now i after)
 reserved_more count i before now after lt s kept room = record {
   kept = kept;
   room = all_taken (λ (index : Indexed). count ≤ index.keyed.spare) now i after lt s.room room;
@@ -146,7 +182,8 @@ pub record AreVisited (i : ℕ) (before now : List Indexed) : Type 0 where
 pub visited_start : (before : List Indexed) → AreVisited 0 before before
 visited_start before = record { keys = refl; rest = refl }
 
-module _ (all left : List (List (List Atom))) (i : ℕ) (before now : List Indexed) (keys : List (List Atom)) (long : length all ≡ length before) (first : keys ∷ left ≡ drop i all) (s : AreVisited i before now) where
+module _ (all left : List (List (List Atom))) (i : ℕ) (before now : List Indexed) (keys : List (List Atom))
+    (long : length all ≡ length before) (first : keys ∷ left ≡ drop i all) (s : AreVisited i before now) where
   before_within : i < length before
   before_within = omega (arith, long, ap length first, length-drop i all)
 
@@ -195,7 +232,8 @@ module _ (all left : List (List (List Atom))) (i : ℕ) (before now : List Index
       rest = drop-set-lt (i + 1) now i after (omega arith) ∙ sym (drop_one now i) ∙ ap (drop 1) s.rest ∙ drop_one before i;
     }
 
-pub visited_all : (all left : List (List (List Atom))) (i : ℕ) (before now : List Indexed) → length all ≡ length before → left ≡ drop i all → length left ≡ 0 → AreVisited i before now → (P : Indexed → Type 0) → All P (take i now) → All P now
+pub visited_all : (all left : List (List (List Atom))) (i : ℕ) (before now : List Indexed) → length all ≡ length before
+    → left ≡ drop i all → length left ≡ 0 → AreVisited i before now → (P : Indexed → Type 0) → All P (take i now) → All P now
 visited_all all left i before now long e none s P h =
     let le : length now ≤ i = omega (arith, long, ap length e, none, length-drop i all, keys_long now, ap length s.keys, keys_long before) in
     subst (All P) (take_all i now le) h
@@ -211,7 +249,8 @@ pub record AreLeaving (known : List ℕ) (there : List (List Atom)) (hits : List
 pub record AreTaken (keys : List (List (List Atom))) (i : ℕ) (before now : List Indexed) : Type 0 where
   pub visited : AreVisited i before now
   pub rows : (known : List ℕ) (there : List (List Atom)) (hits : List Bool) → AreLeaving known there hits keys before → All (IndexesRows (unhit known hits) (unhit there hits)) (take i now)
-  pub room : (count more : ℕ) → All (λ (ks : List (List Atom)). count ≡ length ks) keys → All (λ (index : Indexed). count + more ≤ index.keyed.spare) before → All (λ (index : Indexed). more ≤ index.keyed.spare) (take i now)
+  pub room : (count more : ℕ) → All (λ (ks : List (List Atom)). count ≡ length ks) keys
+      → All (λ (index : Indexed). count + more ≤ index.keyed.spare) before → All (λ (index : Indexed). more ≤ index.keyed.spare) (take i now)
 
 pub taken_start : (keys : List (List (List Atom))) (before : List Indexed) → AreTaken keys 0 before before
 taken_start keys before = record {
@@ -256,7 +295,8 @@ pub record ArePut (numbers : List ℕ) (keys : List (List (List Atom))) (i : ℕ
 pub put_start : (numbers : List ℕ) (keys : List (List (List Atom))) (before : List Indexed) → ArePut numbers keys 0 before before
 put_start numbers keys before = record { visited = visited_start before; rows = λ known there rows l. All-nil (IndexesRows (known ++ numbers) (there ++ rows)) }
 
-pub put_more : (numbers : List ℕ) (all left : List (List (List Atom))) (i : ℕ) (before now : List Indexed) (keys : List (List Atom)) → length all ≡ length before → keys ∷ left ≡ drop i all → ArePut numbers all i before now
+pub put_more : (numbers : List ℕ) (all left : List (List (List Atom))) (i : ℕ) (before now : List Indexed) (keys : List (List Atom))
+    → length all ≡ length before → keys ∷ left ≡ drop i all → ArePut numbers all i before now
     → (index after : Indexed) → index ≡ get_or now i index → after.places ≡ index.places
     → ((known : List ℕ) (there rows : List (List Atom)) → length known ≡ length there → IndexesRows known there index → keys ≡ map (key_of index.places) rows
     → has_twins index.places (there ++ rows) ≡ false → IndexesRows (known ++ numbers) (there ++ rows) after)
@@ -273,10 +313,12 @@ put_more numbers all left i before now keys long first s index after is p r =
     }
 
 -- keys of some rows for each index
-pub keys_there : (before ready : List Indexed) (rows : List (List Atom)) (all : List (List (List Atom))) → keys_of ready ≡ keys_of before → all ≡ keys_for (keys_of before) rows → length all ≡ length ready
+pub keys_there : (before ready : List Indexed) (rows : List (List Atom)) (all : List (List (List Atom)))
+    → keys_of ready ≡ keys_of before → all ≡ keys_for (keys_of before) rows → length all ≡ length ready
 keys_there before ready rows all same e = ap length e ∙ length-map (keys_of before) (λ key. map (key_of key) rows) ∙ ap length (sym same) ∙ keys_long ready
 
-pub keys_each : (count : ℕ) (keys : List (List ℕ)) (rows : List (List Atom)) (all : List (List (List Atom))) → all ≡ keys_for keys rows → count ≡ length rows → All (λ (ks : List (List Atom)). count ≡ length ks) all
+pub keys_each : (count : ℕ) (keys : List (List ℕ)) (rows : List (List Atom)) (all : List (List (List Atom)))
+    → all ≡ keys_for keys rows → count ≡ length rows → All (λ (ks : List (List Atom)). count ≡ length ks) all
 keys_each count keys rows all e n = subst (All (λ (ks : List (List Atom)). count ≡ length ks)) (sym e) (each keys)
   where
     each : (keys : List (List ℕ)) → All (λ (ks : List (List Atom)). count ≡ length ks) (keys_for keys rows)
@@ -297,21 +339,25 @@ refused None x (code.Fault e) a = absurd cc
 refused (Some n) x (code.Fault e) a = cc
 refused o x code.OutOfMemory a = tt
 
-pub refused_same : {A : Type 0} (known : List ℕ) (there : List (List Atom)) (hits : List Bool) (their : List ℕ) (new : List (List Atom)) (refusal : Refusal SqlFault) (x : A) (before after : List Indexed) → keys_of after ≡ keys_of before
-    → Answers (Err refusal) (unless_twins (first_twins 1 (keys_of before) (unhit there hits ++ new)) x) → All (IndexesRows known there) after → AreExchanged known there hits their new (Err refusal) before after
+pub refused_same : {A : Type 0} (known : List ℕ) (there : List (List Atom)) (hits : List Bool) (their : List ℕ)
+    (new : List (List Atom)) (refusal : Refusal SqlFault) (x : A) (before after : List Indexed) → keys_of after ≡ keys_of before
+    → Answers (Err refusal) (unless_twins (first_twins 1 (keys_of before) (unhit there hits ++ new)) x)
+    → All (IndexesRows known there) after → AreExchanged known there hits their new (Err refusal) before after
 refused_same known there hits their new refusal x before after k a h = record { keys = k; answer = refused (first_twins 1 (keys_of before) (unhit there hits ++ new)) x refusal a; indexed = h }
 
 -- where no two rows are alike, all indexes have them
 pub none_alike : {A : Type 0} (o : Option ℕ) (x y : A) → unless_twins o x ≡ Ok y → o ≡ None
 none_alike o x y e = (found_none o x y e).0
 
-pub all_exchanged : (known : List ℕ) (there : List (List Atom)) (hits : List Bool) (their : List ℕ) (new : List (List Atom)) (before after : List Indexed) → first_twins 1 (keys_of before) (unhit there hits ++ new) ≡ None → keys_of after ≡ keys_of before
+pub all_exchanged : (known : List ℕ) (there : List (List Atom)) (hits : List Bool) (their : List ℕ) (new : List (List Atom)) (before after : List Indexed)
+    → first_twins 1 (keys_of before) (unhit there hits ++ new) ≡ None → keys_of after ≡ keys_of before
     → All (IndexesRows (unhit known hits ++ their) (unhit there hits ++ new)) after → AreExchanged known there hits their new (Ok tt) before after
 all_exchanged known there hits their new before after none k h = record { keys = k; answer = ap (λ o. unless_twins o tt) none; indexed = h }
 
 -- ---- indexes that are copied
 
-pub copied_keys : (indexes copy : List Indexed) (i : ℕ) (index new : Indexed) → i < length indexes → index ≡ get_or indexes i index → keys_of copy ≡ keys_of (take i indexes) → new.places ≡ index.places → keys_of (copy ++ new ∷ []) ≡ keys_of (take (i + 1) indexes)
+pub copied_keys : (indexes copy : List Indexed) (i : ℕ) (index new : Indexed) → i < length indexes
+    → index ≡ get_or indexes i index → keys_of copy ≡ keys_of (take i indexes) → new.places ≡ index.places → keys_of (copy ++ new ∷ []) ≡ keys_of (take (i + 1) indexes)
 copied_keys indexes copy i index new lt is k p =
     map-append (λ (x : Indexed). x.places) copy (new ∷ []) ∙ ap (λ ks. ks ++ new.places ∷ []) k ∙ ap (λ key. keys_of (take i indexes) ++ key ∷ []) p
     ∙ sym (ap keys_of (take_more indexes i index lt ∙ ap (λ x. take i indexes ++ x ∷ []) (sym is)) ∙ map-append (λ (x : Indexed). x.places) (take i indexes) (index ∷ []))

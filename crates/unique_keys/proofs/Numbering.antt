@@ -28,7 +28,8 @@ IsOfOne test (row ∷ rows) = (test row ≡ true → list_any test rows ≡ fals
 
 -- ---- rows that come
 
-pub where_append : {A : Type 0} (test : A → Bool) (ns ms : List ℕ) (rows new : List A) → length ns ≡ length rows → number_where test (ns ++ ms) (rows ++ new) ≡ or_else (number_where test ns rows) (number_where test ms new)
+pub where_append : {A : Type 0} (test : A → Bool) (ns ms : List ℕ) (rows new : List A) → length ns ≡ length rows
+    → number_where test (ns ++ ms) (rows ++ new) ≡ or_else (number_where test ns rows) (number_where test ms new)
 where_append test [] ms [] new e = refl
 where_append test [] ms (row ∷ rows) new e = absurd (omega (arith, e))
 where_append test (n ∷ ns) ms [] new e = absurd (omega (arith, e))
@@ -99,7 +100,8 @@ less_among from to n (m ∷ ns) (true ∷ hits) lt h = ap (λ b. b || is_among (
 less_among from to n (m ∷ ns) (false ∷ hits) lt h = less_among (m + 1) to n ns hits (omega (arith, lt, h.0)) h.2
 
 -- nor does it matter where the number of a later row is sought
-left_later : {A : Type 0} (test : A → Bool) (from to n : ℕ) (gone ns : List ℕ) (rows : List A) → n < from → AreRising from to ns → is_left (n ∷ gone) (number_where test ns rows) ≡ is_left gone (number_where test ns rows)
+left_later : {A : Type 0} (test : A → Bool) (from to n : ℕ) (gone ns : List ℕ) (rows : List A) → n < from
+    → AreRising from to ns → is_left (n ∷ gone) (number_where test ns rows) ≡ is_left gone (number_where test ns rows)
 left_later test from to n gone ns [] lt h = refl
 left_later test from to n gone [] (row ∷ rows) lt h = refl
 left_later test from to n gone (m ∷ ns) (row ∷ rows) lt h = by_test (test row) (left_later test (m + 1) to n gone ns rows (omega (arith, lt, h.0)) h.2)
@@ -157,7 +159,8 @@ one_of_keys : (key : List Atom) (places : List ℕ) (rows : List (List Atom)) �
 one_of_keys key places [] one = tt
 one_of_keys key places (row ∷ rows) one = (λ t. any-map (are_alike key) (key_of places) rows ∙ one.0 t, one_of_keys key places rows one.1)
 
-pub put_where : (key : List Atom) (found : Option ℕ) (ns : List ℕ) (keys : List (List Atom)) → length ns ≡ length keys → IsOfOne (are_alike key) keys → put_in key found ns keys ≡ or_else (number_where (are_alike key) ns keys) found
+pub put_where : (key : List Atom) (found : Option ℕ) (ns : List ℕ) (keys : List (List Atom)) → length ns ≡ length keys
+    → IsOfOne (are_alike key) keys → put_in key found ns keys ≡ or_else (number_where (are_alike key) ns keys) found
 put_where key found [] [] e one = refl
 put_where key found (n ∷ ns) [] e one = absurd (omega (arith, e))
 put_where key found [] (k ∷ keys) e one = absurd (omega (arith, e))
@@ -173,8 +176,11 @@ put_where key found (n ∷ ns) (k ∷ keys) e one = by_test (are_alike key k) re
 pub one_of_distinct : (places : List ℕ) (key : List Atom) (rows : List (List Atom)) → has_twins places rows ≡ false → IsOfOne (has_key places key) rows
 one_of_distinct places key [] d = tt
 one_of_distinct places key (row ∷ rows) d =
-    let both = or_parts (list_any (alike_on places row) rows) (has_twins places rows) d in
-    (λ t. any_same (has_key places key) (alike_on places row) rows (λ other. ap (λ k. are_alike k (key_of places other)) (alike_same key (key_of places row) t) ∙ sym (alike_on-keys places row other)) ∙ both.0, one_of_distinct places key rows both.1)
+    let both = or_parts (list_any (alike_on places row) rows) (has_twins places rows) d in (
+      λ t. any_same (has_key places key) (alike_on places row) rows
+          (λ other. ap (λ k. are_alike k (key_of places other)) (alike_same key (key_of places row) t) ∙ sym (alike_on-keys places row other)) ∙ both.0,
+      one_of_distinct places key rows both.1,
+    )
 
 -- parts of rows of which a test is true of one at most
 one_front : {A : Type 0} (test : A → Bool) (xs ys : List A) → IsOfOne test (xs ++ ys) → IsOfOne test ys
@@ -190,7 +196,8 @@ one_side test (x ∷ xs) ys one t = by_test (test x) refl (λ u. one_side test x
     by_test false e rest = rest (sym (ap (λ b. b || list_any test xs) e) ∙ t)
 
 -- the number of one of them, whichever part is asked first
-either_first : {A : Type 0} (test : A → Bool) (ns ms : List ℕ) (xs ys : List A) → IsOfOne test (xs ++ ys) → or_else (number_where test ms ys) (number_where test ns xs) ≡ or_else (number_where test ns xs) (number_where test ms ys)
+either_first : {A : Type 0} (test : A → Bool) (ns ms : List ℕ) (xs ys : List A) → IsOfOne test (xs ++ ys)
+    → or_else (number_where test ms ys) (number_where test ns xs) ≡ or_else (number_where test ns xs) (number_where test ms ys)
 either_first test ns ms xs ys one = by_test (list_any test xs) refl
   where
     nothing : (o : Option ℕ) → or_else o None ≡ o

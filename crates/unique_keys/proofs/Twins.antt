@@ -24,7 +24,8 @@ pub key_turned : (key : List ℕ) (row other : List Atom) → alike_on key row o
 key_turned key row other = alike_on-keys key row other ∙ alike_back (key_of key row) (key_of key other) ∙ sym (alike_on-keys key other row)
 
 any_keys : (key : List ℕ) (row : List Atom) (rows : List (List Atom)) → list_any (are_alike (key_of key row)) (map (key_of key) rows) ≡ list_any (alike_on key row) rows
-any_keys key row rows = any-map (are_alike (key_of key row)) (key_of key) rows ∙ any_same (λ other. are_alike (key_of key row) (key_of key other)) (alike_on key row) rows (λ other. sym (alike_on-keys key row other))
+any_keys key row rows = any-map (are_alike (key_of key row)) (key_of key) rows ∙ any_same
+    (λ other. are_alike (key_of key row) (key_of key other)) (alike_on key row) rows (λ other. sym (alike_on-keys key row other))
 
 or_none : (a : Bool) → (a || false) ≡ a
 or_none true = refl
@@ -62,7 +63,8 @@ twins_same key (row ∷ rows) [] e = absurd cc
 twins_same key (row ∷ rows) (o ∷ others) e =
     let first : key_of key row ≡ key_of key o = ap (λ ks. get_or ks 0 []) e in
     let rest : map (key_of key) rows ≡ map (key_of key) others = ap (drop 1) e in
-    ap (λ b. b || has_twins key rows) (sym (any_keys key row rows) ∙ ap (λ k. list_any (are_alike k) (map (key_of key) rows)) first ∙ ap (list_any (are_alike (key_of key o))) rest ∙ any_keys key o others)
+    ap (λ b. b || has_twins key rows)
+    (sym (any_keys key row rows) ∙ ap (λ k. list_any (are_alike k) (map (key_of key) rows)) first ∙ ap (list_any (are_alike (key_of key o))) rest ∙ any_keys key o others)
     ∙ ap (λ b. list_any (alike_on key o) others || b) (twins_same key rows others rest)
 
 -- ---- new keys that are looked up
@@ -71,7 +73,8 @@ twins_same key (row ∷ rows) (o ∷ others) e =
 abbrev AreSeen : List ℕ → List ℕ → Keyed → (seen : List (List Atom)) → List (List Atom) → Type 0
 AreSeen key gone index seen rows = (k : List Atom) → (is_known gone index k || list_any (are_alike k) seen) ≡ list_any (are_alike k) (map (key_of key) rows)
 
-seen_more : (key gone : List ℕ) (index : Keyed) (seen rows : List (List Atom)) (row : List Atom) → AreSeen key gone index seen rows → AreSeen key gone index (seen ++ key_of key row ∷ []) (rows ++ row ∷ [])
+seen_more : (key gone : List ℕ) (index : Keyed) (seen rows : List (List Atom)) (row : List Atom)
+    → AreSeen key gone index seen rows → AreSeen key gone index (seen ++ key_of key row ∷ []) (rows ++ row ∷ [])
 seen_more key gone index seen rows row s = λ k.
     ap (λ b. is_known gone index k || b) (list_any-append (are_alike k) seen (key_of key row ∷ []))
     ∙ or_assoc (is_known gone index k) (list_any (are_alike k) seen) (list_any (are_alike k) (key_of key row ∷ []))
@@ -87,14 +90,16 @@ seen_more key gone index seen rows row s = λ k.
     map_push [] = refl
     map_push (r ∷ rows) = ap (λ l. key_of key r ∷ l) (map_push rows)
 
-found_twins : (key : List ℕ) (n : ℕ) (gone : List ℕ) (index : Keyed) (seen old new : List (List Atom)) → AreSeen key gone index seen old → has_twins key old ≡ false → is_some (first_known n gone index seen (map (key_of key) new)) ≡ has_twins key (old ++ new)
+found_twins : (key : List ℕ) (n : ℕ) (gone : List ℕ) (index : Keyed) (seen old new : List (List Atom))
+    → AreSeen key gone index seen old → has_twins key old ≡ false → is_some (first_known n gone index seen (map (key_of key) new)) ≡ has_twins key (old ++ new)
 found_twins key n gone index seen old [] s d = sym (ap (has_twins key) (append-nil old) ∙ d)
 found_twins key n gone index seen old (row ∷ new) s d =
     by_test (is_known gone index (key_of key row) || list_any (are_alike (key_of key row)) seen) (s (key_of key row) ∙ any_keys key row old ∙ sym (twins_push key old row d))
     (λ t. found_twins key (n + 1) gone index (seen ++ key_of key row ∷ []) (old ++ row ∷ []) new (seen_more key gone index seen old row s) t)
     ∙ ap (has_twins key) (append_assoc old (row ∷ []) new)
   where
-    by_test : (b : Bool) → b ≡ has_twins key (old ++ row ∷ []) → (has_twins key (old ++ row ∷ []) ≡ false → is_some (first_known (n + 1) gone index (seen ++ key_of key row ∷ []) (map (key_of key) new)) ≡ has_twins key ((old ++ row ∷ []) ++ new))
+    by_test : (b : Bool) → b ≡ has_twins key (old ++ row ∷ [])
+        → (has_twins key (old ++ row ∷ []) ≡ false → is_some (first_known (n + 1) gone index (seen ++ key_of key row ∷ []) (map (key_of key) new)) ≡ has_twins key ((old ++ row ∷ []) ++ new))
         → is_some (cond b (Some n) (first_known (n + 1) gone index (seen ++ key_of key row ∷ []) (map (key_of key) new))) ≡ has_twins key ((old ++ row ∷ []) ++ new)
     by_test true t rest = sym (twins_before key (old ++ row ∷ []) new (sym t))
     by_test false t rest = rest (sym t)
@@ -109,7 +114,8 @@ unhit_differ key (row ∷ rows) (false ∷ hits) d =
     ap (λ b. b || has_twins key (unhit rows hits)) (unhit_none (alike_on key row) rows hits both.0) ∙ unhit_differ key rows hits both.1
 
 -- the keys that an index has beside the numbers that go are those of the rows that stay
-known_left : (known gone : List ℕ) (there : List (List Atom)) (hits : List Bool) (to : ℕ) (index : Indexed) → length known ≡ length there → AreRising 0 to known → IndexesRows known there index → has_twins index.places there ≡ false → gone ≡ hit known hits
+known_left : (known gone : List ℕ) (there : List (List Atom)) (hits : List Bool) (to : ℕ) (index : Indexed)
+    → length known ≡ length there → AreRising 0 to known → IndexesRows known there index → has_twins index.places there ≡ false → gone ≡ hit known hits
     → (k : List Atom) → is_known gone index.keyed k ≡ list_any (are_alike k) (map (key_of index.places) (unhit there hits))
 known_left known gone there hits to index e h i d g k =
     ap (λ ns. is_left ns (number_at index.keyed k)) g ∙ ap (is_left (hit known hits)) (i k)
@@ -117,10 +123,12 @@ known_left known gone there hits to index e h i d g k =
     ∙ sym (any-map (are_alike k) (key_of index.places) (unhit there hits))
 
 -- one is found exactly where two rows are then alike, as long as no two of the old ones are
-pub twins_found : (known gone : List ℕ) (there new : List (List Atom)) (hits : List Bool) (to : ℕ) (index : Indexed) → length known ≡ length there → AreRising 0 to known → IndexesRows known there index → has_twins index.places there ≡ false → gone ≡ hit known hits
+pub twins_found : (known gone : List ℕ) (there new : List (List Atom)) (hits : List Bool) (to : ℕ) (index : Indexed)
+    → length known ≡ length there → AreRising 0 to known → IndexesRows known there index → has_twins index.places there ≡ false → gone ≡ hit known hits
     → is_some (first_alike gone index.keyed (map (key_of index.places) new)) ≡ has_twins index.places (unhit there hits ++ new)
 twins_found known gone there new hits to index e h i d g =
-    found_twins index.places 0 gone index.keyed [] (unhit there hits) new (λ k. or_none (is_known gone index.keyed k) ∙ known_left known gone there hits to index e h i d g k) (unhit_differ index.places there hits d)
+    found_twins index.places 0 gone index.keyed [] (unhit there hits) new
+    (λ k. or_none (is_known gone index.keyed k) ∙ known_left known gone there hits to index e h i d g k) (unhit_differ index.places there hits d)
 
 -- ---- keys from a place on
 

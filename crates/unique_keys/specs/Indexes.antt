@@ -46,7 +46,8 @@ standing (Ok x) old hits new = unhit old hits ++ new
 standing (Err refusal) old hits new = old
 
 -- Rows that go, and new ones that come behind the others: where no two are then alike, and there is memory, the indexes follow.
-pub record AreExchanged (numbers : List ℕ) (old : List (List Atom)) (hits : List Bool) (their : List ℕ) (new : List (List Atom)) (result : Result (Unit {0}) (Refusal SqlFault)) (before after : List Indexed) : Type 0 where
+pub record AreExchanged (numbers : List ℕ) (old : List (List Atom)) (hits : List Bool) (their : List ℕ)
+    (new : List (List Atom)) (result : Result (Unit {0}) (Refusal SqlFault)) (before after : List Indexed) : Type 0 where
   pub keys : keys_of after ≡ keys_of before
   pub answer : Answers result (unless_twins (first_twins 1 (keys_of before) (unhit old hits ++ new)) tt)
   pub indexed : All (IndexesRows (standing result numbers hits their) (standing result old hits new)) after

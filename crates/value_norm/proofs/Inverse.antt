@@ -1,5 +1,35 @@
 -- The value that is computed of cell bytes is the one that has them.
-use Rattle.std.proofs.Common.{◌≡◌, ℕ, ◌<◌, ◌∙◌, ◌&&◌, true, cond, List, [], ◌∷◌, Option, Some, None, map, le-leb, leb-true, length, refl, sym, ap, ap₂, subst, arith, FitsSigned, w32, w64, pos, negsuc, ℤ}
+use Rattle.std.proofs.Common.{
+  ◌≡◌,
+  ℕ,
+  ◌<◌,
+  ◌∙◌,
+  ◌&&◌,
+  true,
+  cond,
+  List,
+  [],
+  ◌∷◌,
+  Option,
+  Some,
+  None,
+  map,
+  le-leb,
+  leb-true,
+  length,
+  refl,
+  sym,
+  ap,
+  ap₂,
+  subst,
+  arith,
+  FitsSigned,
+  w32,
+  w64,
+  pos,
+  negsuc,
+  ℤ,
+}
 use Rattle.std.specs.Bool.{Decides}
 use Rattle.std.specs.List.{All, list_all, flat_map}
 use Rattle.std.specs.Prelude.{nat_lt, unwrap_or, int_le}

@@ -75,7 +75,8 @@ module _ (c : Class) (x : List ℕ) where
   last_number [] = none_before (class_eq c c) (bytes_eq x x) same_class same_cell
   last_number (s ∷ seen) = ap (counted (class_eq s.class c) (bytes_eq s.cell x)) (last_number seen)
 
-  noted_so : (b : Bool) (seen : Cells) → is_seen classing seen c x ≡ b → (is_seen classing (if b then seen else (seen ++ spot c x ∷ [])) c x ≡ true) × (number_in classing (if b then seen else (seen ++ spot c x ∷ [])) c x ≡ number_in classing seen c x)
+  noted_so : (b : Bool) (seen : Cells) → is_seen classing seen c x ≡ b
+      → (is_seen classing (if b then seen else (seen ++ spot c x ∷ [])) c x ≡ true) × (number_in classing (if b then seen else (seen ++ spot c x ∷ [])) c x ≡ number_in classing seen c x)
   noted_so true seen e = (e, refl)
   noted_so false seen e = (last_seen seen, last_number seen)
 
@@ -157,7 +158,8 @@ places_again (p ∷ places) t seen more =
     )
 
 -- the cells of a frame were shown, and then it was counted
-pub counted_again : (cs : List Class) (frame : Frame) (mid new : Tables) (before after : Tallied) (past : Cells) → Tells mid (seen_past classing past (frame_spots cs frame)) → Counts (frame_places cs frame) mid new before after
+pub counted_again : (cs : List Class) (frame : Frame) (mid new : Tables) (before after : Tallied) (past : Cells)
+    → Tells mid (seen_past classing past (frame_spots cs frame)) → Counts (frame_places cs frame) mid new before after
     → Tells new (seen_past classing past (frame_spots cs frame)) × (after ≡ tallied_from before (frame_places cs frame) past)
 counted_again cs frame mid new before after past told counts =
     let places = frame_places cs frame in

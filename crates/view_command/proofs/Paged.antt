@@ -64,7 +64,8 @@ module _ (page : Bool) (first mid now : Option (List ℕ)) (head : Adds (mark pa
 
   module _ (tally : Tallied) where
     -- the head and the frames, and the foot in part or whole
-    foot_front : (bytes : List ℕ) (last : Option (List ℕ)) (end : End) → ListsAll page end bytes tally mid now → AddsFront (foot_text page tally (end_text end)) now last → ShowsFront page bytes first last
+    foot_front : (bytes : List ℕ) (last : Option (List ℕ)) (end : End) → ListsAll page end bytes tally mid now
+        → AddsFront (foot_text page tally (end_text end)) now last → ShowsFront page bytes first last
     foot_front bytes last end (frames, reads, is, put) foot =
         inr (
           frames,
@@ -76,11 +77,13 @@ module _ (page : Bool) (first mid now : Option (List ℕ)) (head : Adds (mark pa
         )
 
     -- at the end of the input
-    foot_front_end : (bytes rest : List ℕ) (last : Option (List ℕ)) (end : End) → rest ≡ [] → ListsAll page end bytes tally mid now → AddsFront (foot_text page tally (end_text end)) now last → ShowsFront page (bytes ++ rest) first last
+    foot_front_end : (bytes rest : List ℕ) (last : Option (List ℕ)) (end : End) → rest ≡ []
+        → ListsAll page end bytes tally mid now → AddsFront (foot_text page tally (end_text end)) now last → ShowsFront page (bytes ++ rest) first last
     foot_front_end bytes rest last end none h foot =
         subst (λ (l : List ℕ). ShowsFront page l first last) (sym (ap (λ (l : List ℕ). bytes ++ l) none ∙ append-nil bytes)) (foot_front bytes last end h foot)
 
-    foot_whole : (bytes : List ℕ) (last : Option (List ℕ)) (end : End) → ListsAll page end bytes tally mid now → Adds (foot_text page tally (end_text end)) now last → ShowsAll page end bytes first last
+    foot_whole : (bytes : List ℕ) (last : Option (List ℕ)) (end : End) → ListsAll page end bytes tally mid now
+        → Adds (foot_text page tally (end_text end)) now last → ShowsAll page end bytes first last
     foot_whole bytes last end (frames, reads, is, put) foot = (
       frames,
       reads,
@@ -99,7 +102,8 @@ module _ (page : Bool) (first mid now : Option (List ℕ)) (head : Adds (mark pa
     unlisted_views (ended.BadFrame place) taken rest e h = absurd cc
     unlisted_views (ended.CutOff place) taken rest e h = absurd cc
 
-    listed_views : (v : Viewed) (taken rest : List ℕ) (last : Option (List ℕ)) → is_listed v ≡ true → Lists page v taken rest tally mid now → Adds (foot_text page tally (ended_text v)) now last → Views page v taken rest first last
+    listed_views : (v : Viewed) (taken rest : List ℕ) (last : Option (List ℕ)) → is_listed v ≡ true
+        → Lists page v taken rest tally mid now → Adds (foot_text page tally (ended_text v)) now last → Views page v taken rest first last
     listed_views ended.Done taken rest last e h foot = (h.0, foot_whole taken last Whole h.1 foot)
     listed_views ended.ReadFault taken rest last e h foot = absurd cc
     listed_views ended.WriteFault taken rest last e h foot = absurd cc
@@ -108,7 +112,8 @@ module _ (page : Bool) (first mid now : Option (List ℕ)) (head : Adds (mark pa
     listed_views (ended.BadFrame place) taken rest last e h foot = foot_whole (taken ++ rest) last (Refused place) h foot
     listed_views (ended.CutOff place) taken rest last e h foot = (h.0, foot_whole taken last (Rest place) h.1 foot)
 
-    part_views : (v : Viewed) (taken rest : List ℕ) (last : Option (List ℕ)) → is_listed v ≡ true → Lists page v taken rest tally mid now → AddsFront (foot_text page tally (ended_text v)) now last → ShowsFront page (taken ++ rest) first last
+    part_views : (v : Viewed) (taken rest : List ℕ) (last : Option (List ℕ)) → is_listed v ≡ true
+        → Lists page v taken rest tally mid now → AddsFront (foot_text page tally (ended_text v)) now last → ShowsFront page (taken ++ rest) first last
     part_views ended.Done taken rest last e h foot = foot_front_end taken rest last Whole h.0 h.1 foot
     part_views ended.ReadFault taken rest last e h foot = absurd cc
     part_views ended.WriteFault taken rest last e h foot = absurd cc
@@ -133,7 +138,8 @@ module _ (page : Bool) (first mid now : Option (List ℕ)) (head : Adds (mark pa
       pub listed : (last : Option (List ℕ)) → is_listed v ≡ true → Adds (foot_text page tally (ended_text v)) now last → ViewsInput page v left after first last
       listed last e foot = record { taken = h.taken; rest = h.rest; lost = h.lost; told = h.told; few = h.few; views = listed_views v h.taken h.rest last e h.lists foot }
 
-      pub listed_in_part : (last : Option (List ℕ)) → is_listed v ≡ true → AddsFront (foot_text page tally (ended_text v)) now last → (viewed : Viewed) → StopsFront viewed → ViewsInput page viewed left after first last
+      pub listed_in_part : (last : Option (List ℕ)) → is_listed v ≡ true → AddsFront (foot_text page tally (ended_text v)) now last
+          → (viewed : Viewed) → StopsFront viewed → ViewsInput page viewed left after first last
       listed_in_part last e foot viewed stops = record {
         taken = h.taken;
         rest = h.rest;

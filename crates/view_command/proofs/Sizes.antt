@@ -16,7 +16,24 @@ use Rattle.wire_payloads.specs.declared.payloads.Payload.TheVariants.{One, Rows}
 use Rattle.wire_spelling.specs.Packing.{payload_body, payload_frame, payload_kind}
 use Rattle.wire_spelling.specs.Spelling.{asked_frame, atom, u16, u32, u64, text, str, type, encryption, sent, frame, request_kind, request_body, reply_body}
 use Rattle.tap_listing.specs.Classes.{classing}
-use Rattle.tap_listing.specs.Frames.{blank_cell, blank_atom, cell_spots, atom_spots, blank_param, params_spots, blank_request, request_spots, blank_row, row_spots, rows_spots, blank_payload, payload_spots, blank_frame, frame_spots, part_of}
+use Rattle.tap_listing.specs.Frames.{
+  blank_cell,
+  blank_atom,
+  cell_spots,
+  atom_spots,
+  blank_param,
+  params_spots,
+  blank_request,
+  request_spots,
+  blank_row,
+  row_spots,
+  rows_spots,
+  blank_payload,
+  payload_spots,
+  blank_frame,
+  frame_spots,
+  part_of,
+}
 use Rattle.tap_listing.specs.declared.frames.Frame.{Frame}
 use Rattle.tap_listing.specs.declared.frames.Frame.TheVariants.{Asked, Told}
 
@@ -77,13 +94,16 @@ row_size : (classes : List Class) (row : List Atom) → Longer (flat_map atom ro
 row_size classes [] = refl
 row_size [] (a ∷ row) = behind (atom a) (flat_map atom row) (flat_map atom (blank_row [] row)) (spot_bytes (row_spots [] row)) (row_size [] row)
 row_size (c ∷ classes) (a ∷ row) =
-    joined (atom a) (atom (blank_atom c a)) (flat_map atom row) (flat_map atom (blank_row classes row)) (spot_bytes (atom_spots c a)) (spot_bytes (row_spots classes row)) (spot_bytes (atom_spots c a ++ row_spots classes row))
+    joined (atom a) (atom (blank_atom c a)) (flat_map atom row) (flat_map atom (blank_row classes row))
+    (spot_bytes (atom_spots c a)) (spot_bytes (row_spots classes row)) (spot_bytes (atom_spots c a ++ row_spots classes row))
     (atom_size c a) (row_size classes row) (spots_append (atom_spots c a) (row_spots classes row))
 
 rows_size : (classes : List Class) (rows : List (List Atom)) → Longer (flat_map (flat_map atom) rows) (flat_map (flat_map atom) (map (blank_row classes) rows)) (spot_bytes (rows_spots classes rows))
 rows_size classes [] = refl
 rows_size classes (row ∷ rows) =
-    joined (flat_map atom row) (flat_map atom (blank_row classes row)) (flat_map (flat_map atom) rows) (flat_map (flat_map atom) (map (blank_row classes) rows)) (spot_bytes (row_spots classes row)) (spot_bytes (rows_spots classes rows)) (spot_bytes (row_spots classes row ++ rows_spots classes rows))
+    joined (flat_map atom row) (flat_map atom (blank_row classes row)) (flat_map (flat_map atom) rows)
+    (flat_map (flat_map atom) (map (blank_row classes) rows)) (spot_bytes (row_spots classes row))
+    (spot_bytes (rows_spots classes rows)) (spot_bytes (row_spots classes row ++ rows_spots classes rows))
     (row_size classes row) (rows_size classes rows) (spots_append (row_spots classes row) (rows_spots classes rows))
 
 param_size : (p : SentParam) → Longer (sent p) (sent (blank_param p)) (spot_bytes (atom_spots (class_of p.ty p.enc) p.atom))
@@ -114,7 +134,8 @@ payload_size : (classes : List Class) (p : Payload) → Longer (payload_body p) 
 payload_size classes (One (Described d)) = itself (reply_body (Described d))
 payload_size classes (One (Columns d)) = itself (reply_body (Columns d))
 payload_size classes (One (Row row)) =
-    behind_as_long (u16 (length row)) (u16 (length (blank_row classes row))) (flat_map atom row) (flat_map atom (blank_row classes row)) (spot_bytes (row_spots classes row)) (two (length row) (length (blank_row classes row))) (row_size classes row)
+    behind_as_long (u16 (length row)) (u16 (length (blank_row classes row))) (flat_map atom row)
+    (flat_map atom (blank_row classes row)) (spot_bytes (row_spots classes row)) (two (length row) (length (blank_row classes row))) (row_size classes row)
 payload_size classes (One (Ended d)) = itself (reply_body (Ended d))
 payload_size classes (One (Refused d)) = itself (reply_body (Refused d))
 payload_size classes (Rows rows) =
@@ -132,8 +153,10 @@ framed version kind other xs ys n h =
     let inner = behind_as_long (u32 (length xs)) (u32 (length ys)) xs ys n (four (length xs) (length ys)) h in omega (arith, inner)
 
 frame_size : (classes : List Class) (f : Frame) → Longer (frame_bytes f) (frame_bytes (blank_frame classes f)) (spot_bytes (frame_spots classes f))
-frame_size classes (Asked a) = framed a.version (request_kind a.message) (request_kind (blank_request a.message)) (request_body a.message) (request_body (blank_request a.message)) (spot_bytes (request_spots a.message)) (request_size a.message)
-frame_size classes (Told t) = framed t.version (payload_kind t.message) (payload_kind (blank_payload classes t.message)) (payload_body t.message) (payload_body (blank_payload classes t.message)) (spot_bytes (payload_spots classes t.message)) (payload_size classes t.message)
+frame_size classes (Asked a) = framed a.version (request_kind a.message) (request_kind (blank_request a.message))
+    (request_body a.message) (request_body (blank_request a.message)) (spot_bytes (request_spots a.message)) (request_size a.message)
+frame_size classes (Told t) = framed t.version (payload_kind t.message) (payload_kind (blank_payload classes t.message))
+    (payload_body t.message) (payload_body (blank_payload classes t.message)) (spot_bytes (payload_spots classes t.message)) (payload_size classes t.message)
 
 labels_size : (seen ss : List (Spot Class)) → cell_bytes (labels classing seen ss) ≡ spot_bytes ss
 labels_size seen [] = refl

@@ -33,7 +33,8 @@ reads_more at bytes (m ∷ ms) to rest more h =
     (h.0, h.1 ++ more, ap (λ (l : List ℕ). l ++ more) h.2 ∙ append_assoc h.0 h.1 more, h.3, h.4, reads_more (at + length h.0) h.1 ms to rest more h.5)
 
 -- one frame more
-reads_one : (at : ℕ) (bytes : List ℕ) (ms : List (Placed Frame)) (to : ℕ) (rest frame after : List ℕ) (m : Placed Frame) → ReadsTo at bytes ms to rest → rest ≡ frame ++ after → m.at ≡ to → SpellsFrame m.message frame
+reads_one : (at : ℕ) (bytes : List ℕ) (ms : List (Placed Frame)) (to : ℕ) (rest frame after : List ℕ) (m : Placed Frame)
+    → ReadsTo at bytes ms to rest → rest ≡ frame ++ after → m.at ≡ to → SpellsFrame m.message frame
     → ReadsTo at bytes (ms ++ m ∷ []) (to + length frame) after
 reads_one at bytes [] to rest frame after m h split place s = (frame, after, sym h.1 ∙ split, place ∙ h.0, s, (ap (λ (n : ℕ). n + length frame) h.0, refl))
 reads_one at bytes (k ∷ ks) to rest frame after m h split place s =
@@ -44,17 +45,20 @@ reads_length at bytes [] to rest h = omega (arith, h.0, ap length h.1)
 reads_length at bytes (m ∷ ms) to rest h = omega (arith, ap length h.2, length-append h.0 h.1, reads_length (at + length h.0) h.1 ms to rest h.5)
 
 -- and an end there
-reads_end : (ms : List (Placed Frame)) (at : ℕ) (bytes : List ℕ) (to : ℕ) (rest : List ℕ) (end : End) → ReadsTo at bytes ms to rest → EndsSo is_tap_head SpellsFrame to rest end → ReadsAs is_tap_head SpellsFrame at bytes ms end
+reads_end : (ms : List (Placed Frame)) (at : ℕ) (bytes : List ℕ) (to : ℕ) (rest : List ℕ) (end : End)
+    → ReadsTo at bytes ms to rest → EndsSo is_tap_head SpellsFrame to rest end → ReadsAs is_tap_head SpellsFrame at bytes ms end
 reads_end [] at bytes to rest end h e = subst (λ (n : ℕ). EndsSo is_tap_head SpellsFrame n bytes end) h.0 (subst (λ (l : List ℕ). EndsSo is_tap_head SpellsFrame to l end) h.1 e)
 reads_end (m ∷ ms) at bytes to rest end (frame, more, is, place, spells, behind) e = (frame, more, is, place, spells, reads_end ms (at + length frame) more to rest end behind e)
 
 -- what is refused is refused whatever follows
-reads_refused : (ms : List (Placed Frame)) (at : ℕ) (bytes more : List ℕ) (place : ℕ) → ReadsAs is_tap_head SpellsFrame at bytes ms (Refused place) → ReadsAs is_tap_head SpellsFrame at (bytes ++ more) ms (Refused place)
+reads_refused : (ms : List (Placed Frame)) (at : ℕ) (bytes more : List ℕ) (place : ℕ)
+    → ReadsAs is_tap_head SpellsFrame at bytes ms (Refused place) → ReadsAs is_tap_head SpellsFrame at (bytes ++ more) ms (Refused place)
 reads_refused [] at bytes more place h = (h.0, refused_more is_tap_head SpellsFrame bytes more h.1)
 reads_refused (m ∷ ms) at bytes more place h =
     (h.0, h.1 ++ more, ap (λ (l : List ℕ). l ++ more) h.2 ∙ append_assoc h.0 h.1 more, h.3, h.4, reads_refused ms (at + length h.0) h.1 more place h.5)
 
-pub lists_more : (page : Bool) (place : ℕ) (bytes more : List ℕ) (tally : Tallied) (old new : Option (List ℕ)) → ListsAll page (Refused place) bytes tally old new → ListsAll page (Refused place) (bytes ++ more) tally old new
+pub lists_more : (page : Bool) (place : ℕ) (bytes more : List ℕ) (tally : Tallied) (old new : Option (List ℕ))
+    → ListsAll page (Refused place) bytes tally old new → ListsAll page (Refused place) (bytes ++ more) tally old new
 lists_more page place bytes more tally old new h = (h.0, reads_refused h.0 0 bytes more place h.1, h.2, h.3)
 
 pub shows_more : (page : Bool) (head bytes more : List ℕ) (old new : Option (List ℕ)) → ShowsFrames page head bytes old new → ShowsFrames page head (bytes ++ more) old new
@@ -71,7 +75,8 @@ is_next held m used within spells =
 
 -- ---- one frame behind others
 
-text_more : (page : Bool) (cs : List Class) (ms : List (Placed Frame)) (m : Placed Frame) (seen : List (Spot Class)) → frames_behind page cs (ms ++ m ∷ []) seen ≡ frames_behind page cs ms seen ++ frame_text page m.at (classes_behind cs ms) m.message (seen_behind cs ms seen)
+text_more : (page : Bool) (cs : List Class) (ms : List (Placed Frame)) (m : Placed Frame) (seen : List (Spot Class))
+    → frames_behind page cs (ms ++ m ∷ []) seen ≡ frames_behind page cs ms seen ++ frame_text page m.at (classes_behind cs ms) m.message (seen_behind cs ms seen)
 text_more page cs [] m seen = append-nil (frame_text page m.at cs m.message seen)
 text_more page cs (k ∷ ms) m seen =
     let later = classes_after cs k.message in
@@ -80,7 +85,8 @@ text_more page cs (k ∷ ms) m seen =
     ap (λ (l : List ℕ). one ++ l) (text_more page later ms m past)
     ∙ sym (append_assoc one (frames_behind page later ms past) (frame_text page m.at (classes_behind later ms) m.message (seen_behind later ms past)))
 
-tally_more : (t : Tallied) (cs : List Class) (ms : List (Placed Frame)) (m : Placed Frame) (seen : List (Spot Class)) → tallied_behind t cs (ms ++ m ∷ []) seen ≡ tallied_from (tallied_behind t cs ms seen) (frame_places (classes_behind cs ms) m.message) (seen_behind cs ms seen)
+tally_more : (t : Tallied) (cs : List Class) (ms : List (Placed Frame)) (m : Placed Frame) (seen : List (Spot Class))
+    → tallied_behind t cs (ms ++ m ∷ []) seen ≡ tallied_from (tallied_behind t cs ms seen) (frame_places (classes_behind cs ms) m.message) (seen_behind cs ms seen)
 tally_more t cs [] m seen = refl
 tally_more t cs (k ∷ ms) m seen = tally_more (tallied_from t (frame_places cs k.message) seen) (classes_after cs k.message) ms m (seen_past classing seen (frame_spots cs k.message))
 
@@ -88,13 +94,15 @@ classes_more : (cs : List Class) (ms : List (Placed Frame)) (m : Placed Frame) �
 classes_more cs [] m = refl
 classes_more cs (k ∷ ms) m = classes_more (classes_after cs k.message) ms m
 
-seen_more : (cs : List Class) (ms : List (Placed Frame)) (m : Placed Frame) (seen : List (Spot Class)) → seen_behind cs (ms ++ m ∷ []) seen ≡ seen_past classing (seen_behind cs ms seen) (frame_spots (classes_behind cs ms) m.message)
+seen_more : (cs : List Class) (ms : List (Placed Frame)) (m : Placed Frame) (seen : List (Spot Class))
+    → seen_behind cs (ms ++ m ∷ []) seen ≡ seen_past classing (seen_behind cs ms seen) (frame_spots (classes_behind cs ms) m.message)
 seen_more cs [] m seen = refl
 seen_more cs (k ∷ ms) m seen = seen_more (classes_after cs k.message) ms m (seen_past classing seen (frame_spots cs k.message))
 
 -- ---- what was taken
 
-pub stands_first : (page : Bool) (held : Held) (seen : Seen) (out : Option (List ℕ)) → held.at ≡ 0 → held.bytes.items ≡ [] → seen.classes.items ≡ [] → seen.cells ≡ no_tables → seen.tally ≡ no_tally → Stands page [] held seen out out
+pub stands_first : (page : Bool) (held : Held) (seen : Seen) (out : Option (List ℕ)) → held.at ≡ 0
+    → held.bytes.items ≡ [] → seen.classes.items ≡ [] → seen.cells ≡ no_tables → seen.tally ≡ no_tally → Stands page [] held seen out out
 stands_first page held seen out at bytes classes cells tally = record {
   frames = [];
   read = (at, bytes);
@@ -162,7 +170,8 @@ module _ (page : Bool) (taken : List ℕ) (held : Held) (seen : Seen) (first now
         }
 
     -- a front of its text was put
-    pub shows_front : (new : Option (List ℕ)) → ((seen_before : List (Spot Class)) → Tells seen.cells seen_before → AddsFront (frame_text page held.at seen.classes.items m seen_before) now new) → ShowsFrames page [] taken first new
+    pub shows_front : (new : Option (List ℕ))
+        → ((seen_before : List (Spot Class)) → Tells seen.cells seen_before → AddsFront (frame_text page held.at seen.classes.items m seen_before) now new) → ShowsFrames page [] taken first new
     shows_front new put = (
       s.frames ++ next ∷ [],
       held.at + used,

@@ -27,7 +27,8 @@ pub record Going (page : Bool) (count : ℕ) (held : Held) (seen : Seen) (source
   pub stands : Stands page taken held seen out now
   pub waits : IsNotYet is_tap_head held.bytes.items
 
-pub goes_first : (page : Bool) (held : Held) (seen : Seen) (source out : Option (List ℕ)) → held.at ≡ 0 → held.bytes.items ≡ [] → seen.classes.items ≡ [] → seen.cells ≡ no_tables → seen.tally ≡ no_tally
+pub goes_first : (page : Bool) (held : Held) (seen : Seen) (source out : Option (List ℕ)) → held.at ≡ 0
+    → held.bytes.items ≡ [] → seen.classes.items ≡ [] → seen.cells ≡ no_tables → seen.tally ≡ no_tally
     → Going page most_stream_bytes held seen source source out out
 goes_first page held seen source out at bytes classes cells tally = record {
   taken = [];
@@ -105,7 +106,8 @@ module _ (page : Bool) (count : ℕ) (held : Held) (seen : Seen) (source left ou
           waits = h.1;
         }
 
-    pub ends_refused : (place : ℕ) (tally : Tallied) (new : Option (List ℕ)) → After (λ bytes first. ListsAll page (Refused place) bytes tally first new) → ListsInput page (ended.BadFrame place) tally source after out new
+    pub ends_refused : (place : ℕ) (tally : Tallied) (new : Option (List ℕ))
+        → After (λ bytes first. ListsAll page (Refused place) bytes tally first new) → ListsInput page (ended.BadFrame place) tally source after out new
     ends_refused place tally new f = record {
       taken = g.taken ++ piece;
       rest = rest_of after;
@@ -136,7 +138,8 @@ module _ (page : Bool) (count : ℕ) (held : Held) (seen : Seen) (source left ou
     }
 
   -- a byte past the limit
-  pub ends_past : (piece : List ℕ) (after : Option (List ℕ)) → WhereTold (Takes (taken.Bytes piece)) left after → length piece ≡ 1 → count ≡ 0 → ListsInput page ended.TooLong seen.tally source after out now
+  pub ends_past : (piece : List ℕ) (after : Option (List ℕ)) → WhereTold (Takes (taken.Bytes piece)) left after
+      → length piece ≡ 1 → count ≡ 0 → ListsInput page ended.TooLong seen.tally source after out now
   ends_past piece after took one none =
       let all : length g.taken ≡ most_stream_bytes = omega (arith, g.few, none) in
       let front : take most_stream_bytes (g.taken ++ piece) ≡ g.taken =

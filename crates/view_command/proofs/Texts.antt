@@ -16,10 +16,47 @@ use Rattle.wire_payloads.specs.declared.payloads.Payload.{Payload}
 use Rattle.wire_payloads.specs.declared.payloads.Payload.TheVariants.{One, Rows}
 use Rattle.wire_payloads.specs.declared.versioned.Versioned.{Versioned}
 use Rattle.tap_listing.specs.Classes.{classing}
-use Rattle.tap_listing.specs.Frames.{atom_spots, blank_atom, blank_frame, blank_param, blank_payload, blank_reply, blank_request, blank_row, frame_spots, params_spots, payload_spots, reply_spots, request_spots, row_spots, rows_spots}
+use Rattle.tap_listing.specs.Frames.{
+  atom_spots,
+  blank_atom,
+  blank_frame,
+  blank_param,
+  blank_payload,
+  blank_reply,
+  blank_request,
+  blank_row,
+  frame_spots,
+  params_spots,
+  payload_spots,
+  reply_spots,
+  request_spots,
+  row_spots,
+  rows_spots,
+}
 use Rattle.tap_listing.specs.declared.frames.Frame.{Frame}
 use Rattle.tap_listing.specs.declared.frames.Frame.TheVariants.{Asked, Told}
-use Rattle.tap_text.specs.Text.{asked_head, atom_text, chars_text, enc_text, frame_text, mark, numbered_text, param_text, params_text, payload_text, place_text, reply_text, request_text, row_line, row_text, rows_text, sized_text, statement_text, told_head, type_text}
+use Rattle.tap_text.specs.Text.{
+  asked_head,
+  atom_text,
+  chars_text,
+  enc_text,
+  frame_text,
+  mark,
+  numbered_text,
+  param_text,
+  params_text,
+  payload_text,
+  place_text,
+  reply_text,
+  request_text,
+  row_line,
+  row_text,
+  rows_text,
+  sized_text,
+  statement_text,
+  told_head,
+  type_text,
+}
 use Rattle.std.specs.Prelude.{decimal}
 
 -- ---- lists
@@ -49,7 +86,9 @@ Alike other ts seen ss = labels classing other ts ≡ labels classing seen ss
 in_parts : (other sb rb ts seen sa ra ss : Cells) → Alike other ((sb ++ rb) ++ ts) seen ((sa ++ ra) ++ ss) → Alike other (sb ++ (rb ++ ts)) seen (sa ++ (ra ++ ss))
 in_parts other sb rb ts seen sa ra ss h = sym (ap (labels classing other) (append_assoc sb rb ts)) ∙ h ∙ ap (labels classing seen) (append_assoc sa ra ss)
 
-past_parts : (other sb rb ts seen sa ra ss : Cells) → Alike (seen_past classing (seen_past classing other sb) rb) ts (seen_past classing (seen_past classing seen sa) ra) ss → Alike (seen_past classing other (sb ++ rb)) ts (seen_past classing seen (sa ++ ra)) ss
+past_parts : (other sb rb ts seen sa ra ss : Cells)
+    → Alike (seen_past classing (seen_past classing other sb) rb) ts (seen_past classing (seen_past classing seen sa) ra) ss
+    → Alike (seen_past classing other (sb ++ rb)) ts (seen_past classing seen (sa ++ ra)) ss
 past_parts other sb rb ts seen sa ra ss h = ap (λ l. labels classing l ts) (past_append other sb rb) ∙ h ∙ sym (ap (λ l. labels classing l ss) (past_append seen sa ra))
 
 abbrev number_or : Option ℕ → ℕ
@@ -104,7 +143,8 @@ module _ (page : Bool) where
   -- ---- atoms
 
   numbered : (k : ℕ) (t : Ty) (x y : List ℕ) (seen other : Cells) → label_of classing other (spot_at (Det k t) y) ≡ label_of classing seen (spot_at (Det k t) x)
-      → numbered_text page (Det k t) (number_in classing other (Det k t) y) (length y) (slice_index y 0) ≡ numbered_text page (Det k t) (number_in classing seen (Det k t) x) (length x) (slice_index x 0)
+      → numbered_text page (Det k t) (number_in classing other (Det k t) y) (length y) (slice_index y 0) ≡
+      numbered_text page (Det k t) (number_in classing seen (Det k t) x) (length x) (slice_index x 0)
   numbered k t x y seen other e =
       let c = Det k t in
       let n = number_in classing seen c x in
@@ -113,7 +153,8 @@ module _ (page : Bool) where
       let lead : slice_index y 0 ≡ slice_index x 0 = ap (λ (l : Label Class). l.lead) e in
       ap (λ m. numbered_text page c m (length y) (slice_index y 0)) number ∙ ap (λ m. numbered_text page c n m (slice_index y 0)) size ∙ ap (numbered_text page c n (length x)) lead
 
-  sized : (k : ℕ) (t : Ty) (x y : List ℕ) (seen other : Cells) → label_of classing other (spot_at (Rnd k t) y) ≡ label_of classing seen (spot_at (Rnd k t) x) → sized_text page (length y) (slice_index y 0) ≡ sized_text page (length x) (slice_index x 0)
+  sized : (k : ℕ) (t : Ty) (x y : List ℕ) (seen other : Cells) → label_of classing other (spot_at (Rnd k t) y) ≡ label_of classing seen (spot_at (Rnd k t) x)
+      → sized_text page (length y) (slice_index y 0) ≡ sized_text page (length x) (slice_index x 0)
   sized k t x y seen other e =
       let size : length y ≡ length x = ap (λ (l : Label Class). l.size) e in
       let lead : slice_index y 0 ≡ slice_index x 0 = ap (λ (l : Label Class). l.lead) e in
@@ -160,7 +201,8 @@ module _ (page : Bool) where
 
   -- ---- rows
 
-  row_alike : (classes : List Class) (row others : List Atom) (seen other ss ts : Cells) → blank_row classes others ≡ blank_row classes row → Alike other (row_spots classes others ++ ts) seen (row_spots classes row ++ ss)
+  row_alike : (classes : List Class) (row others : List Atom) (seen other ss ts : Cells)
+      → blank_row classes others ≡ blank_row classes row → Alike other (row_spots classes others ++ ts) seen (row_spots classes row ++ ss)
       → (row_text page classes others other ≡ row_text page classes row seen) × Alike (seen_past classing other (row_spots classes others)) ts (seen_past classing seen (row_spots classes row)) ss
   row_alike classes [] [] seen other ss ts e h = (refl, h)
   row_alike [] [] (b ∷ bs) seen other ss ts e h = absurd cc
@@ -180,14 +222,16 @@ module _ (page : Bool) where
       let y = blank_atom c b in
       let front = atom_alike c a b seen other (ra ++ ss) (rb ++ ts) (first y x (blank_row cs bs) (blank_row cs xs) e) (in_parts other sb rb ts seen sa ra ss h) in
       let rest = row_alike cs xs bs (seen_past classing seen sa) (seen_past classing other sb) ss ts (rest_of y x (blank_row cs bs) (blank_row cs xs) e) front.1 in (
-        joined (place_text page c b other) (row_text page cs bs (seen_past classing other sb)) (place_text page c a seen) (row_text page cs xs (seen_past classing seen sa)) (ap (λ l. codes "| " ++ l ++ codes " ") front.0) rest.0,
+        joined (place_text page c b other) (row_text page cs bs (seen_past classing other sb)) (place_text page c a seen)
+            (row_text page cs xs (seen_past classing seen sa)) (ap (λ l. codes "| " ++ l ++ codes " ") front.0) rest.0,
         past_parts other sb rb ts seen sa ra ss rest.1,
       )
 
   abbrev lined : List ℕ → List ℕ
   lined l = codes "    " ++ l ++ (codes "|" ++ 10 ∷ [])
 
-  rows_alike : (classes : List Class) (rows others : List (List Atom)) (seen other : Cells) → map (blank_row classes) others ≡ map (blank_row classes) rows → Alike other (rows_spots classes others) seen (rows_spots classes rows)
+  rows_alike : (classes : List Class) (rows others : List (List Atom)) (seen other : Cells)
+      → map (blank_row classes) others ≡ map (blank_row classes) rows → Alike other (rows_spots classes others) seen (rows_spots classes rows)
       → rows_text page classes others other ≡ rows_text page classes rows seen
   rows_alike classes [] [] seen other e h = refl
   rows_alike classes [] (b ∷ bs) seen other e h = absurd cc
@@ -206,8 +250,10 @@ module _ (page : Bool) where
   abbrev param_of : List ℕ → Ty → Enc → List ℕ → List ℕ
   param_of name ty enc atom = codes "    @" ++ chars_text page name ++ codes " " ++ type_text ty ++ codes " " ++ enc_text enc ++ codes " = " ++ atom ++ 10 ∷ []
 
-  param_alike : (p q : SentParam) (seen other ss ts : Cells) → blank_param q ≡ blank_param p → Alike other (atom_spots (class_of q.ty q.enc) q.atom ++ ts) seen (atom_spots (class_of p.ty p.enc) p.atom ++ ss)
-      → (param_text page q other ≡ param_text page p seen) × Alike (seen_past classing other (atom_spots (class_of q.ty q.enc) q.atom)) ts (seen_past classing seen (atom_spots (class_of p.ty p.enc) p.atom)) ss
+  param_alike : (p q : SentParam) (seen other ss ts : Cells) → blank_param q ≡ blank_param p
+      → Alike other (atom_spots (class_of q.ty q.enc) q.atom ++ ts) seen (atom_spots (class_of p.ty p.enc) p.atom ++ ss)
+      → (param_text page q other ≡ param_text page p seen) × Alike (seen_past classing other (atom_spots (class_of q.ty q.enc) q.atom))
+      ts (seen_past classing seen (atom_spots (class_of p.ty p.enc) p.atom)) ss
   param_alike p q seen other ss ts e h =
       let name : q.name ≡ p.name = ap (λ (r : SentParam). r.name) e in
       let ty : q.ty ≡ p.ty = ap (λ (r : SentParam). r.ty) e in
@@ -227,7 +273,8 @@ module _ (page : Bool) where
         subst (λ d. Alike (seen_past classing other (atom_spots d q.atom)) ts (seen_past classing seen (atom_spots c p.atom)) ss) (sym class) inner.1,
       )
 
-  params_alike : (ps qs : List SentParam) (seen other : Cells) → map blank_param qs ≡ map blank_param ps → Alike other (params_spots qs) seen (params_spots ps) → params_text page qs other ≡ params_text page ps seen
+  params_alike : (ps qs : List SentParam) (seen other : Cells) → map blank_param qs ≡ map blank_param ps
+      → Alike other (params_spots qs) seen (params_spots ps) → params_text page qs other ≡ params_text page ps seen
   params_alike [] [] seen other e h = refl
   params_alike [] (q ∷ qs) seen other e h = absurd cc
   params_alike (p ∷ ps) [] seen other e h = absurd cc
@@ -256,7 +303,8 @@ module _ (page : Bool) where
   told_same : (classes : List Class) (r o : Reply) → o ≡ r → reply_text page classes o [] ≡ reply_text page classes r []
   told_same classes r o e = ap (λ (x : Reply). reply_text page classes x []) e
 
-  reply_alike : (classes : List Class) (r o : Reply) (seen other : Cells) → blank_reply classes o ≡ blank_reply classes r → Alike other (reply_spots classes o) seen (reply_spots classes r) → reply_text page classes o other ≡ reply_text page classes r seen
+  reply_alike : (classes : List Class) (r o : Reply) (seen other : Cells) → blank_reply classes o ≡ blank_reply classes r
+      → Alike other (reply_spots classes o) seen (reply_spots classes r) → reply_text page classes o other ≡ reply_text page classes r seen
   reply_alike classes (Described d) (Described x) seen other e h = told_same classes (Described d) (Described x) e
   reply_alike classes (Described d) (Columns x) seen other e h = absurd cc
   reply_alike classes (Described d) (Row x) seen other e h = absurd cc
@@ -270,7 +318,8 @@ module _ (page : Bool) where
   reply_alike classes (Row d) (Described x) seen other e h = absurd cc
   reply_alike classes (Row d) (Columns x) seen other e h = absurd cc
   reply_alike classes (Row a) (Row b) seen other e h =
-      let parts : Alike other (row_spots classes b ++ []) seen (row_spots classes a ++ []) = ap (labels classing other) (append-nil (row_spots classes b)) ∙ h ∙ sym (ap (labels classing seen) (append-nil (row_spots classes a))) in
+      let parts : Alike other (row_spots classes b ++ []) seen (row_spots classes a ++ []) = ap (labels classing other)
+      (append-nil (row_spots classes b)) ∙ h ∙ sym (ap (labels classing seen) (append-nil (row_spots classes a))) in
       ap (λ l. codes "row" ++ 10 ∷ lined l) (row_alike classes a b seen other [] [] (ap row_in e) parts).0
   reply_alike classes (Row d) (Ended x) seen other e h = absurd cc
   reply_alike classes (Row d) (Refused x) seen other e h = absurd cc
@@ -285,7 +334,8 @@ module _ (page : Bool) where
   reply_alike classes (Refused d) (Ended x) seen other e h = absurd cc
   reply_alike classes (Refused d) (Refused x) seen other e h = told_same classes (Refused d) (Refused x) e
 
-  payload_alike : (classes : List Class) (p q : Payload) (seen other : Cells) → blank_payload classes q ≡ blank_payload classes p → Alike other (payload_spots classes q) seen (payload_spots classes p) → payload_text page classes q other ≡ payload_text page classes p seen
+  payload_alike : (classes : List Class) (p q : Payload) (seen other : Cells) → blank_payload classes q ≡ blank_payload classes p
+      → Alike other (payload_spots classes q) seen (payload_spots classes p) → payload_text page classes q other ≡ payload_text page classes p seen
   payload_alike classes (One r) (One o) seen other e h = reply_alike classes r o seen other (ap (reply_in r) e) h
   payload_alike classes (One r) (Rows os) seen other e h = absurd cc
   payload_alike classes (Rows rs) (One o) seen other e h = absurd cc
@@ -293,7 +343,8 @@ module _ (page : Bool) where
 
   -- ---- frames
 
-  pub frame_alike : (at : ℕ) (classes : List Class) (f g : Frame) (seen other : Cells) → blank_frame classes g ≡ blank_frame classes f → Alike other (frame_spots classes g) seen (frame_spots classes f) → frame_text page at classes g other ≡ frame_text page at classes f seen
+  pub frame_alike : (at : ℕ) (classes : List Class) (f g : Frame) (seen other : Cells)
+      → blank_frame classes g ≡ blank_frame classes f → Alike other (frame_spots classes g) seen (frame_spots classes f) → frame_text page at classes g other ≡ frame_text page at classes f seen
   frame_alike at classes (Asked a) (Asked b) seen other e h =
       let same = ap (asked_in a) e in
       let version = ap (λ (v : Versioned Request). v.version) same in

@@ -45,8 +45,10 @@ spelled (Told t) bytes h = ap length h.1
 -- ---- frame by frame
 
 module _ (page : Bool) where
-  behind_alike : (fs gs : List (Placed Frame)) (at : ℕ) (bytes more : List ℕ) (end other : End) → ReadsAs is_tap_head SpellsFrame at bytes fs end → ReadsAs is_tap_head SpellsFrame at more gs other → (classes : List Class) (seen past : List (Spot Class))
-      → listing_from classing past (parts_of classes (messages_of gs)) ≡ listing_from classing seen (parts_of classes (messages_of fs)) → frames_behind page classes gs past ≡ frames_behind page classes fs seen
+  behind_alike : (fs gs : List (Placed Frame)) (at : ℕ) (bytes more : List ℕ) (end other : End)
+      → ReadsAs is_tap_head SpellsFrame at bytes fs end → ReadsAs is_tap_head SpellsFrame at more gs other → (classes : List Class) (seen past : List (Spot Class))
+      → listing_from classing past (parts_of classes (messages_of gs)) ≡ listing_from classing seen (parts_of classes (messages_of fs))
+      → frames_behind page classes gs past ≡ frames_behind page classes fs seen
   behind_alike [] [] at bytes more end other h k classes seen past e = refl
   behind_alike [] (g ∷ gs) at bytes more end other h k classes seen past e = absurd cc
   behind_alike (f ∷ fs) [] at bytes more end other h k classes seen past e = absurd cc
@@ -65,14 +67,16 @@ module _ (page : Bool) where
       ap (λ cs. listing_from classing after (parts_of cs (messages_of gs))) (sym classes_same) ∙ ap (drop 1) e in
       let size : length start ≡ length front =
       spelled g.message start spelt ∙ sym (frame_size_told past classes g.message) ∙ ap size_of same ∙ frame_size_told seen classes f.message ∙ sym (spelled f.message front spells) in
-      let inner = behind_alike fs gs (at + length front) rest left end other reads (subst (λ n. ReadsAs is_tap_head SpellsFrame (at + n) left gs other) size read) (classes_after classes f.message) later after tail in
+      let inner = behind_alike fs gs (at + length front) rest left end other reads
+      (subst (λ n. ReadsAs is_tap_head SpellsFrame (at + n) left gs other) size read) (classes_after classes f.message) later after tail in
       let behind : frames_behind page (classes_after classes g.message) gs after ≡ frames_behind page (classes_after classes f.message) fs later =
       ap (λ cs. frames_behind page cs gs after) classes_same ∙ inner in
       let head : frame_text page g.at classes g.message past ≡ frame_text page f.at classes f.message seen =
       ap (λ n. frame_text page n classes g.message past) (placed ∙ sym place) ∙ frame_alike page f.at classes f.message g.message seen past shown marks in
       ap (λ l. l ++ frames_behind page (classes_after classes g.message) gs after) head ∙ ap (λ l. frame_text page f.at classes f.message seen ++ l) behind
 
-  tallied_alike : (fs gs : List (Placed Frame)) (tally : Tallied) (classes : List Class) (seen past : List (Spot Class)) → listing_from classing past (parts_of classes (messages_of gs)) ≡ listing_from classing seen (parts_of classes (messages_of fs))
+  tallied_alike : (fs gs : List (Placed Frame)) (tally : Tallied) (classes : List Class) (seen past : List (Spot Class))
+      → listing_from classing past (parts_of classes (messages_of gs)) ≡ listing_from classing seen (parts_of classes (messages_of fs))
       → tallied_behind tally classes gs past ≡ tallied_behind tally classes fs seen
   tallied_alike [] [] tally classes seen past e = refl
   tallied_alike [] (g ∷ gs) tally classes seen past e = absurd cc
@@ -89,7 +93,8 @@ module _ (page : Bool) where
       let classes_same = after_same classes f.message g.message shown in
       let tail : listing_from classing after (parts_of (classes_after classes f.message) (messages_of gs)) ≡ ms =
       ap (λ cs. listing_from classing after (parts_of cs (messages_of gs))) (sym classes_same) ∙ ap (drop 1) e in
-      let one : tallied_from tally (frame_places classes g.message) past ≡ tallied_from tally (frame_places classes f.message) seen = frame_counted_alike classes f.message g.message seen past tally shown marks in
+      let one : tallied_from tally (frame_places classes g.message) past ≡ tallied_from tally (frame_places classes f.message)
+      seen = frame_counted_alike classes f.message g.message seen past tally shown marks in
       ap (λ cs. tallied_behind (tallied_from tally (frame_places classes g.message) past) cs gs after) classes_same
       ∙ ap (λ t. tallied_behind t (classes_after classes f.message) gs after) one
       ∙ tallied_alike fs gs (tallied_from tally (frame_places classes f.message) seen) (classes_after classes f.message) later after tail

@@ -38,7 +38,8 @@ asked_at version kind body = request_at kind body >>= λ request. Some (record {
 abbrev in_version : FrameVersion → Option Request → Option (Versioned Request)
 in_version version read = read >>= λ request. Some (record { version = version; message = request })
 
-pub asked_some : (version : FrameVersion) (kind : ℕ) (body : List ℕ) (request : Request) → request_at kind body ≡ Some request → asked_at version kind body ≡ Some (record { version = version; message = request })
+pub asked_some : (version : FrameVersion) (kind : ℕ) (body : List ℕ) (request : Request) → request_at kind body ≡ Some request
+    → asked_at version kind body ≡ Some (record { version = version; message = request })
 asked_some version kind body request e = ap (in_version version) e
 
 pub asked_none : (version : FrameVersion) (kind : ℕ) (body : List ℕ) → request_at kind body ≡ None → asked_at version kind body ≡ None

@@ -30,7 +30,8 @@ module _ {N : Type 0} (is_head : ℕ → ℕ → Bool) (version_of : N → Frame
   Reading at bytes = (ms : List (Placed N)) × (end : End) × ReadsAs is_head Spells at bytes ms end
 
   -- a message in front of a reading
-  then_reading : (at : ℕ) (bytes : List ℕ) (version : FrameVersion) (m : N) → AreBytes bytes → 6 + stated bytes ≤ length bytes → is_no_header is_head bytes ≡ false → version_byte version ≡ get_or bytes 0 0
+  then_reading : (at : ℕ) (bytes : List ℕ) (version : FrameVersion) (m : N) → AreBytes bytes → 6 + stated bytes ≤ length bytes
+      → is_no_header is_head bytes ≡ false → version_byte version ≡ get_or bytes 0 0
       → read version (get_or bytes 1 0) (take (stated bytes) (drop 6 bytes)) ≡ Some m
       → Reading (at + length (take (6 + stated bytes) bytes)) (drop (6 + stated bytes) bytes) → Reading at bytes
   then_reading at bytes version m fits whole header named e r = (
@@ -59,7 +60,15 @@ module _ {N : Type 0} (is_head : ℕ → ℕ → Bool) (version_of : N → Frame
       let there = ltb-false (length bytes) (6 + stated bytes) whole in
       let named = way.heads (get_or bytes 0 0) (get_or bytes 1 0) (is_head_of is_head bytes header) in
       by_option (read named.0 (get_or bytes 1 0) (take (stated bytes) (drop 6 bytes)))
-      (λ none. ([], Refused at, (refl, none_is_refused is_head version_of kind_of body_of Good Spells read way bytes named.0 (get_or bytes 1 0) (take (stated bytes) (drop 6 bytes)) (there, header, named.1, refl, refl) none)))
+      (λ none. (
+        [],
+        Refused at,
+        (
+          refl,
+          none_is_refused is_head version_of kind_of body_of Good Spells read way bytes named.0
+              (get_or bytes 1 0) (take (stated bytes) (drop 6 bytes)) (there, header, named.1, refl, refl) none,
+        ),
+      ))
       (λ m e. then_reading at bytes named.0 m fits there header named.1 e
       (reading most (at + length (take (6 + stated bytes) bytes)) (drop (6 + stated bytes) bytes) (AreBytes-drop (6 + stated bytes) bytes fits)
       (omega (arith, few, length-drop (6 + stated bytes) bytes)))))))

@@ -23,7 +23,8 @@ NamesVersion is_head byte kind (Some version) = (is_head byte kind ≡ true) × 
 -- the version, the kind and the body of a whole frame, less than a frame, or no header
 abbrev pub IsFramed : (ℕ → ℕ → Bool) → List ℕ → Framed → Type 0
 IsFramed is_head bytes (framed.Whole version kind body) =
-    (6 + stated bytes ≤ length bytes) × (is_no_header is_head bytes ≡ false) × (version_byte version ≡ slice_index bytes 0) × (kind ≡ slice_index bytes 1) × (body.now ≡ take (stated bytes) (drop 6 bytes))
+    (6 + stated bytes ≤ length bytes) × (is_no_header is_head bytes ≡ false) × (version_byte version ≡ slice_index bytes 0)
+    × (kind ≡ slice_index bytes 1) × (body.now ≡ take (stated bytes) (drop 6 bytes))
 IsFramed is_head bytes framed.NotYet = IsNotYet is_head bytes
 IsFramed is_head bytes framed.Bad = (6 ≤ length bytes) × (is_no_header is_head bytes ≡ true)
 

@@ -42,7 +42,8 @@ front_is keys used d lt =
     let m = map_more (λ (k : KeyMeta). k.id) keys used d lt in
     rw (a, b, m) refl
 
-pub used_next : (keys : List KeyMeta) (used key : ℕ) (d : KeyMeta) → used < length keys → list_any (λ id. eqb id key) (ids_of (take used keys)) ≡ false → (get_or keys used d).id ≡ key → (encs : List Enc)
+pub used_next : (keys : List KeyMeta) (used key : ℕ) (d : KeyMeta) → used < length keys
+    → list_any (λ id. eqb id key) (ids_of (take used keys)) ≡ false → (get_or keys used d).id ≡ key → (encs : List Enc)
     → lists_from (ids_of keys) used (enc.Det key ∷ encs) ≡ lists_from (ids_of keys) (used + 1) encs
 used_next keys used key d lt h e encs =
     let f = used_first keys used key h encs in
@@ -51,7 +52,8 @@ used_next keys used key d lt h e encs =
     let s = same_head (get_or keys used d).id key (drop (used + 1) (ids_of keys)) (keys_used (take used (ids_of keys) ++ key ∷ []) encs) e in
     rw (f, l, s, t) refl
 
-pub used_other : (keys : List KeyMeta) (used key : ℕ) (d : KeyMeta) → used < length keys → list_any (λ id. eqb id key) (ids_of (take used keys)) ≡ false → (get_or keys used d).id ≢ key → (encs : List Enc)
+pub used_other : (keys : List KeyMeta) (used key : ℕ) (d : KeyMeta) → used < length keys
+    → list_any (λ id. eqb id key) (ids_of (take used keys)) ≡ false → (get_or keys used d).id ≢ key → (encs : List Enc)
     → lists_from (ids_of keys) used (enc.Det key ∷ encs) ≡ false
 used_other keys used key d lt h n encs =
     let f = used_first keys used key h encs in
@@ -82,7 +84,8 @@ lists_end keys used le = elim (eqb_tells used (length keys)) [
 ]
 
 -- the answer
-pub tells : (b : Bool) (encs : List Enc) (keys : List KeyMeta) → lists_from (ids_of keys) 0 encs ≡ b → length (entries_of keys) ≤ 128 → (b ≡ true → AreTheKeysOf encs keys) × (AreTheKeysOf encs keys → b ≡ true)
+pub tells : (b : Bool) (encs : List Enc) (keys : List KeyMeta) → lists_from (ids_of keys) 0 encs ≡ b
+    → length (entries_of keys) ≤ 128 → (b ≡ true → AreTheKeysOf encs keys) × (AreTheKeysOf encs keys → b ≡ true)
 tells b encs keys e few = (λ t. lists_all encs keys (e ∙ t) few, λ h. sym e ∙ lists_if encs keys h)
 
 -- the encryptions that are left

@@ -14,7 +14,33 @@ use Rattle.ae_base.specs.Sizes.{IsTextSize, IsBinarySize}
 use Rattle.ae_base.specs.Versions.{IsUniqueNumber}
 use Rattle.wire_messages.specs.Conditions.{IsBytes, IsScalars, IsStatement, IsWord, IsParamWord, IsTitleText, IsPath, IsWrapped, IsKeyId}
 use Rattle.wire_spelling.specs.Spelling as spell
-use Rattle.wire_reading.specs.Reading.{byte_at, number_at, bytes_at, blob_at, characters_of, str_at, is_within, is_word, is_param_name, is_path, is_text_within, is_nonzero, name_at, param_name_at, title_at, path_at, wrapped_at, text_at, session_at, key_id_at, text_size_at, binary_size_at, unique_number_at, short_text_at, short_blob_at}
+use Rattle.wire_reading.specs.Reading.{
+  byte_at,
+  number_at,
+  bytes_at,
+  blob_at,
+  characters_of,
+  str_at,
+  is_within,
+  is_word,
+  is_param_name,
+  is_path,
+  is_text_within,
+  is_nonzero,
+  name_at,
+  param_name_at,
+  title_at,
+  path_at,
+  wrapped_at,
+  text_at,
+  session_at,
+  key_id_at,
+  text_size_at,
+  binary_size_at,
+  unique_number_at,
+  short_text_at,
+  short_blob_at,
+}
 use Rattle.wire_spelling.proofs.Interface.{encoded_within}
 use Rattle.wire_reading.proofs.Takes.{AreBytes, AreBytes-take, AreBytes-drop, AreBytes-rest, Takes, Takes-then, Reads, Reads-bytes, Reads-tried, Reads-kept, bind_some, cond_some, guard_some}
 
@@ -102,11 +128,13 @@ session_reads = Reads-kept spell.u16 (λ n. n < 2 ^ 16) IsSession (number_at w16
 
 pub text_size_reads : Reads spell.u16 IsTextSize text_size_at
 unfolding text_size_at
-text_size_reads = Reads-kept spell.u16 (λ n. n < 2 ^ 16) IsTextSize (number_at w16) (is_within 1 4000) (λ n lt t. within_from 1 4000 n t) (λ n h. (omega (arith, h.1), within_to 1 4000 n h.0 h.1)) u16_reads
+text_size_reads = Reads-kept spell.u16 (λ n. n < 2 ^ 16) IsTextSize (number_at w16) (is_within 1 4000)
+    (λ n lt t. within_from 1 4000 n t) (λ n h. (omega (arith, h.1), within_to 1 4000 n h.0 h.1)) u16_reads
 
 pub binary_size_reads : Reads spell.u16 IsBinarySize binary_size_at
 unfolding binary_size_at
-binary_size_reads = Reads-kept spell.u16 (λ n. n < 2 ^ 16) IsBinarySize (number_at w16) (is_within 1 8000) (λ n lt t. within_from 1 8000 n t) (λ n h. (omega (arith, h.1), within_to 1 8000 n h.0 h.1)) u16_reads
+binary_size_reads = Reads-kept spell.u16 (λ n. n < 2 ^ 16) IsBinarySize (number_at w16) (is_within 1 8000)
+    (λ n lt t. within_from 1 8000 n t) (λ n h. (omega (arith, h.1), within_to 1 8000 n h.0 h.1)) u16_reads
 
 pub key_id_reads : Reads spell.u32 IsKeyId key_id_at
 unfolding key_id_at

@@ -22,14 +22,131 @@ use Rattle.ae_base.specs.declared.atoms.AtomOf.TheVariants.{Null, Plain, Sealed}
 use Rattle.ae_base.specs.declared.keys.KeyMeta.{KeyMeta}
 use Rattle.ae_base.specs.declared.faults.SqlFault.{SqlFault}
 use Rattle.ae_base.specs.declared.faults.SqlFault.TheVariants as fault
-use Rattle.wire_messages.specs.Conditions.{IsBytes, IsScalars, IsWord, IsParamWord, IsTitleText, IsPath, IsWrapped, IsKeyId, IsEnc, IsAtom, IsEntry, IsKey, IsConflict, IsFault, IsDeclaration, IsSent, IsUsed, IsColumn, AreParams}
+use Rattle.wire_messages.specs.Conditions.{
+  IsBytes,
+  IsScalars,
+  IsWord,
+  IsParamWord,
+  IsTitleText,
+  IsPath,
+  IsWrapped,
+  IsKeyId,
+  IsEnc,
+  IsAtom,
+  IsEntry,
+  IsKey,
+  IsConflict,
+  IsFault,
+  IsDeclaration,
+  IsSent,
+  IsUsed,
+  IsColumn,
+  AreParams,
+}
 use Rattle.wire_messages.specs.KeyLists.{entries_of, gathered}
 use Rattle.wire_messages.specs.declared.key_entries.KeyEntry.{KeyEntry}
 use Rattle.wire_messages.proofs.Interface.{entries_meet, entries_of_gathered, keys_meet}
 use Rattle.wire_spelling.specs.Spelling as spell
-use Rattle.wire_reading.specs.Reading.{Reader, ◌and◌, mapped, kept, pick, ends, bare, choice, number_at, byte_at, types, type_at, encryptions, encryption_at, atoms, atom_at, null, integer, text, binary, sealed, name_at, param_name_at, title_at, path_at, wrapped_at, key_id_at, text_size_at, binary_size_at, unique_number_at, short_text_at, short_blob_at, entry_of, entry_at, keys_at, declaration_of, declaration_at, sent_of, sent_at, used_of, used_at, column_of, column_at, few_at, many_at, are_params, declarations_at, sent_params_at, used_params_at, versions_of, versions_at, differ, counts_of, counts_at, conflict_at, conflict_of, rose, faults}
-use Rattle.wire_reading.proofs.Takes.{AreBytes, Reads, AllTake, TakesBody, AllTakeBodies, some, some_is, Reads-tried, ended_body, pick_body, ends_again, cond_some, Reads-and, Reads-kept, Reads-mapped, Reads-choice, Reads-listed, mapped_again, behind, alone, ◌also◌}
-use Rattle.wire_reading.proofs.FieldLaws.{u16_reads, u32_reads, u64_reads, byte_reads, name_reads, param_name_reads, title_reads, path_reads, wrapped_reads, key_id_reads, text_size_reads, binary_size_reads, unique_number_reads, short_text_reads, short_blob_reads}
+use Rattle.wire_reading.specs.Reading.{
+  Reader,
+  ◌and◌,
+  mapped,
+  kept,
+  pick,
+  ends,
+  bare,
+  choice,
+  number_at,
+  byte_at,
+  types,
+  type_at,
+  encryptions,
+  encryption_at,
+  atoms,
+  atom_at,
+  null,
+  integer,
+  text,
+  binary,
+  sealed,
+  name_at,
+  param_name_at,
+  title_at,
+  path_at,
+  wrapped_at,
+  key_id_at,
+  text_size_at,
+  binary_size_at,
+  unique_number_at,
+  short_text_at,
+  short_blob_at,
+  entry_of,
+  entry_at,
+  keys_at,
+  declaration_of,
+  declaration_at,
+  sent_of,
+  sent_at,
+  used_of,
+  used_at,
+  column_of,
+  column_at,
+  few_at,
+  many_at,
+  are_params,
+  declarations_at,
+  sent_params_at,
+  used_params_at,
+  versions_of,
+  versions_at,
+  differ,
+  counts_of,
+  counts_at,
+  conflict_at,
+  conflict_of,
+  rose,
+  faults,
+}
+use Rattle.wire_reading.proofs.Takes.{
+  AreBytes,
+  Reads,
+  AllTake,
+  TakesBody,
+  AllTakeBodies,
+  some,
+  some_is,
+  Reads-tried,
+  ended_body,
+  pick_body,
+  ends_again,
+  cond_some,
+  Reads-and,
+  Reads-kept,
+  Reads-mapped,
+  Reads-choice,
+  Reads-listed,
+  mapped_again,
+  behind,
+  alone,
+  ◌also◌,
+}
+use Rattle.wire_reading.proofs.FieldLaws.{
+  u16_reads,
+  u32_reads,
+  u64_reads,
+  byte_reads,
+  name_reads,
+  param_name_reads,
+  title_reads,
+  path_reads,
+  wrapped_reads,
+  key_id_reads,
+  text_size_reads,
+  binary_size_reads,
+  unique_number_reads,
+  short_text_reads,
+  short_blob_reads,
+}
 
 -- ---- types, encryptions and atoms
 
@@ -82,7 +199,8 @@ large = omega arith
 atoms_take : AllTake spell.atom IsAtom atoms
 atoms_take =
     alone spell.atom IsAtom 0 null refl (tt, tt)
-    also behind spell.u64 (λ n. n < 2 ^ 64) (number_at w64) u64_reads integer spell.atom IsAtom 1 (λ n lt. ap (λ m. 1 ∷ spell.u64 m) (of_z-to_z w64 n lt)) (λ n lt. (to_z-Fits w64 n (record { fits = lt }), tt))
+    also behind spell.u64 (λ n. n < 2 ^ 64) (number_at w64) u64_reads integer spell.atom IsAtom 1
+    (λ n lt. ap (λ m. 1 ∷ spell.u64 m) (of_z-to_z w64 n lt)) (λ n lt. (to_z-Fits w64 n (record { fits = lt }), tt))
     also behind spell.str IsShortText short_text_at short_text_reads text spell.atom IsAtom 2 (λ t h. refl) (λ t h. h)
     also behind spell.blob (IsShortBlob 8000) (short_blob_at 8000) (short_blob_reads 8000 small) binary spell.atom IsAtom 3 (λ b h. refl) (λ b h. h)
     also behind spell.blob (IsShortBlob 16384) (short_blob_at 16384) (short_blob_reads 16384 large) sealed spell.atom IsAtom 4 (λ b h. refl) (λ b h. h)
@@ -124,14 +242,16 @@ sent_reads =
     (λ p. ((IsParamWord p.0.0.0 × IsType p.0.0.1) × IsEnc p.0.1) × IsAtom p.1) (param_name_at and type_at and encryption_at and atom_at)
     sent_of (λ p. (((p.name, p.ty), p.enc), p.atom)) spell.sent IsSent (λ p. refl) (λ p. refl)
     (λ p h. record { name = h.0.0.0; ty = h.0.0.1; enc = h.0.1; atom = h.1 }) (λ p h. (((h.name, h.ty), h.enc), h.atom))
-    (Reads-and (λ (p : (List ℕ × Ty) × Enc). spell.str p.0.0 ++ spell.type p.0.1 ++ spell.encryption p.1) (λ p. (IsParamWord p.0.0 × IsType p.0.1) × IsEnc p.1) (param_name_at and type_at and encryption_at) spell.atom IsAtom atom_at
+    (Reads-and (λ (p : (List ℕ × Ty) × Enc). spell.str p.0.0 ++ spell.type p.0.1 ++ spell.encryption p.1)
+    (λ p. (IsParamWord p.0.0 × IsType p.0.1) × IsEnc p.1) (param_name_at and type_at and encryption_at) spell.atom IsAtom atom_at
     (Reads-and (λ (p : List ℕ × Ty). spell.str p.0 ++ spell.type p.1) (λ p. IsParamWord p.0 × IsType p.1) (param_name_at and type_at) spell.encryption IsEnc encryption_at
     (Reads-and spell.str IsParamWord param_name_at spell.type IsType type_at param_name_reads type_reads) encryption_reads) atom_reads)
 
 pub column_reads : Reads spell.column IsColumn column_at
 unfolding column_at
 column_reads =
-    Reads-mapped (λ (c : (List ℕ × Ty) × Enc). spell.str c.0.0 ++ spell.type c.0.1 ++ spell.encryption c.1) (λ c. (IsTitleText c.0.0 × IsType c.0.1) × IsEnc c.1) (title_at and type_at and encryption_at)
+    Reads-mapped (λ (c : (List ℕ × Ty) × Enc). spell.str c.0.0 ++ spell.type c.0.1 ++ spell.encryption c.1)
+    (λ c. (IsTitleText c.0.0 × IsType c.0.1) × IsEnc c.1) (title_at and type_at and encryption_at)
     column_of (λ c. ((c.title, c.ty), c.enc)) spell.column IsColumn (λ c. refl) (λ c. refl)
     (λ c h. record { title = h.0.0; ty = h.0.1; enc = h.1 }) (λ c h. ((h.title, h.ty), h.enc))
     (Reads-and (λ (p : List ℕ × Ty). spell.str p.0 ++ spell.type p.1) (λ p. IsTitleText p.0 × IsType p.1) (title_at and type_at) spell.encryption IsEnc encryption_at
@@ -144,7 +264,8 @@ entry_reads =
     (λ k. ((IsKeyId k.0.0.0 × IsWord k.0.0.1) × IsPath k.0.1) × IsWrapped k.1) (key_id_at and name_at and path_at and wrapped_at)
     entry_of (λ e. (((e.id, e.name), e.value.path), e.value.wrapped)) spell.entry IsEntry (λ e. refl) (λ e. refl)
     (λ e h. record { id = h.0.0.0; name = h.0.0.1; path = h.0.1; wrapped = h.1 }) (λ e h. (((h.id, h.name), h.path), h.wrapped))
-    (Reads-and (λ (k : (ℕ × List ℕ) × List ℕ). spell.u32 k.0.0 ++ spell.str k.0.1 ++ spell.str k.1) (λ k. (IsKeyId k.0.0 × IsWord k.0.1) × IsPath k.1) (key_id_at and name_at and path_at) spell.blob IsWrapped wrapped_at
+    (Reads-and (λ (k : (ℕ × List ℕ) × List ℕ). spell.u32 k.0.0 ++ spell.str k.0.1 ++ spell.str k.1)
+    (λ k. (IsKeyId k.0.0 × IsWord k.0.1) × IsPath k.1) (key_id_at and name_at and path_at) spell.blob IsWrapped wrapped_at
     (Reads-and (λ (k : ℕ × List ℕ). spell.u32 k.0 ++ spell.str k.1) (λ k. IsKeyId k.0 × IsWord k.1) (key_id_at and name_at) spell.str IsPath path_at
     (Reads-and spell.u32 IsKeyId key_id_at spell.str IsWord name_at key_id_reads name_reads) path_reads) wrapped_reads)
 
@@ -295,7 +416,8 @@ faults_take =
     also of_name 61 fault.NoSuch (λ x. refl) (λ x. refl) (λ x h. h)
     also of_name 62 fault.KeyInUse (λ x. refl) (λ x. refl) (λ x h. h)
     also bare_body 63 fault.Full refl refl tt
-    also ended_body (λ (c : List ℕ × ChangeCounts). spell.conflict c.0 c.1) (λ c. IsConflict c.0 c.1) conflict_at conflict_reads conflict_of code_of spell.fields IsFault 64 (λ x. refl) (λ x. refl) (λ x h. h)
+    also ended_body (λ (c : List ℕ × ChangeCounts). spell.conflict c.0 c.1) (λ c. IsConflict c.0 c.1) conflict_at
+    conflict_reads conflict_of code_of spell.fields IsFault 64 (λ x. refl) (λ x. refl) (λ x h. h)
     also bare_body 65 fault.InTransaction refl refl tt
     also bare_body 66 fault.NoTransaction refl refl tt
     also tt

@@ -46,7 +46,8 @@ alone_again reply h = ap alone (reply_again reply h)
 batch_takes : (body : List ℕ) (payload : Payload) → AreBytes body → batch_at body ≡ Some payload → Carries V2 0x86 body payload
 unfolding batch_at
 batch_takes body payload fits e =
-    let t = (ended_body rows_body AreShared (kept is_batch rows_at) batch_reads Rows payload_kind payload_body (IsPayload V2) 0x86 (λ rows. refl) (λ rows. refl) (λ rows h. h)).takes body payload fits e in
+    let t = (ended_body rows_body AreShared (kept is_batch rows_at) batch_reads Rows payload_kind payload_body
+    (IsPayload V2) 0x86 (λ rows. refl) (λ rows. refl) (λ rows h. h)).takes body payload fits e in
     record { kind_is = t.0; body_is = t.1; proper = t.2 }
 
 -- ---- each version

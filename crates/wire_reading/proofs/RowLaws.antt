@@ -106,7 +106,11 @@ unfolding rows_at
 rows_again rows rest few narrow all =
     let counts : ℕ × ℕ = (length rows, width rows) in
     ap rows_at (append_assoc (spell.u16 (length rows) ++ spell.u16 (width rows)) (flat_map row_body rows) rest)
-    ∙ rw (counts_read.again counts (flat_map row_body rows ++ rest) (few, narrow), parts_again row_body (IsShared (width rows)) (shared_row_at (width rows)) (row_reads (width rows)) rows rest all) refl
+    ∙ rw (
+      counts_read.again counts (flat_map row_body rows ++ rest) (few, narrow),
+      parts_again row_body
+          (IsShared (width rows)) (shared_row_at (width rows)) (row_reads (width rows)) rows rest all,
+    ) refl
 
 -- ---- rows that share a frame
 

@@ -29,7 +29,8 @@ no_made true f x n = absurd (n refl)
 no_made false f x n = refl
 
 -- what is made of it
-pub made : {A B : Type 0} (result : Option B) (test : A → Bool) (P : A → Type 0) (f : A → B) (x : A) → IfSome result (λ y. y ≡ f x) → (IsSome result ↔ P x) → (test x ≡ true → P x) → (P x → test x ≡ true)
+pub made : {A B : Type 0} (result : Option B) (test : A → Bool) (P : A → Type 0) (f : A → B) (x : A)
+    → IfSome result (λ y. y ≡ f x) → (IsSome result ↔ P x) → (test x ≡ true → P x) → (P x → test x ≡ true)
     → result ≡ made_when test f x
 made (Some y) test P f x same exactly from to = yes_made (test x) f x y (to (exactly.0 refl)) same
 made {A} {B} None test P f x same exactly from to = no_made (test x) f x (λ t. nothing B (exactly.1 (from t)))

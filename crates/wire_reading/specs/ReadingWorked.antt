@@ -10,7 +10,29 @@ use Rattle.wire_messages.specs.declared.replies.Reply.{Reply}
 use Rattle.wire_messages.specs.declared.replies.Reply.TheVariants.{Described}
 use Rattle.wire_payloads.specs.Batches.{Atoms}
 use Rattle.wire_payloads.specs.declared.payloads.Payload.TheVariants.{Rows}
-use Rattle.wire_reading.specs.Reading.{atom_at, batch_at, payload_at, rows_at, shared_row_at, reply_at, described_at, keys_at, entry_at, used_params_at, used_at, few_at, parts_at, encryption_at, key_id_at, name_at, path_at, wrapped_at, param_name_at, str_at, blob_at}
+use Rattle.wire_reading.specs.Reading.{
+  atom_at,
+  batch_at,
+  payload_at,
+  rows_at,
+  shared_row_at,
+  reply_at,
+  described_at,
+  keys_at,
+  entry_at,
+  used_params_at,
+  used_at,
+  few_at,
+  parts_at,
+  encryption_at,
+  key_id_at,
+  name_at,
+  path_at,
+  wrapped_at,
+  param_name_at,
+  str_at,
+  blob_at,
+}
 
 abbrev two_valued : Reply
 two_valued = Described (record {

@@ -116,7 +116,8 @@ proper (Described d ∷ replies) rows open_rows all =
 proper (Columns header ∷ replies) rows open_rows all =
     let h = All-head IsReply (Columns header) replies all in
     proper_after rows (One (Columns header) ∷ gathered [] replies) open_rows
-    (All-cons (HasFrame V2) (One (Columns header)) (gathered [] replies) (record { proper = h; short = reply_within (Columns header) h }) (proper replies [] tt (All-tail IsReply (Columns header) replies all)))
+    (All-cons (HasFrame V2) (One (Columns header)) (gathered [] replies) (record { proper = h; short = reply_within (Columns header) h })
+    (proper replies [] tt (All-tail IsReply (Columns header) replies all)))
 proper (Ended done ∷ replies) rows open_rows all =
     let h = All-head IsReply (Ended done) replies all in
     proper_after rows (One (Ended done) ∷ gathered [] replies) open_rows
@@ -124,7 +125,8 @@ proper (Ended done ∷ replies) rows open_rows all =
 proper (Refused fault ∷ replies) rows open_rows all =
     let h = All-head IsReply (Refused fault) replies all in
     proper_after rows (One (Refused fault) ∷ gathered [] replies) open_rows
-    (All-cons (HasFrame V2) (One (Refused fault)) (gathered [] replies) (record { proper = h; short = reply_within (Refused fault) h }) (proper replies [] tt (All-tail IsReply (Refused fault) replies all)))
+    (All-cons (HasFrame V2) (One (Refused fault)) (gathered [] replies) (record { proper = h; short = reply_within (Refused fault) h })
+    (proper replies [] tt (All-tail IsReply (Refused fault) replies all)))
 
 pub payloads_proper : (version : FrameVersion) (replies : List Reply) → All IsReply replies → All (HasFrame version) (payloads_of version replies)
 payloads_proper V1 replies all = proper_alone replies all

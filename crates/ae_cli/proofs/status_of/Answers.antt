@@ -10,7 +10,17 @@ abbrev untold : {A : Type 0} → Device A
 untold = record { content = None; faults = 0 }
 
 abbrev untouched : Seen
-untouched = record { script = untold; vault = untold; entropy = untold; replies = untold; out = untold; tap = untold; tap_closed = false; peer = record { log = None; state = Some empty_state }; disk = untold }
+untouched = record {
+  script = untold;
+  vault = untold;
+  entropy = untold;
+  replies = untold;
+  out = untold;
+  tap = untold;
+  tap_closed = false;
+  peer = record { log = None; state = Some empty_state };
+  disk = untold;
+}
 
 pub returns-in_default : goal.returns-in_default
 returns-in_default c = (untouched, untouched, refl, no_memory _ _)

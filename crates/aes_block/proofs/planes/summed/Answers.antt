@@ -11,7 +11,10 @@ returns c r column j =
     let a = λ (k : ℕ). bit (plane c.args.a k) r column j in
     let b = λ (k : ℕ). bit (plane c.args.b.now k) r column j in
     byte_of-same _ (λ k. (a k + b k) % 2)
-    (at_eight (λ k. bit (plane (c.bitxor.result ∷ c.bitxor-2.result ∷ c.bitxor-3.result ∷ c.bitxor-4.result ∷ c.bitxor-5.result ∷ c.bitxor-6.result ∷ c.bitxor-7.result ∷ c.bitxor-8.result ∷ []) k) r column j ≡ (a k + b k) % 2)
+    (at_eight
+    (λ k. bit
+    (plane (c.bitxor.result ∷ c.bitxor-2.result ∷ c.bitxor-3.result ∷ c.bitxor-4.result ∷ c.bitxor-5.result
+    ∷ c.bitxor-6.result ∷ c.bitxor-7.result ∷ c.bitxor-8.result ∷ []) k) r column j ≡ (a k + b k) % 2)
     (rw (← item c.args.a 0 8 c.index-a-0.result (omega arith) (omega arith), ← item c.args.b.now 0 8 c.index-b-0.result (omega arith) (omega arith)) (c.bitxor.ensures r column j))
     (rw (← item c.args.a 1 8 c.index-a-1.result (omega arith) (omega arith), ← item c.args.b.now 1 8 c.index-b-1.result (omega arith) (omega arith)) (c.bitxor-2.ensures r column j))
     (rw (← item c.args.a 2 8 c.index-a-2.result (omega arith) (omega arith), ← item c.args.b.now 2 8 c.index-b-2.result (omega arith) (omega arith)) (c.bitxor-3.ensures r column j))

@@ -6,8 +6,12 @@ use Rattle.aes_block.proofs.round_keys.key_planes.Goals as goal
 
 pub returns : goal.returns
 returns c j low =
-    block_in-bits (c.spread.result ∷ c.spread-2.result ∷ c.spread-3.result ∷ c.spread-4.result ∷ c.spread-5.result ∷ c.spread-6.result ∷ c.spread-7.result ∷ c.spread-8.result ∷ []) j c.args.key c.rows_of-rows.ensures.long c.rows_of-rows.ensures.bytes (λ r column k row col in_byte.
-    at_eight (λ k. bit (plane (c.spread.result ∷ c.spread-2.result ∷ c.spread-3.result ∷ c.spread-4.result ∷ c.spread-5.result ∷ c.spread-6.result ∷ c.spread-7.result ∷ c.spread-8.result ∷ []) k) r column j ≡ bit c.args.key column r k)
+    block_in-bits
+    (c.spread.result ∷ c.spread-2.result ∷ c.spread-3.result ∷ c.spread-4.result ∷ c.spread-5.result ∷ c.spread-6.result ∷ c.spread-7.result ∷ c.spread-8.result ∷ [])
+    j c.args.key c.rows_of-rows.ensures.long c.rows_of-rows.ensures.bytes (λ r column k row col in_byte.
+    at_eight (λ k. bit
+    (plane (c.spread.result ∷ c.spread-2.result ∷ c.spread-3.result ∷ c.spread-4.result ∷ c.spread-5.result
+    ∷ c.spread-6.result ∷ c.spread-7.result ∷ c.spread-8.result ∷ []) k) r column j ≡ bit c.args.key column r k)
     (c.spread.ensures r column j row col low ∙ c.rows_of-rows.ensures.rows r column 0 row col)
     (c.spread-2.ensures r column j row col low ∙ c.rows_of-rows.ensures.rows r column 1 row col)
     (c.spread-3.ensures r column j row col low ∙ c.rows_of-rows.ensures.rows r column 2 row col)

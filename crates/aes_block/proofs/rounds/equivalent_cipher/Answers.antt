@@ -14,7 +14,8 @@ pub loop-round-preserved : goal.loop-round-preserved
 loop-round-preserved c = record {
   in_range = omega arith;
   so_far =
-      let more = equivalent_rounds-more (words_of c.args.words.now) c.args.block.now (state_of c.loop-round.state) (14 - c.loop-round.round) (14 - (c.loop-round.round - 1)) (c.loop-round.round - 1) (omega arith) (omega arith) c.loop-round.invariant.so_far in
+      let more = equivalent_rounds-more (words_of c.args.words.now) c.args.block.now (state_of c.loop-round.state)
+      (14 - c.loop-round.round) (14 - (c.loop-round.round - 1)) (c.loop-round.round - 1) (omega arith) (omega arith) c.loop-round.invariant.so_far in
       cc;
 }
 

@@ -37,5 +37,11 @@ returns c =
     let b = c.as_slice-2.ensures ∙ k in
     let d = c.in_ok-params.ensures in
     let few : length c.args.description.now.params ≤ 128 = subst (λ xs. length xs ≤ 128) c.params.ensures.params c.as_slice.ensures.few in
-    let differ : IsTrue (all_differ (map (λ u. u.name) c.args.description.now.params)) = subst (λ xs. IsTrue (all_differ (map (λ u. u.name) xs))) c.params.ensures.params c.as_slice.ensures.differ in
-    (e, c.version.ensures, k, rw (a, b, p) at d, rw k (found_as c.args.batch.now c.version.result c.args.description.now.keys c.args.description.now.params _ c.as_batch.ensures.fit e c.params.ensures.description few differ))
+    let differ : IsTrue (all_differ (map (λ u. u.name) c.args.description.now.params)) = subst (λ xs. IsTrue (all_differ (map (λ u. u.name) xs))) c.params.ensures.params c.as_slice.ensures.differ in (
+      e,
+      c.version.ensures,
+      k,
+      rw (a, b, p) at d,
+      rw k
+          (found_as c.args.batch.now c.version.result c.args.description.now.keys c.args.description.now.params _ c.as_batch.ensures.fit e c.params.ensures.description few differ),
+    )

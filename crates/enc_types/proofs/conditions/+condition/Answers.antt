@@ -17,7 +17,8 @@ of_condition-returns-in-AnyOf t c =
 
 pub of_conditions-loop-condition-preserved : goal.of_conditions-loop-condition-preserved
 of_conditions-loop-condition-preserved t c =
-    walk_more (λ cs. conditions_rules (conditions_listed cs)) (λ x. condition_rules (condition_of x)) condition_step _ _ _ c.args.conditions.now c.loop-condition.condition-index c.condition-item.result (omega arith) c.condition-item.is c.loop-condition.invariant c.in_ok-of_condition.ensures
+    walk_more (λ cs. conditions_rules (conditions_listed cs)) (λ x. condition_rules (condition_of x)) condition_step
+    _ _ _ c.args.conditions.now c.loop-condition.condition-index c.condition-item.result (omega arith) c.condition-item.is c.loop-condition.invariant c.in_ok-of_condition.ensures
 
 pub of_conditions-returns : goal.of_conditions-returns
 of_conditions-returns t c = walk_all (λ cs. conditions_rules (conditions_listed cs)) refl _ _ c.args.conditions.now c.loop-condition.condition-index (omega arith) c.loop-condition.invariant

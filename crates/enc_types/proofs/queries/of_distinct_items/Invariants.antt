@@ -7,4 +7,5 @@ use Rattle.enc_types.proofs.queries.of_distinct_items.Given as goal
 
 abbrev pub invariant-loop-item : goal.invariant-loop-item
 invariant-loop-item l =
-    l.rules ++ map (λ item. NotRnd (site_of_item item.value) l.at) (map item_of (drop l.item-index l.items)) ≡ l.initial.rules ++ map (λ item. NotRnd (site_of_item item.value) l.at) (map item_of l.items)
+    l.rules ++ map (λ item. NotRnd (site_of_item item.value) l.at) (map item_of (drop l.item-index l.items)) ≡
+    l.initial.rules ++ map (λ item. NotRnd (site_of_item item.value) l.at) (map item_of l.items)

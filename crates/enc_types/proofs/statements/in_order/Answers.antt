@@ -8,5 +8,6 @@ use Rattle.enc_types.proofs.statements.in_order.Goals as goal
 pub returns : goal.returns
 returns c =
     c.from_vec.ensures
-    ∙ stable_sort _ _ (IsNonDecreasingBy-from_sort at_of _ (c.in_ok-sort_by_key.ensures.sorted at_of (answers_always _ _ _ (λ f a r g h. search rules)))) (c.in_ok-sort_by_key.ensures.stable at_of (answers_always _ _ _ (λ f a r g h. search rules)))
+    ∙ stable_sort _ _ (IsNonDecreasingBy-from_sort at_of _ (c.in_ok-sort_by_key.ensures.sorted at_of (answers_always _ _ _ (λ f a r g h. search rules))))
+    (c.in_ok-sort_by_key.ensures.stable at_of (answers_always _ _ _ (λ f a r g h. search rules)))
     ∙ ap in_order c.into_vec-rules.ensures

@@ -7,4 +7,5 @@ use Rattle.enc_types.proofs.statements.rules.Goals as goal
 
 pub returns : goal.returns
 returns c =
-    rw (← (rules_are (bound_of c.args.bound.now) c.of_statement.new.rules (c.in_ok-of_statement.ensures ∙ ap (λ z. z ++ statement_rules (statement_of c.args.bound.now.statement)) c.new-rules.ensures))) c.in_order.ensures
+    rw (← (rules_are (bound_of c.args.bound.now) c.of_statement.new.rules
+    (c.in_ok-of_statement.ensures ∙ ap (λ z. z ++ statement_rules (statement_of c.args.bound.now.statement)) c.new-rules.ensures))) c.in_order.ensures

@@ -4,7 +4,8 @@ use Rattle.gen_command.specs.Script.{script, text_of, definition_lines, all_row_
 use Rattle.gen_command.proofs.Lines.{text_append}
 use Rattle.gen_command.proofs.scripts.script.Goals as goal
 
-whole : (first second new rows : List ℕ) (size : ℕ) → rows ≡ text_of (all_row_lines size size) → first ≡ text_of definition_lines → second ≡ first ++ rows → new ≡ second ++ text_of read_lines → new ≡ script size
+whole : (first second new rows : List ℕ) (size : ℕ) → rows ≡ text_of (all_row_lines size size)
+    → first ≡ text_of definition_lines → second ≡ first ++ rows → new ≡ second ++ text_of read_lines → new ≡ script size
 unfolding script
 whole first second new rows size r e f g =
     g ∙ rw (f, e, r) (sym (text_append (definition_lines ++ all_row_lines size size) read_lines ∙ ap (λ t. t ++ text_of read_lines) (text_append definition_lines (all_row_lines size size))))

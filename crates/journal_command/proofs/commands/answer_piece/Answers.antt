@@ -11,8 +11,10 @@ returns-in-Ok-clause-comes g c =
     let fed = rw c.as_slice.ensures at c.in-Ok.ensures.fed in
     λ start taken first short s.
     c.answer_held.ensures.comes start (taken ++ c.args.piece.now) first short
-    (subst (λ (f : Feeding). IsSoFar start (taken ++ c.args.piece.now) f c.args.durable.now first (outside c.args.durable.now.journal.gate (g.D.Disk.told c.args.disk.now) (g.W.Sink.held c.args.out.now))) (sym fed)
+    (subst (λ (f : Feeding). IsSoFar start (taken ++ c.args.piece.now) f c.args.durable.now first
+    (outside c.args.durable.now.journal.gate (g.D.Disk.told c.args.disk.now) (g.W.Sink.held c.args.out.now))) (sym fed)
     (so_far_fed start taken c.args.piece.now c.args.feed.now c.args.durable.now first (outside c.args.durable.now.journal.gate (g.D.Disk.told c.args.disk.now) (g.W.Sink.held c.args.out.now)) s))
 
 pub returns-in-Err-clause-comes : goal.returns-in-Err-clause-comes
-returns-in-Err-clause-comes g c = λ start taken first short s. unfed start taken c.args.piece.now c.args.feed.now c.args.durable.now first (outside c.args.durable.now.journal.gate (g.D.Disk.told c.args.disk.now) (g.W.Sink.held c.args.out.now)) s
+returns-in-Err-clause-comes g c = λ start taken first short s. unfed start taken c.args.piece.now c.args.feed.now
+    c.args.durable.now first (outside c.args.durable.now.journal.gate (g.D.Disk.told c.args.disk.now) (g.W.Sink.held c.args.out.now)) s

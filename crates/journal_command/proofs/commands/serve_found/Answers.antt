@@ -8,7 +8,13 @@ use Rattle.journal_command.proofs.commands.serve_found.Goals as goal
 pub returns-in-Served-clause-serves : goal.returns-in-Served-clause-serves
 returns-in-Served-clause-serves g c =
     found_served c.serve_from.result c.args.journal.gate _ _ _ _ _ _
-    (record { state = c.serve_records.new.server; between = g.D.Disk.told c.serve_records.new.disk; restarted = rw c.new-server.ensures at c.in-Served.ensures.content; serves = c.serve_from.ensures.serves })
+    (record {
+      state = c.serve_records.new.server;
+      between = g.D.Disk.told c.serve_records.new.disk;
+      restarted
+          = rw c.new-server.ensures at c.in-Served.ensures.content;
+      serves = c.serve_from.ensures.serves;
+    })
 
 pub returns-in-Refused-clause-serves : goal.returns-in-Refused-clause-serves
 returns-in-Refused-clause-serves g c =

@@ -6,7 +6,8 @@ use Rattle.journal_command.proofs.commands.serve_pieces.Goals as goal
 
 pub pieces-init : goal.pieces-init
 pieces-init g c = record {
-  goes = goes_first c.new-feed.result c.args.durable.now (g.S.Source.left c.args.input.now) (outside c.args.durable.now.journal.gate (g.D.Disk.told c.args.disk.now) (g.W.Sink.held c.args.out.now)) c.new-feed.ensures c.requires.held;
+  goes = goes_first c.new-feed.result c.args.durable.now (g.S.Source.left c.args.input.now)
+      (outside c.args.durable.now.journal.gate (g.D.Disk.told c.args.disk.now) (g.W.Sink.held c.args.out.now)) c.new-feed.ensures c.requires.held;
   sound = c.requires.sound;
   names = refl;
   takes = refl;
@@ -24,13 +25,17 @@ pub returns-in-Refused-clause-serves : goal.returns-in-Refused-clause-serves
 returns-in-Refused-clause-serves g c =
     let p = c.in-Bytes.ensures.piece in
     let fits : length c.in-Bytes.piece ≤ c.pieces.left = omega (arith, p.1) in
-    ends_refused c.requests_are_serial_from.ensures _ _ _ _ _ _ _ _ c.pieces.invariant.goes c.in-Bytes.piece (g.S.Source.left c.take.new.self) c.in-Bytes.ensures.content fits c.in-Refused.place (outside c.answer_piece.new.durable.journal.gate (g.D.Disk.told c.answer_piece.new.disk) (g.W.Sink.held c.answer_piece.new.out)) c.in-Refused.ensures.comes
+    ends_refused c.requests_are_serial_from.ensures _ _ _ _ _ _ _ _ c.pieces.invariant.goes c.in-Bytes.piece
+    (g.S.Source.left c.take.new.self) c.in-Bytes.ensures.content fits c.in-Refused.place
+    (outside c.answer_piece.new.durable.journal.gate (g.D.Disk.told c.answer_piece.new.disk) (g.W.Sink.held c.answer_piece.new.out)) c.in-Refused.ensures.comes
 
 pub returns-in-Stopped-clause-serves : goal.returns-in-Stopped-clause-serves
 returns-in-Stopped-clause-serves g c =
     let p = c.in-Bytes.ensures.piece in
     let fits : length c.in-Bytes.piece ≤ c.pieces.left = omega (arith, p.1) in
-    ends_stopped c.requests_are_serial_from.ensures _ _ _ _ _ _ _ _ c.pieces.invariant.goes c.in-Bytes.piece (g.S.Source.left c.take.new.self) c.in-Bytes.ensures.content fits c.in-Stopped.stop c.ended.result (outside c.answer_piece.new.durable.journal.gate (g.D.Disk.told c.answer_piece.new.disk) (g.W.Sink.held c.answer_piece.new.out)) c.ended.ensures c.in-Stopped.ensures.comes
+    ends_stopped c.requests_are_serial_from.ensures _ _ _ _ _ _ _ _ c.pieces.invariant.goes c.in-Bytes.piece
+    (g.S.Source.left c.take.new.self) c.in-Bytes.ensures.content fits c.in-Stopped.stop c.ended.result
+    (outside c.answer_piece.new.durable.journal.gate (g.D.Disk.told c.answer_piece.new.disk) (g.W.Sink.held c.answer_piece.new.out)) c.ended.ensures c.in-Stopped.ensures.comes
 
 pub pieces-preserved : goal.pieces-preserved
 pieces-preserved g c =
@@ -39,7 +44,10 @@ pieces-preserved g c =
     let l = c.len-left.ensures in
     let counts = c.in-Waits.ensures.counts in
     record {
-      goes = goes_on c.requests_are_serial_from.ensures _ _ _ _ _ _ _ _ c.pieces.invariant.goes c.in-Bytes.piece (g.S.Source.left c.take.new.self) c.in-Bytes.ensures.content fits _ c.answer_piece.new.feed c.answer_piece.new.durable (outside c.answer_piece.new.durable.journal.gate (g.D.Disk.told c.answer_piece.new.disk) (g.W.Sink.held c.answer_piece.new.out)) (omega (arith, fits, l)) c.in-Waits.ensures.comes;
+      goes = goes_on c.requests_are_serial_from.ensures _ _ _ _ _ _ _ _ c.pieces.invariant.goes c.in-Bytes.piece
+          (g.S.Source.left c.take.new.self) c.in-Bytes.ensures.content fits _ c.answer_piece.new.feed
+          c.answer_piece.new.durable (outside c.answer_piece.new.durable.journal.gate (g.D.Disk.told c.answer_piece.new.disk) (g.W.Sink.held c.answer_piece.new.out))
+          (omega (arith, fits, l)) c.in-Waits.ensures.comes;
       sound = c.in-Waits.ensures.sound refl;
       names = c.in-Waits.ensures.same ∙ c.pieces.invariant.names;
       takes = c.in-Bytes.ensures.counts ∙ c.pieces.invariant.takes;
@@ -48,7 +56,8 @@ pieces-preserved g c =
     }
 
 pub returns-in-End-clause-serves : goal.returns-in-End-clause-serves
-returns-in-End-clause-serves g c = ends_whole c.requests_are_serial_from.ensures _ _ _ _ _ _ _ _ c.pieces.invariant.goes c.at_end.result (g.S.Source.left c.take.new.self) c.in-End.ensures.content c.at_end.ensures
+returns-in-End-clause-serves g c = ends_whole c.requests_are_serial_from.ensures _ _ _ _ _ _ _ _ c.pieces.invariant.goes
+    c.at_end.result (g.S.Source.left c.take.new.self) c.in-End.ensures.content c.at_end.ensures
 
 pub returns-in-Failed-clause-serves : goal.returns-in-Failed-clause-serves
 returns-in-Failed-clause-serves g c = ends_unread c.requests_are_serial_from.ensures _ _ _ _ _ _ _ _ c.pieces.invariant.goes (g.S.Source.left c.take.new.self) c.in-Failed.ensures.content

@@ -10,7 +10,8 @@ overflow_add-place-in-Served c =
     let entries = c.args.entries.now in
     let i = c.entries.entry-index in
     let whole = next_entry entries i c.entry-item.result c.entries-test.true c.entry-item.is in
-    let sum : place_behind entries ≡ place_behind (take i entries) + place_behind (c.entry-item.result ∷ drop (i + 1) entries) = ap place_behind whole ∙ place_append (take i entries) (c.entry-item.result ∷ drop (i + 1) entries) in
+    let sum : place_behind entries ≡ place_behind (take i entries) + place_behind (c.entry-item.result ∷ drop (i + 1) entries)
+    = ap place_behind whole ∙ place_append (take i entries) (c.entry-item.result ∷ drop (i + 1) entries) in
     omega (arith, sum, c.entries.invariant.place, c.len.ensures, c.requires)
 
 pub returns-in-Refused : goal.returns-in-Refused

@@ -34,7 +34,8 @@ returns-in-End-clause-content g c =
 
 pub returns-in-Refused-clause-content : goal.returns-in-Refused-clause-content
 returns-in-Refused-clause-content g c =
-    served_not c.args.journal.now.gate c.entries.place c.args.server.now c.entries.server _ _ c.entries.invariant.served c.in-Next.entry _ c.in-Next.ensures.content (rw c.as_slice.ensures at c.in-Refused.ensures)
+    served_not c.args.journal.now.gate c.entries.place c.args.server.now c.entries.server _ _ c.entries.invariant.served
+    c.in-Next.entry _ c.in-Next.ensures.content (rw c.as_slice.ensures at c.in-Refused.ensures)
 
 pub returns-in-Other-clause-content : goal.returns-in-Other-clause-content
 returns-in-Other-clause-content g c =

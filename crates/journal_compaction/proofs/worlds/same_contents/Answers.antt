@@ -15,7 +15,8 @@ tables-preserved c =
     let t : IsTrue c.in_ok-same_rows.field-0 = search rules in
     record {
       same =
-          more_same _ c.args.tables.now c.args.others.now c.tables.i c.index-tables-i.result c.index-others-i.result c.tables.invariant.same c.tables.invariant.long c.tables-test.true c.index-tables-i.is
+          more_same _ c.args.tables.now c.args.others.now c.tables.i c.index-tables-i.result c.index-others-i.result
+          c.tables.invariant.same c.tables.invariant.long c.tables-test.true c.index-tables-i.is
           c.index-others-i.is (c.in_ok-same_rows.ensures.0 t);
       long = c.tables.invariant.long;
     }

@@ -25,7 +25,8 @@ write_through-requires-clause-inside g c =
 
 pub returns-in-Done-clause-content : goal.returns-in-Done-clause-content
 returns-in-Done-clause-content g c =
-    entry_written_told c.args.gate c.args.entry.now (is_entry c.args.gate c.args.entry.now c.requires.proper c.requires.room) c.write_through.result _ _ _ c.requires.mounted c.in-Done.ensures.content c.write_through.ensures.content
+    entry_written_told c.args.gate c.args.entry.now (is_entry c.args.gate c.args.entry.now c.requires.proper c.requires.room)
+    c.write_through.result _ _ _ c.requires.mounted c.in-Done.ensures.content c.write_through.ensures.content
 
 pub returns-in-Failed-clause-content : goal.returns-in-Failed-clause-content
 returns-in-Failed-clause-content g c =

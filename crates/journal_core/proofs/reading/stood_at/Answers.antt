@@ -16,11 +16,13 @@ record_at-requires-clause-kept g c =
 
 pub returns-in-Open-clause-content : goal.returns-in-Open-clause-content
 returns-in-Open-clause-content g c =
-    open_told c.args.gate c.args.last _ c.requires.before (search rules) c.in-Bytes.bytes c.in-Open.len (rw c.as_slice.ensures at c.in-Open.ensures) (search rules) c.record_at.result _ _ _ c.requires.kept c.in-Bytes.ensures.content c.record_at.ensures.content
+    open_told c.args.gate c.args.last _ c.requires.before (search rules) c.in-Bytes.bytes c.in-Open.len
+    (rw c.as_slice.ensures at c.in-Open.ensures) (search rules) c.record_at.result _ _ _ c.requires.kept c.in-Bytes.ensures.content c.record_at.ensures.content
 
 pub returns-in-Closed-clause-content : goal.returns-in-Closed-clause-content
 returns-in-Closed-clause-content g c =
-    closed_told c.args.gate c.args.last _ c.requires.before (search rules) c.in-Bytes.bytes (c.args.last - c.args.gate) (rw c.as_slice.ensures at c.in-Closed.ensures) _ _ c.requires.kept c.in-Bytes.ensures.content
+    closed_told c.args.gate c.args.last _ c.requires.before (search rules) c.in-Bytes.bytes (c.args.last - c.args.gate)
+    (rw c.as_slice.ensures at c.in-Closed.ensures) _ _ c.requires.kept c.in-Bytes.ensures.content
 
 pub returns-in-Bytes-clause-content : goal.returns-in-Bytes-clause-content
 returns-in-Bytes-clause-content g c =

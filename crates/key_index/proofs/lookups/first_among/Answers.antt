@@ -24,5 +24,7 @@ loop-i-preserved g c =
     let key = c.index-keys-i.result in
     let t : is_known c.args.gone.now c.args.index.now key ≡ false = sym c.is_known.ensures ∙ c.if-is_known.false in
     let new = was_new c.in_ok-note.field-0 (list_any (are_alike key) c.loop-i.seen) c.in_ok-note.ensures.fresh c.if-not-branch.false in
-    subst (λ (seen : List (List Atom)). AreLookedUp c.args.gone.now c.args.index.now c.args.keys.now (c.loop-i.i + 1) seen c.args.lookups.now c.tick.new.self) (sym (c.in_ok-note.ensures.noted c.if-not-branch.false))
-    (looked_more c.args.gone.now c.args.index.now c.args.keys.now c.loop-i.i key c.loop-i.seen c.args.lookups.now c.loop-i.lookups c.loop-i-test.true c.index-keys-i.is c.loop-i.invariant c.tick.new.self c.tick.ensures t new)
+    subst (λ (seen : List (List Atom)). AreLookedUp c.args.gone.now c.args.index.now c.args.keys.now (c.loop-i.i + 1) seen c.args.lookups.now c.tick.new.self)
+    (sym (c.in_ok-note.ensures.noted c.if-not-branch.false))
+    (looked_more c.args.gone.now c.args.index.now c.args.keys.now c.loop-i.i key c.loop-i.seen c.args.lookups.now
+    c.loop-i.lookups c.loop-i-test.true c.index-keys-i.is c.loop-i.invariant c.tick.new.self c.tick.ensures t new)

@@ -18,7 +18,8 @@ index-requires g c =
     let gives = c.into_iter-row-iterator.ensures.into_iter_gives in
     let firsts = c.in_ok-firsts.ensures ∙ ap (λ found. are_first [] (map shown_of found)) (c.as_slice.ensures.value ∙ sym gives.0) in
     let lt : c.loop-row.at < length c.in_ok-firsts.firsts.items =
-    kept_within (into_iter_items c.into_iter-row-iterator.result) c.loop-row.yielded (into_iter_items c.loop-row.row-iterator) c.loop-row.kept.items c.in_ok-firsts.firsts.items (into_iter_len c.loop-row.row-iterator) c.loop-row.at c.in-Some.row (into_iter_items c.next.new.self)
+    kept_within (into_iter_items c.into_iter-row-iterator.result) c.loop-row.yielded (into_iter_items c.loop-row.row-iterator)
+    c.loop-row.kept.items c.in_ok-firsts.firsts.items (into_iter_len c.loop-row.row-iterator) c.loop-row.at c.in-Some.row (into_iter_items c.next.new.self)
     c.loop-row.invariant firsts c.in-Some.ensures.steps.0 in
     omega (arith, lt)
 
@@ -32,9 +33,11 @@ loop-row-preserved g c =
     let was = c.loop-row.invariant.count in
     let less : into_iter_len c.next.new.self ≡ length (into_iter_items c.next.new.self) = omega arith in
     let lt : c.loop-row.at < length c.in_ok-firsts.firsts.items =
-    kept_within (into_iter_items c.into_iter-row-iterator.result) c.loop-row.yielded (into_iter_items c.loop-row.row-iterator) c.loop-row.kept.items c.in_ok-firsts.firsts.items (into_iter_len c.loop-row.row-iterator) c.loop-row.at c.in-Some.row (into_iter_items c.next.new.self)
+    kept_within (into_iter_items c.into_iter-row-iterator.result) c.loop-row.yielded (into_iter_items c.loop-row.row-iterator)
+    c.loop-row.kept.items c.in_ok-firsts.firsts.items (into_iter_len c.loop-row.row-iterator) c.loop-row.at c.in-Some.row (into_iter_items c.next.new.self)
     c.loop-row.invariant firsts steps in
-    kept_more (into_iter_items c.into_iter-row-iterator.result) c.loop-row.yielded (into_iter_items c.loop-row.row-iterator) c.loop-row.kept.items c.in_ok-firsts.firsts.items (into_iter_len c.loop-row.row-iterator) c.loop-row.at c.in-Some.row (into_iter_items c.next.new.self)
+    kept_more (into_iter_items c.into_iter-row-iterator.result) c.loop-row.yielded (into_iter_items c.loop-row.row-iterator)
+    c.loop-row.kept.items c.in_ok-firsts.firsts.items (into_iter_len c.loop-row.row-iterator) c.loop-row.at c.in-Some.row (into_iter_items c.next.new.self)
     c.keep_if.new.kept.items (into_iter_len c.next.new.self) c.index.result.now c.loop-row.invariant steps less lt
     (c.in_ok-keep_if.ensures ∙ ap (λ b. if b then c.loop-row.kept.items ++ c.in-Some.row ∷ [] else c.loop-row.kept.items) c.index.ensures)
 
@@ -42,5 +45,6 @@ pub returns : goal.returns
 returns g c = λ keys.
     let gives = c.into_iter-row-iterator.ensures.into_iter_gives in
     let firsts = c.in_ok-firsts.ensures ∙ ap (λ found. are_first [] (map shown_of found)) (c.as_slice.ensures.value ∙ sym gives.0) in
-    kept_all (into_iter_items c.into_iter-row-iterator.result) c.loop-row.yielded (into_iter_items c.loop-row.row-iterator) c.loop-row.kept.items c.in_ok-firsts.firsts.items (into_iter_len c.loop-row.row-iterator) c.loop-row.at c.loop-row.invariant firsts
+    kept_all (into_iter_items c.into_iter-row-iterator.result) c.loop-row.yielded (into_iter_items c.loop-row.row-iterator)
+    c.loop-row.kept.items c.in_ok-firsts.firsts.items (into_iter_len c.loop-row.row-iterator) c.loop-row.at c.loop-row.invariant firsts
     c.in-None.ensures.steps.0 keys ∙ ap (λ found. first_seen [] (map (found_by keys) found)) gives.0

@@ -7,7 +7,8 @@ use Rattle.operators.proofs.groups.add.Goals as goal
 
 pub overflow_add-index_mut : goal.overflow_add-index_mut
 overflow_add-index_mut g c =
-    let few : c.index_mut.result.now.count + 1 < 2 ^ 32 = few_at c.args.groups.now.items c.in_ok-place.place c.index_mut.result.now (omega (arith, c.if-place-len.true, c.len.ensures)) c.index_mut.ensures.value c.requires.few in
+    let few : c.index_mut.result.now.count + 1 < 2 ^ 32 = few_at c.args.groups.now.items c.in_ok-place.place
+    c.index_mut.result.now (omega (arith, c.if-place-len.true, c.len.ensures)) c.index_mut.ensures.value c.requires.few in
     omega (arith, few)
 
 pub returns-then-place-len-clause-groups : goal.returns-then-place-len-clause-groups

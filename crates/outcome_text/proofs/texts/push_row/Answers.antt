@@ -10,5 +10,6 @@ returns c = elim c.if-values-lt1.branch [
   | in_default w ↦ line-none printed_value c.args.values.now _ _ _ w.in_default.len_below (ap string_bytes w.text-is) c.in_ok-push-2.ensures.bytes
   | in-len1-up+in_ok-push_value+else-loop-value-test w ↦
       (let text = ap string_bytes w.text-is ∙ w.loop-value.invariant in
-      line-some printed_value c.args.values.now w.first-item.result w.loop-value.value-index _ _ _ _ w.in-len1-up.len_at_least w.first-item.is w.in_ok-push_value.ensures w.loop-value-test.false text c.in_ok-push-2.ensures.bytes)
+      line-some printed_value c.args.values.now w.first-item.result w.loop-value.value-index _ _ _ _
+      w.in-len1-up.len_at_least w.first-item.is w.in_ok-push_value.ensures w.loop-value-test.false text c.in_ok-push-2.ensures.bytes)
 ]

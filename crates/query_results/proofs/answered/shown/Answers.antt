@@ -19,9 +19,11 @@ loop-row-preserved g c =
     let was = c.loop-row.invariant.count in
     let less : into_iter_len c.next.new.self ≡ length (into_iter_items c.next.new.self) = omega arith in
     rw c.in_ok-push.ensures.ok
-    (shown_more (into_iter_items c.into_iter-row-iterator.result) c.loop-row.yielded (into_iter_items c.loop-row.row-iterator) c.loop-row.rows (into_iter_len c.loop-row.row-iterator) c.in-Some.row (into_iter_items c.next.new.self) (into_iter_len c.next.new.self) c.loop-row.invariant steps less)
+    (shown_more (into_iter_items c.into_iter-row-iterator.result) c.loop-row.yielded (into_iter_items c.loop-row.row-iterator)
+    c.loop-row.rows (into_iter_len c.loop-row.row-iterator) c.in-Some.row (into_iter_items c.next.new.self) (into_iter_len c.next.new.self) c.loop-row.invariant steps less)
 
 pub returns : goal.returns
 returns g c =
     let gives = c.into_iter-row-iterator.ensures.into_iter_gives in
-    shown_so_far (into_iter_items c.into_iter-row-iterator.result) c.loop-row.yielded (into_iter_items c.loop-row.row-iterator) c.loop-row.rows (into_iter_len c.loop-row.row-iterator) c.loop-row.invariant c.in-None.ensures.steps.0 ∙ ap (map shown_of) gives.0
+    shown_so_far (into_iter_items c.into_iter-row-iterator.result) c.loop-row.yielded (into_iter_items c.loop-row.row-iterator)
+    c.loop-row.rows (into_iter_len c.loop-row.row-iterator) c.loop-row.invariant c.in-None.ensures.steps.0 ∙ ap (map shown_of) gives.0

@@ -25,7 +25,9 @@ pub returns-in-Err : goal.returns-in-Err
 returns-in-Err g c =
     let q = query_of c.args.query.now in
     let room : c.args.found.now.count < 1000000 = omega arith in
-    one_fault (most_shown q) (found_by q.order_by) (found_of q c.args.params.now 0) c.args.row.now c.args.found.now.count c.args.found.now.first (code.Found g.row.K.Denot) (Unit {0}) (found_by {K = g.row.K.Denot} q.order_by) c.in-Err.refusal (c.args.found.now.count + 1) c.args.found.now.first room c.in-Err.ensures
+    one_fault (most_shown q) (found_by q.order_by) (found_of q c.args.params.now 0) c.args.row.now c.args.found.now.count
+    c.args.found.now.first (code.Found g.row.K.Denot) (Unit {0}) (found_by {K = g.row.K.Denot} q.order_by)
+    c.in-Err.refusal (c.args.found.now.count + 1) c.args.found.now.first room c.in-Err.ensures
 
 pub returns : goal.returns
 returns g c =

@@ -20,17 +20,24 @@ loop-page-init g c =
 pub add_results-requires : goal.add_results-requires
 add_results-requires g c =
     rw c.rows.ensures
-    (All_page (λ (row : List Atom). All (λ (item : BoundItem). IsPlacedValue (length row) (length c.args.params.now) item.value) (map item_of c.args.query.now.items)) c.args.pages.now c.loop-page.page-index c.page-item.result c.requires c.loop-page-test.true c.page-item.is)
+    (All_page (λ (row : List Atom). All (λ (item : BoundItem). IsPlacedValue (length row) (length c.args.params.now) item.value) (map item_of c.args.query.now.items))
+    c.args.pages.now c.loop-page.page-index c.page-item.result c.requires c.loop-page-test.true c.page-item.is)
 
 pub returns-in-Err : goal.returns-in-Err
 returns-in-Err g c =
     let q = query_of c.args.query.now in
-    page_fault (most_shown q) (found_by q.order_by) (found_of q c.args.params.now 0) c.args.pages.now c.loop-page.page-index c.page-item.result c.loop-page-test.true c.page-item.is c.loop-page.found.count c.loop-page.found.first c.loop-page.invariant (List (code.Found g.row.K.Denot)) (Unit {0}) (λ (found : List (code.Found g.row.K.Denot)). top_of (most_shown q) (map (found_by q.order_by) found)) c.in-Err.refusal c.add_results.new.found.count c.add_results.new.found.first (rw c.rows.ensures at c.in-Err.ensures)
+    page_fault (most_shown q) (found_by q.order_by) (found_of q c.args.params.now 0) c.args.pages.now
+    c.loop-page.page-index c.page-item.result c.loop-page-test.true c.page-item.is c.loop-page.found.count
+    c.loop-page.found.first c.loop-page.invariant (List (code.Found g.row.K.Denot)) (Unit {0})
+    (λ (found : List (code.Found g.row.K.Denot)). top_of (most_shown q) (map (found_by q.order_by) found))
+    c.in-Err.refusal c.add_results.new.found.count c.add_results.new.found.first (rw c.rows.ensures at c.in-Err.ensures)
 
 pub loop-page-preserved : goal.loop-page-preserved
 loop-page-preserved g c =
     let q = query_of c.args.query.now in
-    page_more (most_shown q) (found_by q.order_by) (found_of q c.args.params.now 0) c.args.pages.now c.loop-page.page-index c.page-item.result c.loop-page-test.true c.page-item.is c.loop-page.found.count c.loop-page.found.first c.loop-page.invariant c.add_results.new.found.count c.add_results.new.found.first (rw c.rows.ensures at c.in-Ok.ensures)
+    page_more (most_shown q) (found_by q.order_by) (found_of q c.args.params.now 0) c.args.pages.now
+    c.loop-page.page-index c.page-item.result c.loop-page-test.true c.page-item.is c.loop-page.found.count
+    c.loop-page.found.first c.loop-page.invariant c.add_results.new.found.count c.add_results.new.found.first (rw c.rows.ensures at c.in-Ok.ensures)
 
 pub returns : goal.returns
 returns g c =

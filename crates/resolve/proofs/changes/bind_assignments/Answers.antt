@@ -13,10 +13,13 @@ returns-in_err-bind_assignment c =
     let p = err_from_is_err_and c.from_residual.result c.from_residual.ensures.1 in
     rw (p.1, p.2)
     (fails bound.assignment_of (map bound.assignment_of) c.in_err-bind_assignment.field-0.0 _ _
-    (λ f h. behind_fault (bind_assignment c.args.declarations.now c.args.def.now (scope_seen c.args.scope.now)) tree.assignment_of _ (map bound.assignment_of c.loop-i.list) f c.args.assignments.now c.loop-i.i c.index-assignments-i.result (omega arith) c.index-assignments-i.is c.loop-i.invariant h)
+    (λ f h. behind_fault (bind_assignment c.args.declarations.now c.args.def.now (scope_seen c.args.scope.now))
+    tree.assignment_of _ (map bound.assignment_of c.loop-i.list) f c.args.assignments.now c.loop-i.i c.index-assignments-i.result (omega arith) c.index-assignments-i.is c.loop-i.invariant h)
     c.in_err-bind_assignment.ensures)
 
 pub loop-i-preserved : goal.loop-i-preserved
 loop-i-preserved c =
     rw ((c.in_ok-push.ensures).ok)
-    (behind_more (bind_assignment c.args.declarations.now c.args.def.now (scope_seen c.args.scope.now)) tree.assignment_of bound.assignment_of _ c.loop-i.list c.in_ok-bind_assignment.field-0 c.args.assignments.now c.loop-i.i c.index-assignments-i.result (omega arith) c.index-assignments-i.is c.loop-i.invariant c.in_ok-bind_assignment.ensures)
+    (behind_more (bind_assignment c.args.declarations.now c.args.def.now (scope_seen c.args.scope.now))
+    tree.assignment_of bound.assignment_of _ c.loop-i.list c.in_ok-bind_assignment.field-0 c.args.assignments.now
+    c.loop-i.i c.index-assignments-i.result (omega arith) c.index-assignments-i.is c.loop-i.invariant c.in_ok-bind_assignment.ensures)

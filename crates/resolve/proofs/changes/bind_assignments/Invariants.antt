@@ -11,4 +11,5 @@ use Rattle.resolve.proofs.changes.bind_assignments.Given as goal
 abbrev pub invariant-loop-i : goal.invariant-loop-i
 invariant-loop-i l =
     each_from (nth_assignment l.declarations l.def (scope_seen l.scope) (map tree.assignment_of l.assignments)) 0 (map tree.assignment_of l.assignments)
-    ≡ onto (map bound.assignment_of l.list) (each_from (nth_assignment l.declarations l.def (scope_seen l.scope) (map tree.assignment_of l.assignments)) l.i (map tree.assignment_of (drop l.i l.assignments)))
+    ≡ onto (map bound.assignment_of l.list)
+    (each_from (nth_assignment l.declarations l.def (scope_seen l.scope) (map tree.assignment_of l.assignments)) l.i (map tree.assignment_of (drop l.i l.assignments)))

@@ -14,7 +14,8 @@ use Rattle.row_changes.proofs.deletes.hits.Goals as goal
 pub selects-requires : goal.selects-requires
 selects-requires g c =
     rw c.whole.ensures
-    (all_there (λ row. IsPlacedFilter (length row.now) (length c.args.params.now) (option_map condition_of c.args.filter.now)) c.args.rows.now c.loop-row.row-index c.row-item.result c.requires c.loop-row-test.true c.row-item.is)
+    (all_there (λ row. IsPlacedFilter (length row.now) (length c.args.params.now) (option_map condition_of c.args.filter.now))
+    c.args.rows.now c.loop-row.row-index c.row-item.result c.requires c.loop-row-test.true c.row-item.is)
 
 pub returns-in-Err-clause-hits : goal.returns-in-Err-clause-hits
 returns-in-Err-clause-hits g c =
@@ -23,7 +24,8 @@ returns-in-Err-clause-hits g c =
     let i = c.loop-row.row-index in
     let lt : i < length R = omega (arith, c.loop-row-test.true, length-map c.args.rows.now (λ row. row.now)) in
     let is = read_mapped (λ row. row.now) c.args.rows.now i c.row-item.result c.loop-row-test.true c.row-item.is in
-    hit_failed filter c.args.params.now (all_tested R) R i c.row-item.result.now (all_tested (take i R) c.loop-row.hits) lt is c.loop-row.invariant.so_far c.in-Err.refusal (rw c.whole.ensures at c.in-Err.ensures)
+    hit_failed filter c.args.params.now (all_tested R) R i c.row-item.result.now (all_tested (take i R) c.loop-row.hits)
+    lt is c.loop-row.invariant.so_far c.in-Err.refusal (rw c.whole.ensures at c.in-Err.ensures)
 
 pub loop-row-preserved : goal.loop-row-preserved
 loop-row-preserved g c =
@@ -34,7 +36,8 @@ loop-row-preserved g c =
     let is = read_mapped (λ row. row.now) c.args.rows.now i c.row-item.result c.loop-row-test.true c.row-item.is in
     let made = ap (λ (row : List Atom). selects c.args.params.now filter row) (sym c.whole.ensures) ∙ c.in-Ok.ensures in
     rw c.in_ok-push-in-Ok.ensures.ok (record {
-      so_far = hits_more (row_to_delete filter c.args.params.now) R i c.row-item.result.now (each (row_to_delete filter c.args.params.now) R) c.loop-row.hits c.in-Ok.hit lt is c.loop-row.invariant.long c.loop-row.invariant.so_far
+      so_far = hits_more (row_to_delete filter c.args.params.now) R i c.row-item.result.now
+          (each (row_to_delete filter c.args.params.now) R) c.loop-row.hits c.in-Ok.hit lt is c.loop-row.invariant.long c.loop-row.invariant.so_far
           (ap (λ s. s >>= tested_row c.row-item.result.now) made);
       long = omega (arith, length-append c.loop-row.hits (c.in-Ok.hit ∷ []), c.loop-row.invariant.long);
     })

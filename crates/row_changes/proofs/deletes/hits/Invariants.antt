@@ -10,6 +10,7 @@ use Rattle.row_changes.proofs.deletes.hits.Given as goal
 abbrev pub invariant-loop-row : goal.invariant-loop-row
 invariant-loop-row g l = record {
   so_far : each (row_to_delete (option_map condition_of l.filter) l.params) (map (λ row. row.now) l.rows)
-      ≡ collected (all_tested (take l.row-index (map (λ row. row.now) l.rows)) l.hits) (each (row_to_delete (option_map condition_of l.filter) l.params) (drop l.row-index (map (λ row. row.now) l.rows)));
+      ≡ collected (all_tested (take l.row-index (map (λ row. row.now) l.rows)) l.hits)
+      (each (row_to_delete (option_map condition_of l.filter) l.params) (drop l.row-index (map (λ row. row.now) l.rows)));
   long : length l.hits ≡ l.row-index;
 }

@@ -12,12 +12,14 @@ use Rattle.row_changes.proofs.inserts.new_rows.Goals as goal
 
 pub new_row-requires-clause-count : goal.new_row-requires-clause-count
 new_row-requires-clause-count g c =
-    let h = All_there (λ (row : BoundRow). (length row.values ≡ length c.args.named.now) × All (IsPlaced 0 (length c.args.params.now)) row.values) row_of c.args.bound.now c.loop-row.row-index c.row-item.result c.loop-row-test.true c.row-item.is c.requires.rows in
+    let h = All_there (λ (row : BoundRow). (length row.values ≡ length c.args.named.now) × All (IsPlaced 0 (length c.args.params.now)) row.values)
+    row_of c.args.bound.now c.loop-row.row-index c.row-item.result c.loop-row-test.true c.row-item.is c.requires.rows in
     ap length c.as_slice.ensures ∙ sym (length-map c.row-item.result.values operand_of) ∙ h.0
 
 pub new_row-requires-clause-values : goal.new_row-requires-clause-values
 new_row-requires-clause-values g c =
-    let h = All_there (λ (row : BoundRow). (length row.values ≡ length c.args.named.now) × All (IsPlaced 0 (length c.args.params.now)) row.values) row_of c.args.bound.now c.loop-row.row-index c.row-item.result c.loop-row-test.true c.row-item.is c.requires.rows in
+    let h = All_there (λ (row : BoundRow). (length row.values ≡ length c.args.named.now) × All (IsPlaced 0 (length c.args.params.now)) row.values)
+    row_of c.args.bound.now c.loop-row.row-index c.row-item.result c.loop-row-test.true c.row-item.is c.requires.rows in
     rw c.as_slice.ensures h.1
 
 pub loop-row-preserved : goal.loop-row-preserved

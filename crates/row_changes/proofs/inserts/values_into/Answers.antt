@@ -17,4 +17,5 @@ loop-i-preserved g c =
     let ln : c.loop-i.i < length c.args.named.now = omega arith in
     rw c.in_ok-push.ensures.ok
     (values_more c.args.columns.now c.args.row.now c.args.params.now c.args.named.now c.args.values.now c.loop-i.i c.index-values-i.result ln c.loop-i-test.true c.index-values-i.is
-    (values_into c.args.columns.now c.args.row.now c.args.params.now c.args.named.now (map operand_of c.args.values.now)) c.loop-i.given c.in_ok-value_into.field-0 c.loop-i.invariant c.in_ok-value_into.ensures)
+    (values_into c.args.columns.now c.args.row.now c.args.params.now c.args.named.now (map operand_of c.args.values.now))
+    c.loop-i.given c.in_ok-value_into.field-0 c.loop-i.invariant c.in_ok-value_into.ensures)

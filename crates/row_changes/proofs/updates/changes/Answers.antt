@@ -14,7 +14,8 @@ returns-in-Err-clause-changes g c =
     let i = c.loop-place.place in
     let lt : i < length R = omega (arith, c.loop-place-test.true, length-map c.args.rows.now (λ row. row.now)) in
     let is = read_mapped (λ row. row.now) c.args.rows.now i c.index-rows-place.result c.loop-place-test.true c.index-rows-place.is in
-    change_failed f (λ changes. all_changed R (spread 0 (length c.args.rows.now) changes)) R i c.index-rows-place.result.now (all_changed (take i R) (spread 0 i c.loop-place.changes)) lt is c.loop-place.invariant.so_far c.in-Err.refusal
+    change_failed f (λ changes. all_changed R (spread 0 (length c.args.rows.now) changes)) R i c.index-rows-place.result.now
+    (all_changed (take i R) (spread 0 i c.loop-place.changes)) lt is c.loop-place.invariant.so_far c.in-Err.refusal
     (tested_with c.index-rows-place.result.now) c.in-Err.ensures
 
 pub loop-place-preserved : goal.loop-place-preserved

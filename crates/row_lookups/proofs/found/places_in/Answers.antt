@@ -14,6 +14,7 @@ returns g c =
     let rows = c.args.table.now.rows in
     let same : look c.as_slice.result.now (operands_listed c.as_slice-2.result.now) ≡ lookup_made c.args.lookup.now =
     ap (λ ps. look ps (operands_listed c.as_slice-2.result.now)) c.as_slice.ensures ∙ ap (λ ks. look c.args.lookup.now.places (operands_listed ks)) c.as_slice-2.ensures in
-    let e : places_where (is_found c.args.params.now (look c.as_slice.result.now (operands_listed c.as_slice-2.result.now)) c.args.row.now) 0 rows ≡ places_where (is_found c.args.params.now (lookup_made c.args.lookup.now) c.args.row.now) 0 rows =
+    let e : places_where (is_found c.args.params.now (look c.as_slice.result.now (operands_listed c.as_slice-2.result.now)) c.args.row.now)
+    0 rows ≡ places_where (is_found c.args.params.now (lookup_made c.args.lookup.now) c.args.row.now) 0 rows =
     ap (λ (l : Lookup). places_where (is_found c.args.params.now l c.args.row.now) 0 rows) same in
     rw e at c.places_found.ensures

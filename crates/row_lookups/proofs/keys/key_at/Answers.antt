@@ -7,4 +7,5 @@ use Rattle.row_lookups.proofs.keys.key_at.Goals as goal
 
 pub worth-requires : goal.worth-requires
 worth-requires g c =
-    All_there (IsPlaced (length c.args.row.now) (length c.args.params.now)) (λ v. operand_of v.now) c.args.values.now c.loop-value.value-index c.value-item.result c.loop-value-test.true c.value-item.is c.requires
+    All_there (IsPlaced (length c.args.row.now) (length c.args.params.now)) (λ v. operand_of v.now) c.args.values.now
+    c.loop-value.value-index c.value-item.result c.loop-value-test.true c.value-item.is c.requires

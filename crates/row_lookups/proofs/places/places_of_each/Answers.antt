@@ -11,14 +11,16 @@ use Rattle.row_lookups.proofs.places.places_of_each.Goals as goal
 pub key_at-requires : goal.key_at-requires
 key_at-requires g c =
     rw c.as_slice.ensures
-    (All_there (λ values. All (IsPlaced (length c.args.row.now) (length c.args.params.now)) values) operands_lent c.args.keys.now c.loop-values.values-index c.values-item.result c.loop-values-test.true c.values-item.is c.requires.placed)
+    (All_there (λ values. All (IsPlaced (length c.args.row.now) (length c.args.params.now)) values) operands_lent
+    c.args.keys.now c.loop-values.values-index c.values-item.result c.loop-values-test.true c.values-item.is c.requires.placed)
 
 pub loop-values-preserved : goal.loop-values-preserved
 loop-values-preserved g c =
     let columns = c.args.columns.now in
     let rows = c.args.table.now.rows in
     let key = rw c.as_slice.ensures at c.in_ok-key.ensures in
-    each_more operands_lent c.args.params.now c.args.row.now columns rows c.args.keys.now c.loop-values.values-index c.values-item.result c.loop-values.places.items c.places_with.new.places.items (places_with columns c.in_ok-key.key rows) _
+    each_more operands_lent c.args.params.now c.args.row.now columns rows c.args.keys.now c.loop-values.values-index
+    c.values-item.result c.loop-values.places.items c.places_with.new.places.items (places_with columns c.in_ok-key.key rows) _
     c.loop-values-test.true c.values-item.is (ap (λ k. places_with columns k rows) key) c.in_ok-places_with.ensures c.loop-values.invariant
 
 pub returns : goal.returns

@@ -6,4 +6,5 @@ use Rattle.row_lookups.proofs.places.places_of_each.Given as goal
 
 abbrev pub invariant-loop-values : goal.invariant-loop-values
 invariant-loop-values g l =
-    l.places.items ++ places_of_each l.params l.row l.columns (operands_listed (drop l.values-index l.keys)) l.table.rows ≡ places_of_each l.params l.row l.columns (operands_listed l.keys) l.table.rows
+    l.places.items ++ places_of_each l.params l.row l.columns (operands_listed (drop l.values-index l.keys))
+    l.table.rows ≡ places_of_each l.params l.row l.columns (operands_listed l.keys) l.table.rows

@@ -6,5 +6,6 @@ use Rattle.row_store.proofs.numbers.place_in.Goals as goal
 
 pub unreachable-requires : goal.unreachable-requires
 unreachable-requires c =
-    let s = rw c.in-Err.is at (searched c.args.numbers.now c.args.number c.binary_search.result c.binary_search.ensures.position (rising_order 0 c.requires.rising.0 c.args.numbers.now c.requires.rising.1)) in
+    let s = rw c.in-Err.is at
+    (searched c.args.numbers.now c.args.number c.binary_search.result c.binary_search.ensures.position (rising_order 0 c.requires.rising.0 c.args.numbers.now c.requires.rising.1)) in
     absent c.args.numbers.now c.args.number c.in-Err.field-0 s.1 s.2 c.requires.there

@@ -38,7 +38,8 @@ loop-place-preserved g c =
       values = same ∙ h.values;
       kept = λ page own. c.own_near.ensures.kept page (h.kept page own);
       capacity = c.own_near.ensures.capacity ∙ h.capacity;
-      own = All_taken (IsRemovable new) c.args.places.now i 0 c.loop-place-test.true (All_more (IsRemovable pages) (IsRemovable new) (removable_stays pages new same c.own_near.ensures.kept) _ h.own) here;
+      own = All_taken (IsRemovable new) c.args.places.now i 0 c.loop-place-test.true
+          (All_more (IsRemovable pages) (IsRemovable new) (removable_stays pages new same c.own_near.ensures.kept) _ h.own) here;
     }
 
 pub returns-clause-own : goal.returns-clause-own

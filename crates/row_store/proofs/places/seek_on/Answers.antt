@@ -11,7 +11,8 @@ returns-then-i-before-clause-place g c =
     let behind = c.loop-page.invariant.behind in
     let pages = c.args.pages.now in
     let page = c.index-pages-page.result in
-    start_place (values pages) c.args.i c.loop-page.page (c.args.i - c.loop-page.before) page.value (omega (arith, c.loop-page-test.true, values_length pages)) (value_at pages c.loop-page.page page c.index-pages-page.is)
+    start_place (values pages) c.args.i c.loop-page.page (c.args.i - c.loop-page.before) page.value
+    (omega (arith, c.loop-page-test.true, values_length pages)) (value_at pages c.loop-page.page page c.index-pages-page.is)
     (omega (arith, start, behind)) (omega (arith, c.if-i-before.true, c.len-rows.ensures.len))
 
 pub loop-page-preserved : goal.loop-page-preserved

@@ -22,7 +22,8 @@ loop-place-preserved g c =
     let p = get_or c.args.places.now i 0 in
     let at = p - c.seek-near.result.before in
     let row = c.get.result in
-    let is = c.get.ensures row.now ∙ place_read (values pages) p c.seek-near.result.page at page.value row.now c.seek-near.ensures.place (value_at pages c.seek-near.result.page page c.index-pages-near.is) in
+    let is = c.get.ensures row.now ∙ place_read (values pages) p c.seek-near.result.page at page.value row.now
+    c.seek-near.ensures.place (value_at pages c.seek-near.result.page page c.index-pages-near.is) in
     let more = lent_more (flat pages) c.args.places.now i p (map (λ row. row.now) c.loop-place.rows.items) c.loop-place-test.true refl c.loop-place.invariant.lent row.now is in
     record {
       lent = subst (AreLent (flat pages) c.args.places.now (i + 1)) (sym (ap (map (λ row. row.now)) c.in_ok-push.ensures.items ∙ map-append (λ row. row.now) c.loop-place.rows.items (row ∷ []))) more;

@@ -23,7 +23,8 @@ loop-page-preserved g c =
     let one : c.loop-page.page - 1 + 1 ≡ c.loop-page.page = omega (arith, c.loop-page-test.true) in
     let within = h.within in
     record {
-      so_far = pack_more (values c.args.pages.now.items) (values c.loop-page.pages.items) (values c.merge.new.pages.items) c.loop-page.page (c.loop-page.page - 1) one within h.so_far c.merge.ensures.pages;
+      so_far = pack_more (values c.args.pages.now.items) (values c.loop-page.pages.items) (values c.merge.new.pages.items)
+          c.loop-page.page (c.loop-page.page - 1) one within h.so_far c.merge.ensures.pages;
       within = omega (arith, within);
       ready = c.merge.ensures.ready;
       capacity = c.merge.ensures.capacity ∙ h.capacity;

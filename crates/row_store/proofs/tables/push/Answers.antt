@@ -36,7 +36,8 @@ returns-then-last_room-gt0-clause-rows g c =
     let room = rw c.as_slice.ensures.value at c.last_room.ensures in
     let pos : 0 < last_room (lengths pages) = omega (arith, room, c.if-last_room-gt0.true) in
     let n : i + 1 ≡ length (values pages) = omega (arith, some_page (values pages) pos, values_length pages, c.len-last.ensures, c.args.pages.now.ok.0) in
-    ap joined (values_set pages i c.push.new.self ∙ ap (λ (p : Owned _). slice_set (values pages) i p.value) c.push.ensures) ∙ last_flat (values pages) i page.value c.args.row n (value_at pages i page c.index_mut.ensures.value)
+    ap joined (values_set pages i c.push.new.self ∙ ap (λ (p : Owned _). slice_set (values pages) i p.value) c.push.ensures)
+    ∙ last_flat (values pages) i page.value c.args.row n (value_at pages i page c.index_mut.ensures.value)
 
 pub returns-then-last_room-gt0-clause-kept : goal.returns-then-last_room-gt0-clause-kept
 returns-then-last_room-gt0-clause-kept g c =

@@ -23,7 +23,9 @@ pub seek-near-requires-clause-within : goal.seek-near-requires-clause-within
 seek-near-requires-clause-within g c =
     let s = c.loop-change.invariant.writing in
     let now = values c.loop-change.pages.items in
-    rw c.as_slice.ensures.value (placed_here (values c.args.pages.now.items) now now c.args.changes c.loop-change.change-iterator.rest.items c.next.new.self.rest.items c.in-Some.change c.loop-change.near.page c.loop-change.near.before c.in-Some.ensures.steps.0 s)
+    rw c.as_slice.ensures.value
+    (placed_here (values c.args.pages.now.items) now now c.args.changes c.loop-change.change-iterator.rest.items
+    c.next.new.self.rest.items c.in-Some.change c.loop-change.near.page c.loop-change.near.before c.in-Some.ensures.steps.0 s)
 
 pub index_mut-requires : goal.index_mut-requires
 index_mut-requires g c =
@@ -35,7 +37,8 @@ pub set-requires-clause-within : goal.set-requires-clause-within
 set-requires-clause-within g c =
     let p = rw c.as_slice.ensures.value at c.seek-near.ensures.place in
     let pages = c.loop-change.pages.items in
-    place_inside (values pages) c.in-Some.change.place c.seek-near.result.page _ c.index_mut.result.now.value p (value_at pages c.seek-near.result.page c.index_mut.result.now c.index_mut.ensures.value)
+    place_inside (values pages) c.in-Some.change.place c.seek-near.result.page _ c.index_mut.result.now.value
+    p (value_at pages c.seek-near.result.page c.index_mut.result.now c.index_mut.ensures.value)
 
 pub set-requires-clause-own : goal.set-requires-clause-own
 set-requires-clause-own g c =
@@ -47,7 +50,8 @@ set-requires-clause-own g c =
     let at = change.place - c.seek-near.result.before in
     let p = rw c.as_slice.ensures.value at c.seek-near.ensures.place in
     let lt : page < length pages = omega (arith, place_within (values pages) change.place page at p, values_length pages) in
-    let here : IsWritable old change.place = All-head (λ change. IsWritable old change.place) change c.next.new.self.rest.items (subst (All (λ change. IsWritable old change.place)) c.in-Some.ensures.steps.0 h.left) in
+    let here : IsWritable old change.place = All-head (λ change. IsWritable old change.place) change
+    c.next.new.self.rest.items (subst (All (λ change. IsWritable old change.place)) c.in-Some.ensures.steps.0 h.left) in
     own_here pages page c.index_mut.result.now lt c.index_mut.ensures.value (h.own page (here page at (place_same (values old) (values pages) change.place page at h.writing.lengths_same p)))
 
 pub loop-change-preserved : goal.loop-change-preserved
@@ -66,7 +70,8 @@ loop-change-preserved g c =
     let rows = ap joined made ∙ place_set (values pages) change.place page at was.value change.row p is in
     let lens = ap sizes made ∙ lengths_set (values pages) page at was.value change.row is in
     record {
-      writing = writing_more (values old) (values pages) (values (slice_set pages page new)) c.args.changes c.loop-change.change-iterator.rest.items c.next.new.self.rest.items change c.loop-change.near.page c.loop-change.near.before
+      writing = writing_more (values old) (values pages) (values (slice_set pages page new)) c.args.changes
+          c.loop-change.change-iterator.rest.items c.next.new.self.rest.items change c.loop-change.near.page c.loop-change.near.before
           c.in-Some.ensures.steps.0 h.writing page c.seek-near.result.before rows lens (c.seek-near.ensures.start ∙ ap (λ ps. rows_before page (values ps)) c.as_slice.ensures.value);
       left = All-tail (λ change. IsWritable old change.place) change c.next.new.self.rest.items (subst (All (λ change. IsWritable old change.place)) c.in-Some.ensures.steps.0 h.left);
       own = λ k own. own_stays pages page new (ap (λ (p : Owned _). p.own) c.set.ensures) k (h.own k own);
@@ -76,4 +81,5 @@ loop-change-preserved g c =
 pub returns-clause-rows : goal.returns-clause-rows
 returns-clause-rows g c =
     let s = c.loop-change.invariant.writing in
-    writing_over (values c.args.pages.now.items) (values c.loop-change.pages.items) c.args.changes c.loop-change.change-iterator.rest.items c.loop-change.near.page c.loop-change.near.before (omega (arith, c.in-None.ensures.steps.0, c.loop-change.change-iterator.rest.ok.0)) s
+    writing_over (values c.args.pages.now.items) (values c.loop-change.pages.items) c.args.changes
+    c.loop-change.change-iterator.rest.items c.loop-change.near.page c.loop-change.near.before (omega (arith, c.in-None.ensures.steps.0, c.loop-change.change-iterator.rest.ok.0)) s

@@ -16,7 +16,8 @@ drop_at-used-requires-clause-fits g c =
     let old = c.args.pages.now.items in
     let now = c.loop-page.pages.items in
     let s = c.loop-page.invariant.thinned in
-    let lt : c.loop-page.page < length now = omega (arith, c.loop-page-test.true, thinned_long old now c.args.places.now c.loop-page.page c.loop-page.before c.loop-page.used s, c.len-page-end.ensures, c.args.pages.now.ok.0) in
+    let lt : c.loop-page.page < length now = omega
+    (arith, c.loop-page-test.true, thinned_long old now c.args.places.now c.loop-page.page c.loop-page.before c.loop-page.used s, c.len-page-end.ensures, c.args.pages.now.ok.0) in
     let w = thinned_within old now c.args.places.now c.loop-page.page c.loop-page.before c.loop-page.used c.index_mut.result.now lt c.index_mut.ensures.value s in
     omega (arith, w, c.requires.few)
 
@@ -25,19 +26,22 @@ drop_at-used-requires-clause-own g c = λ e.
     let old = c.args.pages.now.items in
     let now = c.loop-page.pages.items in
     let s = c.loop-page.invariant.thinned in
-    let lt : c.loop-page.page < length now = omega (arith, c.loop-page-test.true, thinned_long old now c.args.places.now c.loop-page.page c.loop-page.before c.loop-page.used s, c.len-page-end.ensures, c.args.pages.now.ok.0) in
+    let lt : c.loop-page.page < length now = omega
+    (arith, c.loop-page-test.true, thinned_long old now c.args.places.now c.loop-page.page c.loop-page.before c.loop-page.used s, c.len-page-end.ensures, c.args.pages.now.ok.0) in
     let page = c.index_mut.result.now in
     let before = c.loop-page.before in
     let left = drop c.loop-page.used c.args.places.now in
     let all = take_all (length c.args.places.now - c.loop-page.used) left (omega (arith, length-drop c.loop-page.used c.args.places.now)) in
-    thinned_own old now c.args.places.now c.loop-page.page before c.loop-page.used page lt c.index_mut.ensures.value s c.requires.own (subst (λ ps. is_inside before (before + length page.value) ps ≡ true) all e)
+    thinned_own old now c.args.places.now c.loop-page.page before c.loop-page.used page lt c.index_mut.ensures.value
+    s c.requires.own (subst (λ ps. is_inside before (before + length page.value) ps ≡ true) all e)
 
 pub overflow_add-before : goal.overflow_add-before
 overflow_add-before g c =
     let old = c.args.pages.now.items in
     let now = c.loop-page.pages.items in
     let s = c.loop-page.invariant.thinned in
-    let lt : c.loop-page.page < length now = omega (arith, c.loop-page-test.true, thinned_long old now c.args.places.now c.loop-page.page c.loop-page.before c.loop-page.used s, c.len-page-end.ensures, c.args.pages.now.ok.0) in
+    let lt : c.loop-page.page < length now = omega
+    (arith, c.loop-page-test.true, thinned_long old now c.args.places.now c.loop-page.page c.loop-page.before c.loop-page.used s, c.len-page-end.ensures, c.args.pages.now.ok.0) in
     let w = thinned_within old now c.args.places.now c.loop-page.page c.loop-page.before c.loop-page.used c.index.result.now lt c.index.ensures s in
     omega (arith, w, c.len-rows.ensures.len, c.requires.few)
 
@@ -47,7 +51,8 @@ loop-page-preserved g c =
     let now = c.loop-page.pages.items in
     let page = c.loop-page.page in
     let s = c.loop-page.invariant.thinned in
-    let lt : page < length now = omega (arith, c.loop-page-test.true, thinned_long old now c.args.places.now page c.loop-page.before c.loop-page.used s, c.len-page-end.ensures, c.args.pages.now.ok.0) in
+    let lt : page < length now = omega
+    (arith, c.loop-page-test.true, thinned_long old now c.args.places.now page c.loop-page.before c.loop-page.used s, c.len-page-end.ensures, c.args.pages.now.ok.0) in
     let rows = c.index_mut.result.now in
     let new = c.drop_at-used.new.self in
     let same : c.index.result.now ≡ rows = c.index.ensures ∙ same_there now page c.index.result.now rows lt ∙ sym c.index_mut.ensures.value in
@@ -77,7 +82,8 @@ pub returns-clause-small : goal.returns-clause-small
 returns-clause-small g c = c.loop-page.invariant.thinned.left.thinning.small
 
 pub returns-clause-ready : goal.returns-clause-ready
-returns-clause-ready g c = thinned_ready c.args.pages.now.items c.loop-page.pages.items c.args.places.now c.loop-page.page c.loop-page.before c.loop-page.used c.requires.paged.dense c.loop-page.invariant.thinned
+returns-clause-ready g c = thinned_ready c.args.pages.now.items c.loop-page.pages.items c.args.places.now
+    c.loop-page.page c.loop-page.before c.loop-page.used c.requires.paged.dense c.loop-page.invariant.thinned
 
 pub returns-clause-length : goal.returns-clause-length
 returns-clause-length g c = thinned_long c.args.pages.now.items c.loop-page.pages.items c.args.places.now c.loop-page.page c.loop-page.before c.loop-page.used c.loop-page.invariant.thinned

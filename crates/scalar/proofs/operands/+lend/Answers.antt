@@ -33,7 +33,8 @@ pub lend-returns-in-Ok-lend : goal.lend-returns-in-Ok-lend
 lend-returns-in-Ok-lend g t c =
     c.add_terms.ensures
     ∙ ap (λ a. eval_terms c.args.row.now c.args.params.now a (terms_listed c.deref-in-Ok-lend.result.now)) c.number_or_null.ensures
-    ∙ sym (sum_of_parts _ _ c.args.operand.now c.deref-in-Sum.result.now c.in-Sum.first c.in-Sum.terms _ _ c.in-Sum.is c.deref-in-Sum.ensures c.deref-in-Ok-lend.ensures.value (sym c.lend-in-Sum.ensures ∙ c.in-Ok-lend.is))
+    ∙ sym (sum_of_parts _ _ c.args.operand.now c.deref-in-Sum.result.now c.in-Sum.first c.in-Sum.terms _ _
+    c.in-Sum.is c.deref-in-Sum.ensures c.deref-in-Ok-lend.ensures.value (sym c.lend-in-Sum.ensures ∙ c.in-Ok-lend.is))
 
 pub add_terms-returns-in_err-sum : goal.add_terms-returns-in_err-sum
 add_terms-returns-in_err-sum g t c =

@@ -15,5 +15,6 @@ invariant-batches g l = record {
   from : l.rotation.from ≡ l.old;
   into : l.rotation.into ≡ l.new;
   goes : (k : Ends) → Proceeds (beginning l.fn.driver.trusted l.number l.old l.new k (session_of l.fn.driver l.number))
-      (standing l.fn.driver.trusted l.number l.old l.new k l.rotation.sent (columns_of l.driver l.number) l.outcome (session_of l.driver l.number)) (g.A.Around.outside l.fn.env) (g.A.Around.outside l.env);
+      (standing l.fn.driver.trusted l.number l.old l.new k l.rotation.sent (columns_of l.driver l.number) l.outcome (session_of l.driver l.number))
+      (g.A.Around.outside l.fn.env) (g.A.Around.outside l.env);
 }

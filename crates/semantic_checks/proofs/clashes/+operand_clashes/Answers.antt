@@ -8,7 +8,9 @@ pub operand_clashes-returns-in_ok-first_clash-in-Sum : goal.operand_clashes-retu
 operand_clashes-returns-in_ok-first_clash-in-Sum t c =
     three c.terms_clashes.result c.args.found.now c.operand_clashes-in-Sum.new.found c.first_clash.new.found c.terms_clashes.new.found _ _ _ _
     c.in_ok-operand_clashes-in-Sum.ensures c.in_ok-first_clash-in-Sum.ensures c.terms_clashes.ensures
-    (sum_clashes (types_seen c.args.types.now) c.args.operand.now c.deref-in-Sum.result.now c.deref-in-Sum-2.result.now c.in-Sum.first c.in-Sum.terms c.deref-in-Sum-3.result.now c.deref-in-Sum-4.result.now c.in-Sum.is c.deref-in-Sum.ensures c.deref-in-Sum-2.ensures c.deref-in-Sum-3.ensures.value c.deref-in-Sum-4.ensures.value)
+    (sum_clashes (types_seen c.args.types.now) c.args.operand.now c.deref-in-Sum.result.now c.deref-in-Sum-2.result.now
+    c.in-Sum.first c.in-Sum.terms c.deref-in-Sum-3.result.now c.deref-in-Sum-4.result.now c.in-Sum.is
+    c.deref-in-Sum.ensures c.deref-in-Sum-2.ensures c.deref-in-Sum-3.ensures.value c.deref-in-Sum-4.ensures.value)
 
 pub terms_clashes-loop-term-preserved : goal.terms_clashes-loop-term-preserved
 terms_clashes-loop-term-preserved t c =

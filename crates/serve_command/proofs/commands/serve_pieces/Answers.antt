@@ -13,7 +13,8 @@ pub returns-in-Refused-clause-content : goal.returns-in-Refused-clause-content
 returns-in-Refused-clause-content g c =
     let p = c.in-Bytes.ensures.piece in
     let fits : length c.in-Bytes.piece ≤ c.pieces.left = omega (arith, p.1) in
-    ends_refused c.requests_are_serial.ensures _ _ _ _ _ _ _ c.pieces.invariant.goes c.in-Bytes.piece (g.S.Source.left c.take.new.self) c.in-Bytes.ensures.content fits c.in-Refused.place _ c.in-Refused.ensures.comes
+    ends_refused c.requests_are_serial.ensures _ _ _ _ _ _ _ c.pieces.invariant.goes c.in-Bytes.piece
+    (g.S.Source.left c.take.new.self) c.in-Bytes.ensures.content fits c.in-Refused.place _ c.in-Refused.ensures.comes
 
 pub returns-in-WriteFault-clause-content : goal.returns-in-WriteFault-clause-content
 returns-in-WriteFault-clause-content g c =
@@ -26,7 +27,8 @@ pub returns-in-OutOfMemory-answer_piece-clause-content :
 returns-in-OutOfMemory-answer_piece-clause-content g c =
     let p = c.in-Bytes.ensures.piece in
     let fits : length c.in-Bytes.piece ≤ c.pieces.left = omega (arith, p.1) in
-    ends_unheld c.requests_are_serial.ensures _ _ _ _ _ _ _ c.pieces.invariant.goes c.in-Bytes.piece (g.S.Source.left c.take.new.self) c.in-Bytes.ensures.content fits _ c.in-OutOfMemory-answer_piece.ensures.comes
+    ends_unheld c.requests_are_serial.ensures _ _ _ _ _ _ _ c.pieces.invariant.goes c.in-Bytes.piece
+    (g.S.Source.left c.take.new.self) c.in-Bytes.ensures.content fits _ c.in-OutOfMemory-answer_piece.ensures.comes
 
 pub pieces-preserved : goal.pieces-preserved
 pieces-preserved g c =
@@ -34,13 +36,15 @@ pieces-preserved g c =
     let fits : length c.in-Bytes.piece ≤ c.pieces.left = omega (arith, p.1) in
     let l = c.len-left.ensures in
     record {
-      goes = goes_on c.requests_are_serial.ensures _ _ _ _ _ _ _ c.pieces.invariant.goes c.in-Bytes.piece (g.S.Source.left c.take.new.self) c.in-Bytes.ensures.content fits _ c.answer_piece.new.feed c.answer_piece.new.server _ (omega (arith, fits, l)) c.in-Waits.ensures.comes;
+      goes = goes_on c.requests_are_serial.ensures _ _ _ _ _ _ _ c.pieces.invariant.goes c.in-Bytes.piece
+          (g.S.Source.left c.take.new.self) c.in-Bytes.ensures.content fits _ c.answer_piece.new.feed c.answer_piece.new.server _ (omega (arith, fits, l)) c.in-Waits.ensures.comes;
       takes = c.in-Bytes.ensures.counts ∙ c.pieces.invariant.takes;
       puts = c.in-Waits.ensures.counts ∙ c.pieces.invariant.puts;
     }
 
 pub returns-in-End-clause-content : goal.returns-in-End-clause-content
-returns-in-End-clause-content g c = ends_whole c.requests_are_serial.ensures _ _ _ _ _ _ _ c.pieces.invariant.goes c.at_end.result (g.S.Source.left c.take.new.self) c.in-End.ensures.content c.at_end.ensures
+returns-in-End-clause-content g c = ends_whole c.requests_are_serial.ensures _ _ _ _ _ _ _ c.pieces.invariant.goes
+    c.at_end.result (g.S.Source.left c.take.new.self) c.in-End.ensures.content c.at_end.ensures
 
 pub returns-in-Failed-clause-content : goal.returns-in-Failed-clause-content
 returns-in-Failed-clause-content g c = ends_unread c.requests_are_serial.ensures _ _ _ _ _ _ _ c.pieces.invariant.goes (g.S.Source.left c.take.new.self) c.in-Failed.ensures.content

@@ -3,7 +3,8 @@ use Rattle.served_rotations.proofs.laws.finished_rotations_are_whole.Goals as go
 
 pub returns : goal.returns
 returns c =
-    whole c.proper_tables_stay.ensures c.texts_parse.ensures c.begins_commits_and_rolls_back.ensures c.reading_is_whole.ensures c.putting_is_an_insert.ensures c.replacing_is_replacement.ensures c.rotation_texts_mean.ensures
+    whole c.proper_tables_stay.ensures c.texts_parse.ensures c.begins_commits_and_rolls_back.ensures
+    c.reading_is_whole.ensures c.putting_is_an_insert.ensures c.replacing_is_replacement.ensures c.rotation_texts_mean.ensures
     c.requests_may_be_asked.ensures c.rotations_are_whole.ensures (record { stays = c.proper_values_stay.ensures; texts = c.texts_are_proper.ensures })
     (record {
       opened = c.opened_are_keys.ensures.derived;

@@ -19,10 +19,13 @@ and_literals-literals-smaller t c =
 
 pub and_literals-literals-preserved : goal.and_literals-literals-preserved
 and_literals-literals-preserved t c =
-    goes_push condition_of (terminal.Word keyword.And ∷ []) (and_literal (operand_parens c.args.depth) (inner_parens c.args.depth)) (and_shortens c.args.depth) c.args.tokens.now c.literals.all c.push.new.self c.in_ok-and_literal.field-0 c.literals.tokens c.and_literal.new.tokens c.literals.invariant (sym c.literals-test.ensures) c.in_ok-and_literal.ensures c.in_ok-push.ensures.ok
+    goes_push condition_of (terminal.Word keyword.And ∷ []) (and_literal (operand_parens c.args.depth) (inner_parens c.args.depth))
+    (and_shortens c.args.depth) c.args.tokens.now c.literals.all c.push.new.self c.in_ok-and_literal.field-0
+    c.literals.tokens c.and_literal.new.tokens c.literals.invariant (sym c.literals-test.ensures) c.in_ok-and_literal.ensures c.in_ok-push.ensures.ok
 
 pub and_literals-returns : goal.and_literals-returns
-and_literals-returns t c = goes_end (terminal.Word keyword.And ∷ []) (and_literal (operand_parens c.args.depth) (inner_parens c.args.depth)) c.args.tokens.now _ c.literals.tokens c.literals.invariant (sym c.literals-test.ensures)
+and_literals-returns t c = goes_end (terminal.Word keyword.And ∷ []) (and_literal (operand_parens c.args.depth) (inner_parens c.args.depth))
+    c.args.tokens.now _ c.literals.tokens c.literals.invariant (sym c.literals-test.ensures)
 
 pub or_conjunctions-conjunctions-smaller : goal.or_conjunctions-conjunctions-smaller
 or_conjunctions-conjunctions-smaller t c =
@@ -30,10 +33,13 @@ or_conjunctions-conjunctions-smaller t c =
 
 pub or_conjunctions-conjunctions-preserved : goal.or_conjunctions-conjunctions-preserved
 or_conjunctions-conjunctions-preserved t c =
-    goes_push condition_of (terminal.Word keyword.Or ∷ []) (or_conjunction (operand_parens c.args.depth) (inner_parens c.args.depth)) (or_shortens c.args.depth) c.args.tokens.now c.conjunctions.any c.push.new.self c.in_ok-or_conjunction.field-0 c.conjunctions.tokens c.or_conjunction.new.tokens c.conjunctions.invariant (sym c.conjunctions-test.ensures) c.in_ok-or_conjunction.ensures c.in_ok-push.ensures.ok
+    goes_push condition_of (terminal.Word keyword.Or ∷ []) (or_conjunction (operand_parens c.args.depth) (inner_parens c.args.depth))
+    (or_shortens c.args.depth) c.args.tokens.now c.conjunctions.any c.push.new.self c.in_ok-or_conjunction.field-0
+    c.conjunctions.tokens c.or_conjunction.new.tokens c.conjunctions.invariant (sym c.conjunctions-test.ensures) c.in_ok-or_conjunction.ensures c.in_ok-push.ensures.ok
 
 pub or_conjunctions-returns : goal.or_conjunctions-returns
-or_conjunctions-returns t c = goes_end (terminal.Word keyword.Or ∷ []) (or_conjunction (operand_parens c.args.depth) (inner_parens c.args.depth)) c.args.tokens.now _ c.conjunctions.tokens c.conjunctions.invariant (sym c.conjunctions-test.ensures)
+or_conjunctions-returns t c = goes_end (terminal.Word keyword.Or ∷ []) (or_conjunction (operand_parens c.args.depth) (inner_parens c.args.depth))
+    c.args.tokens.now _ c.conjunctions.tokens c.conjunctions.invariant (sym c.conjunctions-test.ensures)
 
 pub conjunction-returns : goal.conjunction-returns
 conjunction-returns t c =
@@ -43,6 +49,8 @@ conjunction-returns t c =
 
 pub with_more-returns : goal.with_more-returns
 with_more-returns t c =
-    same_gives (λ whole. Asks (condition_of whole)) c.any_from.result c.any_from.new.tokens (after_literal (operand_parens c.args.depth) (inner_parens c.args.depth) (Asks (condition_of c.args.first)) c.args.tokens.now)
+    same_gives (λ whole. Asks (condition_of whole)) c.any_from.result c.any_from.new.tokens
+    (after_literal (operand_parens c.args.depth) (inner_parens c.args.depth) (Asks (condition_of c.args.first)) c.args.tokens.now)
     (any_from (operand_parens c.args.depth) (inner_parens c.args.depth) (condition_of c.in_ok-all.all) c.all_from.new.tokens)
-    (with_more_is (operand_parens c.args.depth) (inner_parens c.args.depth) c.args.tokens.now c.all_from.new.tokens (condition_of c.args.first) (condition_of c.in_ok-all.all) c.in_ok-all.ensures) c.any_from.ensures
+    (with_more_is (operand_parens c.args.depth) (inner_parens c.args.depth) c.args.tokens.now c.all_from.new.tokens
+    (condition_of c.args.first) (condition_of c.in_ok-all.all) c.in_ok-all.ensures) c.any_from.ensures

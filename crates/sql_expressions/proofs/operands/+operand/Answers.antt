@@ -12,7 +12,8 @@ terms-terms-smaller t c =
 
 pub terms-terms-preserved : goal.terms-terms-preserved
 terms-terms-preserved t c =
-    goes_push signed_of signs (signed (operand_parens c.args.depth)) (signed_shortens c.args.depth) c.args.tokens.now c.terms.terms c.push.new.self c.in_ok-signed.field-0 c.terms.tokens c.signed.new.tokens c.terms.invariant (sym c.terms-test.ensures) c.in_ok-signed.ensures c.in_ok-push.ensures.ok
+    goes_push signed_of signs (signed (operand_parens c.args.depth)) (signed_shortens c.args.depth) c.args.tokens.now
+    c.terms.terms c.push.new.self c.in_ok-signed.field-0 c.terms.tokens c.signed.new.tokens c.terms.invariant (sym c.terms-test.ensures) c.in_ok-signed.ensures c.in_ok-push.ensures.ok
 
 pub terms-returns : goal.terms-returns
 terms-returns t c = goes_end signs (signed (operand_parens c.args.depth)) c.args.tokens.now _ c.terms.tokens c.terms.invariant (sym c.terms-test.ensures)

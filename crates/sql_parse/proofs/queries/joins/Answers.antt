@@ -13,7 +13,8 @@ joins-smaller c = (shortens join_agrees).shorter c.joins.tokens (join_of c.in_ok
 
 pub joins-preserved : goal.joins-preserved
 joins-preserved c =
-    goes_push join_of (terminal.Word keyword.Inner ∷ terminal.Word keyword.Join ∷ []) join (shortens join_agrees) c.args.tokens.now c.joins.joins c.push.new.self c.in_ok-join.field-0 c.joins.tokens c.join.new.tokens c.joins.invariant (sym c.joins-test.ensures) c.in_ok-join.ensures c.in_ok-push.ensures.ok
+    goes_push join_of (terminal.Word keyword.Inner ∷ terminal.Word keyword.Join ∷ []) join (shortens join_agrees)
+    c.args.tokens.now c.joins.joins c.push.new.self c.in_ok-join.field-0 c.joins.tokens c.join.new.tokens c.joins.invariant (sym c.joins-test.ensures) c.in_ok-join.ensures c.in_ok-push.ensures.ok
 
 pub returns : goal.returns
 returns c = goes_end (terminal.Word keyword.Inner ∷ terminal.Word keyword.Join ∷ []) join c.args.tokens.now _ c.joins.tokens c.joins.invariant (sym c.joins-test.ensures)

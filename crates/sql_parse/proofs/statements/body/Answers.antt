@@ -33,14 +33,17 @@ returns-then-next_is-5 c =
 pub returns-then-next_is-6 : goal.returns-then-next_is-6
 returns-then-next_is-6 c =
     same_gives statement_of c.delete.result c.delete.new.tokens (parse.body c.args.tokens.now) (parse.delete c.args.tokens.now)
-    (is_delete c.args.tokens.now (sym c.if-next_is.ensures) (sym c.if-next_is-2.ensures) (sym c.if-next_is-3.ensures) (sym c.if-next_is-4.ensures) (sym c.if-next_is-5.ensures) (sym c.if-next_is-6.ensures)) c.delete.ensures
+    (is_delete c.args.tokens.now (sym c.if-next_is.ensures) (sym c.if-next_is-2.ensures) (sym c.if-next_is-3.ensures)
+    (sym c.if-next_is-4.ensures) (sym c.if-next_is-5.ensures) (sym c.if-next_is-6.ensures)) c.delete.ensures
 
 pub returns-then-next_is-7 : goal.returns-then-next_is-7
 returns-then-next_is-7 c =
     same_gives statement_of c.select.result c.select.new.tokens (parse.body c.args.tokens.now) (parse.select c.args.tokens.now)
-    (is_select c.args.tokens.now (sym c.if-next_is.ensures) (sym c.if-next_is-2.ensures) (sym c.if-next_is-3.ensures) (sym c.if-next_is-4.ensures) (sym c.if-next_is-5.ensures) (sym c.if-next_is-6.ensures) (sym c.if-next_is-7.ensures)) c.select.ensures
+    (is_select c.args.tokens.now (sym c.if-next_is.ensures) (sym c.if-next_is-2.ensures) (sym c.if-next_is-3.ensures)
+    (sym c.if-next_is-4.ensures) (sym c.if-next_is-5.ensures) (sym c.if-next_is-6.ensures) (sym c.if-next_is-7.ensures)) c.select.ensures
 
 pub returns : goal.returns
 returns c =
     same_gives statement_of c.control.result c.control.new.tokens (parse.body c.args.tokens.now) (parse.control c.args.tokens.now)
-    (is_control c.args.tokens.now (sym c.if-next_is.ensures) (sym c.if-next_is-2.ensures) (sym c.if-next_is-3.ensures) (sym c.if-next_is-4.ensures) (sym c.if-next_is-5.ensures) (sym c.if-next_is-6.ensures) (sym c.if-next_is-7.ensures)) c.control.ensures
+    (is_control c.args.tokens.now (sym c.if-next_is.ensures) (sym c.if-next_is-2.ensures) (sym c.if-next_is-3.ensures)
+    (sym c.if-next_is-4.ensures) (sym c.if-next_is-5.ensures) (sym c.if-next_is-6.ensures) (sym c.if-next_is-7.ensures)) c.control.ensures

@@ -46,4 +46,5 @@ returns-in-Nothing c =
     let at = c.loop-at.at in
     let h = rw c.in-Nothing.is at c.in_ok-lexeme.ensures in
     let none : passed_over (drop at bytes) ≡ 0 = sym (c.passed_over-gap.ensures.gap ∙ ap passed_over (take_rest bytes at)) ∙ omega arith in
-    ap tokens_of (sym c.as_bytes-bytes.ensures.value) ∙ so_far_nothing c.args.most bytes at c.loop-at.tokens c.loop-at.wide c.loop-at.invariant.so_far c.loop-at-test.true none (sym (ap front (take_rest bytes at)) ∙ h)
+    ap tokens_of (sym c.as_bytes-bytes.ensures.value) ∙ so_far_nothing c.args.most bytes at c.loop-at.tokens
+    c.loop-at.wide c.loop-at.invariant.so_far c.loop-at-test.true none (sym (ap front (take_rest bytes at)) ∙ h)

@@ -35,7 +35,8 @@ hits-requires g c =
     c.in_ok-rows.ensures ∙ ap (map (λ place. get_or rows place [])) (c.as_slice.ensures.value ∙ c.in_ok-places.ensures) ∙ found_rows params [] lookup rows in
     rw c.as_slice-2.ensures.value
     (all_seen (λ row. IsPlacedFilter (length row) (length params) filter) (λ row. row.now) c.in_ok-rows.rows.items
-    (subst (All (λ row. IsPlacedFilter (length row) (length params) filter)) (sym read) (all_passing (λ row. IsPlacedFilter (length row) (length params) filter) (is_found params lookup []) rows c.requires.placed)))
+    (subst (All (λ row. IsPlacedFilter (length row) (length params) filter)) (sym read)
+    (all_passing (λ row. IsPlacedFilter (length row) (length params) filter) (is_found params lookup []) rows c.requires.placed)))
 
 pub returns-clause-hits : goal.returns-clause-hits
 returns-clause-hits g c =
@@ -57,7 +58,8 @@ returns-in-Ok-clause-hits g c =
     let read : map (λ row. row.now) c.in_ok-rows.rows.items ≡ rows_found params lookup [] rows =
     c.in_ok-rows.ensures ∙ ap (map (λ place. get_or rows place [])) (c.as_slice.ensures.value ∙ c.in_ok-places.ensures) ∙ found_rows params [] lookup rows in
     rw (c.in_ok-places_of_hit-in-Ok.ensures, c.as_slice-in-Ok.ensures)
-    (are_all_dropped c.args.table.now.keys c.requires.lookup.0 (option_map condition_of c.args.filter.now) params rows lookup c.requires.lookup.2 c.as_slice-in-Ok-2.result.now (map (λ row. row.now) c.as_slice-2.result.now) c.in-Ok.hits
+    (are_all_dropped c.args.table.now.keys c.requires.lookup.0 (option_map condition_of c.args.filter.now) params
+    rows lookup c.requires.lookup.2 c.as_slice-in-Ok-2.result.now (map (λ row. row.now) c.as_slice-2.result.now) c.in-Ok.hits
     (c.as_slice-in-Ok-2.ensures.value ∙ c.in_ok-places.ensures) (ap (map (λ row. row.now)) c.as_slice-2.ensures.value ∙ read)
     (c.in-Ok.ensures.each ∙ sym (length-map c.as_slice-2.result.now (λ row. row.now))) c.in-Ok.ensures.hits).tested
 
@@ -69,6 +71,7 @@ returns-in-Ok-clause-rising g c =
     let read : map (λ row. row.now) c.in_ok-rows.rows.items ≡ rows_found params lookup [] rows =
     c.in_ok-rows.ensures ∙ ap (map (λ place. get_or rows place [])) (c.as_slice.ensures.value ∙ c.in_ok-places.ensures) ∙ found_rows params [] lookup rows in
     rw (c.in_ok-places_of_hit-in-Ok.ensures, c.as_slice-in-Ok.ensures)
-    (are_all_dropped c.args.table.now.keys c.requires.lookup.0 (option_map condition_of c.args.filter.now) params rows lookup c.requires.lookup.2 c.as_slice-in-Ok-2.result.now (map (λ row. row.now) c.as_slice-2.result.now) c.in-Ok.hits
+    (are_all_dropped c.args.table.now.keys c.requires.lookup.0 (option_map condition_of c.args.filter.now) params
+    rows lookup c.requires.lookup.2 c.as_slice-in-Ok-2.result.now (map (λ row. row.now) c.as_slice-2.result.now) c.in-Ok.hits
     (c.as_slice-in-Ok-2.ensures.value ∙ c.in_ok-places.ensures) (ap (map (λ row. row.now)) c.as_slice-2.ensures.value ∙ read)
     (c.in-Ok.ensures.each ∙ sym (length-map c.as_slice-2.result.now (λ row. row.now))) c.in-Ok.ensures.hits).rise

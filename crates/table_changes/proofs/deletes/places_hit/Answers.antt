@@ -14,7 +14,8 @@ loop-place-preserved c =
     let lp : i < length (counted 0 (length hits)) = omega (arith, lh, counted_long 0 (length hits)) in
     let at : i ≡ 0 + i = omega arith in
     rw c.in_ok-note.ensures
-    (hit_next (counted 0 (length hits)) hits i lp lh c.loop-place.places (hit (counted 0 (length hits)) hits) c.loop-place.invariant i (get_or hits i false) (at ∙ sym (counted_at 0 (length hits) i 0 lh)) refl)
+    (hit_next (counted 0 (length hits)) hits i lp lh c.loop-place.places (hit (counted 0 (length hits)) hits)
+    c.loop-place.invariant i (get_or hits i false) (at ∙ sym (counted_at 0 (length hits) i 0 lh)) refl)
 
 pub returns : goal.returns
 returns c =

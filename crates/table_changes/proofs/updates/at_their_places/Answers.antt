@@ -10,6 +10,7 @@ loop-change-preserved g c =
     let more = c.next.new.self.rest.items in
     let is = c.in-Some.ensures.steps.0 in
     record {
-      so_far = rw c.in_ok-push.ensures.ok (placed_more (at_its_place c.args.places.now) rest more c.in-Some.change is c.loop-change.placed (map (at_its_place c.args.places.now) c.args.changes) _ refl c.loop-change.invariant.so_far);
+      so_far = rw c.in_ok-push.ensures.ok
+          (placed_more (at_its_place c.args.places.now) rest more c.in-Some.change is c.loop-change.placed (map (at_its_place c.args.places.now) c.args.changes) _ refl c.loop-change.invariant.so_far);
       there = there_still (at_its_place c.args.places.now) rest more c.in-Some.change is (length c.args.places.now) c.loop-change.invariant.there;
     }

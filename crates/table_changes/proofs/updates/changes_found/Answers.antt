@@ -44,7 +44,8 @@ returns-clause-changes g c =
     let read : map (λ row. row.now) c.in_ok-rows.rows.items ≡ rows_found params lookup [] rows =
     c.in_ok-rows.ensures ∙ ap (map (λ place. get_or rows place [])) (c.as_slice.ensures.value ∙ c.in_ok-places.ensures) ∙ found_rows params [] lookup rows in
     all_failed c.args.table.now.keys c.args.columns.now (update_of c.args.update.now) params rows lookup c.requires.lookup
-    (λ (cs : List (Change (List Atom))). all_changed (map (λ row. row.now) c.as_slice-2.result.now) (spread 0 (length c.as_slice-2.result.now) cs)) (λ (cs : List (Change (List Atom))). all_changed rows (spread 0 (length rows) cs))
+    (λ (cs : List (Change (List Atom))). all_changed (map (λ row. row.now) c.as_slice-2.result.now) (spread 0 (length c.as_slice-2.result.now) cs))
+    (λ (cs : List (Change (List Atom))). all_changed rows (spread 0 (length rows) cs))
     (map (λ row. row.now) c.as_slice-2.result.now)
     (ap (map (λ row. row.now)) c.as_slice-2.ensures.value ∙ read) c.in-Err.refusal c.in-Err.ensures.changes
 
@@ -64,8 +65,10 @@ returns-in-Ok-clause-changes g c =
     let read : map (λ row. row.now) c.in_ok-rows.rows.items ≡ rows_found params lookup [] rows =
     c.in_ok-rows.ensures ∙ ap (map (λ place. get_or rows place [])) (c.as_slice.ensures.value ∙ c.in_ok-places.ensures) ∙ found_rows params [] lookup rows in
     rw c.in_ok-at_their_places-in-Ok.ensures
-    (are_all c.args.table.now.keys c.args.columns.now (update_of c.args.update.now) params rows lookup c.requires.lookup c.as_slice-in-Ok.result.now (map (λ row. row.now) c.as_slice-2.result.now) (length c.as_slice-2.result.now) c.in-Ok.changes
-    (c.as_slice-in-Ok.ensures.value ∙ c.in_ok-places.ensures) (ap (map (λ row. row.now)) c.as_slice-2.ensures.value ∙ read) (sym (length-map c.as_slice-2.result.now (λ row. row.now))) c.in-Ok.ensures.changes c.in-Ok.ensures.rising).changes
+    (are_all c.args.table.now.keys c.args.columns.now (update_of c.args.update.now) params rows lookup
+    c.requires.lookup c.as_slice-in-Ok.result.now (map (λ row. row.now) c.as_slice-2.result.now) (length c.as_slice-2.result.now) c.in-Ok.changes
+    (c.as_slice-in-Ok.ensures.value ∙ c.in_ok-places.ensures) (ap (map (λ row. row.now)) c.as_slice-2.ensures.value ∙ read)
+    (sym (length-map c.as_slice-2.result.now (λ row. row.now))) c.in-Ok.ensures.changes c.in-Ok.ensures.rising).changes
 
 pub returns-in-Ok-clause-rising : goal.returns-in-Ok-clause-rising
 returns-in-Ok-clause-rising g c =
@@ -75,5 +78,7 @@ returns-in-Ok-clause-rising g c =
     let read : map (λ row. row.now) c.in_ok-rows.rows.items ≡ rows_found params lookup [] rows =
     c.in_ok-rows.ensures ∙ ap (map (λ place. get_or rows place [])) (c.as_slice.ensures.value ∙ c.in_ok-places.ensures) ∙ found_rows params [] lookup rows in
     rw c.in_ok-at_their_places-in-Ok.ensures
-    (are_all c.args.table.now.keys c.args.columns.now (update_of c.args.update.now) params rows lookup c.requires.lookup c.as_slice-in-Ok.result.now (map (λ row. row.now) c.as_slice-2.result.now) (length c.as_slice-2.result.now) c.in-Ok.changes
-    (c.as_slice-in-Ok.ensures.value ∙ c.in_ok-places.ensures) (ap (map (λ row. row.now)) c.as_slice-2.ensures.value ∙ read) (sym (length-map c.as_slice-2.result.now (λ row. row.now))) c.in-Ok.ensures.changes c.in-Ok.ensures.rising).rise
+    (are_all c.args.table.now.keys c.args.columns.now (update_of c.args.update.now) params rows lookup
+    c.requires.lookup c.as_slice-in-Ok.result.now (map (λ row. row.now) c.as_slice-2.result.now) (length c.as_slice-2.result.now) c.in-Ok.changes
+    (c.as_slice-in-Ok.ensures.value ∙ c.in_ok-places.ensures) (ap (map (λ row. row.now)) c.as_slice-2.ensures.value ∙ read)
+    (sym (length-map c.as_slice-2.result.now (λ row. row.now))) c.in-Ok.ensures.changes c.in-Ok.ensures.rising).rise

@@ -6,8 +6,10 @@ use Rattle.tap_counts.proofs.places.count_frame.Goals as goal
 
 pub returns-in-Asked : goal.returns-in-Asked
 returns-in-Asked c =
-    subst (λ (f : Frame). OnOk c.count_request.result (Counts (frame_places c.args.classes.now f) c.args.numbers.now c.count_request.new.numbers c.args.tally.now c.count_request.new.tally)) (sym c.in-Asked.is) c.count_request.ensures
+    subst (λ (f : Frame). OnOk c.count_request.result
+    (Counts (frame_places c.args.classes.now f) c.args.numbers.now c.count_request.new.numbers c.args.tally.now c.count_request.new.tally)) (sym c.in-Asked.is) c.count_request.ensures
 
 pub returns-in-Told : goal.returns-in-Told
 returns-in-Told c =
-    subst (λ (f : Frame). OnOk c.count_payload.result (Counts (frame_places c.args.classes.now f) c.args.numbers.now c.count_payload.new.numbers c.args.tally.now c.count_payload.new.tally)) (sym c.in-Told.is) c.count_payload.ensures
+    subst (λ (f : Frame). OnOk c.count_payload.result
+    (Counts (frame_places c.args.classes.now f) c.args.numbers.now c.count_payload.new.numbers c.args.tally.now c.count_payload.new.tally)) (sym c.in-Told.is) c.count_payload.ensures

@@ -11,8 +11,10 @@ loop-param-preserved c =
     let i = c.loop-param.param-index in
     let all = c.args.params.now in
     let p = c.param-item.result in
-    param_counted c.args.numbers.now c.loop-param.numbers c.count_atom.new.numbers c.args.tally.now c.loop-param.tally c.count_atom.new.tally (take i all) (take (i + 1) all) p (one_more all i p c.loop-param-test.true c.param-item.is) c.loop-param.invariant
+    param_counted c.args.numbers.now c.loop-param.numbers c.count_atom.new.numbers c.args.tally.now c.loop-param.tally
+    c.count_atom.new.tally (take i all) (take (i + 1) all) p (one_more all i p c.loop-param-test.true c.param-item.is) c.loop-param.invariant
     (subst (λ (d : Class). Counts (place_at d p.atom ∷ []) c.loop-param.numbers c.count_atom.new.numbers c.loop-param.tally c.count_atom.new.tally) c.new-class.ensures c.in_ok-count_atom.ensures)
 
 pub returns : goal.returns
-returns c = all_counted params_places c.args.numbers.now c.loop-param.numbers c.args.tally.now c.loop-param.tally _ _ (take_all c.loop-param.param-index c.args.params.now c.loop-param-test.false) c.loop-param.invariant
+returns c = all_counted params_places c.args.numbers.now c.loop-param.numbers c.args.tally.now c.loop-param.tally
+    _ _ (take_all c.loop-param.param-index c.args.params.now c.loop-param-test.false) c.loop-param.invariant

@@ -8,4 +8,5 @@ use Rattle.tap_counts.proofs.places.count_reply.Goals as goal
 pub returns-in-Row : goal.returns-in-Row
 returns-in-Row c =
     subst (λ (r : Reply). OnOk c.count_row.result (Counts (reply_places c.args.classes.now r) c.args.numbers.now c.count_row.new.numbers c.args.tally.now c.count_row.new.tally)) (sym c.in-Row.is)
-    (subst (λ (l : List Atom). OnOk c.count_row.result (Counts (row_places c.args.classes.now l) c.args.numbers.now c.count_row.new.numbers c.args.tally.now c.count_row.new.tally)) c.atoms.ensures.atoms c.count_row.ensures)
+    (subst (λ (l : List Atom). OnOk c.count_row.result
+    (Counts (row_places c.args.classes.now l) c.args.numbers.now c.count_row.new.numbers c.args.tally.now c.count_row.new.tally)) c.atoms.ensures.atoms c.count_row.ensures)

@@ -8,4 +8,5 @@ use Rattle.tap_counts.proofs.places.count_request.Goals as goal
 pub returns-in-Execute : goal.returns-in-Execute
 returns-in-Execute c =
     subst (λ (r : Request). OnOk c.count_params.result (Counts (request_places r) c.args.numbers.now c.count_params.new.numbers c.args.tally.now c.count_params.new.tally)) (sym c.in-Execute.is)
-    (subst (λ (l : List SentParam). OnOk c.count_params.result (Counts (params_places l) c.args.numbers.now c.count_params.new.numbers c.args.tally.now c.count_params.new.tally)) c.as_slice.ensures.items c.count_params.ensures)
+    (subst (λ (l : List SentParam). OnOk c.count_params.result
+    (Counts (params_places l) c.args.numbers.now c.count_params.new.numbers c.args.tally.now c.count_params.new.tally)) c.as_slice.ensures.items c.count_params.ensures)

@@ -14,10 +14,12 @@ loop-atom-preserved c =
     let inv = c.loop-atom.invariant in
     record {
       place = ap (λ n. n + 1) inv.place;
-      counts = atom_counted c.args.numbers.now c.loop-atom.numbers c.count_atom.new.numbers c.args.tally.now c.loop-atom.tally c.count_atom.new.tally c.args.classes.now (take i all) (take (i + 1) all) a c.loop-atom.place (one_more all i a c.loop-atom-test.true c.atom-item.is)
+      counts = atom_counted c.args.numbers.now c.loop-atom.numbers c.count_atom.new.numbers c.args.tally.now
+          c.loop-atom.tally c.count_atom.new.tally c.args.classes.now (take i all) (take (i + 1) all) a c.loop-atom.place (one_more all i a c.loop-atom-test.true c.atom-item.is)
           (inv.place ∙ sym (length-take-le i all c.loop-atom.auto.atom-index-end)) inv.counts
           (subst (λ (d : Class). Counts (place_at d a ∷ []) c.loop-atom.numbers c.count_atom.new.numbers c.loop-atom.tally c.count_atom.new.tally) c.class_at-class.ensures c.in_ok-count_atom.ensures);
     }
 
 pub returns : goal.returns
-returns c = all_counted (row_places c.args.classes.now) c.args.numbers.now c.loop-atom.numbers c.args.tally.now c.loop-atom.tally _ _ (take_all c.loop-atom.atom-index c.args.atoms.now c.loop-atom-test.false) c.loop-atom.invariant.counts
+returns c = all_counted (row_places c.args.classes.now) c.args.numbers.now c.loop-atom.numbers c.args.tally.now
+    c.loop-atom.tally _ _ (take_all c.loop-atom.atom-index c.args.atoms.now c.loop-atom-test.false) c.loop-atom.invariant.counts

@@ -9,5 +9,7 @@ use Rattle.wire_parts.specs.Atoms.{atom_of}
 
 pub returns-in-Sealed : goal.returns-in-Sealed
 returns-in-Sealed c =
-    subst (λ (a : Atom). OnOk c.push_cell.result (Writes (atom_text c.args.page c.args.class.now a) (atom_spots c.args.class.now a) c.args.numbers.now c.push_cell.new.numbers (string_bytes c.args.text.now) (string_bytes c.push_cell.new.text)))
+    subst (λ (a : Atom). OnOk c.push_cell.result
+    (Writes (atom_text c.args.page c.args.class.now a) (atom_spots c.args.class.now a) c.args.numbers.now
+    c.push_cell.new.numbers (string_bytes c.args.text.now) (string_bytes c.push_cell.new.text)))
     (sym (ap atom_of c.in-Sealed.is) ∙ c.case.ensures.atom) c.push_cell.ensures

@@ -16,12 +16,15 @@ loop-atom-preserved c =
     let inv = c.loop-atom.invariant in
     record {
       place = ap (λ n. n + 1) inv.place;
-      writes = atom_behind c.args.page c.args.numbers.now c.loop-atom.numbers c.push_place.new.numbers (string_bytes c.args.text.now) (string_bytes c.loop-atom.text) (string_bytes c.push_place.new.text)
+      writes = atom_behind c.args.page c.args.numbers.now c.loop-atom.numbers c.push_place.new.numbers
+          (string_bytes c.args.text.now) (string_bytes c.loop-atom.text) (string_bytes c.push_place.new.text)
           c.args.classes.now (take i all) (take (i + 1) all) a c.loop-atom.place (one_more all i a c.loop-atom-test.true c.atom-item.is)
           (inv.place ∙ sym (length-take-le i all c.loop-atom.auto.atom-index-end)) inv.writes
-          (subst (λ (d : Class). Writes (place_text c.args.page d a) (atom_spots d a) c.loop-atom.numbers c.push_place.new.numbers (string_bytes c.loop-atom.text) (string_bytes c.push_place.new.text)) c.class_at-class.ensures c.in_ok-push_place.ensures);
+          (subst (λ (d : Class). Writes (place_text c.args.page d a) (atom_spots d a) c.loop-atom.numbers
+          c.push_place.new.numbers (string_bytes c.loop-atom.text) (string_bytes c.push_place.new.text)) c.class_at-class.ensures c.in_ok-push_place.ensures);
     }
 
 pub returns : goal.returns
 returns c =
-    all_written c.args.numbers.now c.loop-atom.numbers (string_bytes c.args.text.now) (string_bytes c.loop-atom.text) (row_text c.args.page c.args.classes.now) (row_spots c.args.classes.now) _ _ (take_all c.loop-atom.atom-index c.args.atoms.now c.loop-atom-test.false) c.loop-atom.invariant.writes
+    all_written c.args.numbers.now c.loop-atom.numbers (string_bytes c.args.text.now) (string_bytes c.loop-atom.text)
+    (row_text c.args.page c.args.classes.now) (row_spots c.args.classes.now) _ _ (take_all c.loop-atom.atom-index c.args.atoms.now c.loop-atom-test.false) c.loop-atom.invariant.writes

@@ -15,4 +15,5 @@ loop-param-preserved c =
 
 pub returns : goal.returns
 returns c =
-    all_written c.args.numbers.now c.loop-param.numbers (string_bytes c.args.text.now) (string_bytes c.loop-param.text) (params_text c.args.page) params_spots _ _ (take_all c.loop-param.param-index c.args.params.now c.loop-param-test.false) c.loop-param.invariant
+    all_written c.args.numbers.now c.loop-param.numbers (string_bytes c.args.text.now) (string_bytes c.loop-param.text)
+    (params_text c.args.page) params_spots _ _ (take_all c.loop-param.param-index c.args.params.now c.loop-param-test.false) c.loop-param.invariant

@@ -7,5 +7,6 @@ use Rattle.tap_text.proofs.rows.push_place.Goals as goal
 
 pub returns : goal.returns
 returns c =
-    between c.args.numbers.now c.push_atom.new.numbers (string_bytes c.args.text.now) (string_bytes c.push_str.new.self) (string_bytes c.push_atom.new.text) (string_bytes c.push_str-2.new.self) (codes "| ") (codes " ")
+    between c.args.numbers.now c.push_atom.new.numbers (string_bytes c.args.text.now) (string_bytes c.push_str.new.self)
+    (string_bytes c.push_atom.new.text) (string_bytes c.push_str-2.new.self) (codes "| ") (codes " ")
     (atom_text c.args.page c.args.class.now c.args.atom.now) (atom_spots c.args.class.now c.args.atom.now) c.in_ok-push_str.ensures.bytes c.in_ok-push_atom.ensures c.in_ok-push_str-2.ensures.bytes

@@ -11,7 +11,9 @@ pub returns : goal.returns
 returns c =
     let classes = c.args.classes.now in
     let row = c.args.row.now in
-    between c.args.numbers.now c.push_atoms.new.numbers (string_bytes c.args.text.now) (string_bytes c.push_str.new.self) (string_bytes c.push_atoms.new.text) (string_bytes c.push_str-2.new.self) (codes "    ") (codes "|" ++ 10 ∷ [])
+    between c.args.numbers.now c.push_atoms.new.numbers (string_bytes c.args.text.now) (string_bytes c.push_str.new.self)
+    (string_bytes c.push_atoms.new.text) (string_bytes c.push_str-2.new.self) (codes "    ") (codes "|" ++ 10 ∷ [])
     (row_text c.args.page classes row) (row_spots classes row) c.in_ok-push_str.ensures.bytes
-    (subst (λ (l : List Atom). Writes (row_text c.args.page classes l) (row_spots classes l) c.args.numbers.now c.push_atoms.new.numbers (string_bytes c.push_str.new.self) (string_bytes c.push_atoms.new.text)) c.atoms.ensures.atoms c.in_ok-push_atoms.ensures)
+    (subst (λ (l : List Atom). Writes (row_text c.args.page classes l) (row_spots classes l) c.args.numbers.now
+    c.push_atoms.new.numbers (string_bytes c.push_str.new.self) (string_bytes c.push_atoms.new.text)) c.atoms.ensures.atoms c.in_ok-push_atoms.ensures)
     c.in_ok-push_str-2.ensures.bytes

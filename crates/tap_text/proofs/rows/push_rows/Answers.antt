@@ -15,4 +15,5 @@ loop-row-preserved c =
 
 pub returns : goal.returns
 returns c =
-    all_written c.args.numbers.now c.loop-row.numbers (string_bytes c.args.text.now) (string_bytes c.loop-row.text) (rows_text c.args.page c.args.classes.now) (rows_spots c.args.classes.now) _ _ (take_all c.loop-row.row-index c.args.rows.now c.loop-row-test.false) c.loop-row.invariant
+    all_written c.args.numbers.now c.loop-row.numbers (string_bytes c.args.text.now) (string_bytes c.loop-row.text)
+    (rows_text c.args.page c.args.classes.now) (rows_spots c.args.classes.now) _ _ (take_all c.loop-row.row-index c.args.rows.now c.loop-row-test.false) c.loop-row.invariant

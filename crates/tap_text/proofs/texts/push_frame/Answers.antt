@@ -23,7 +23,8 @@ returns-in_ok-push_asked_head-in-Asked c =
     (sym c.in-Asked.is)
     (on_ok _ _ c.push_request.result
     (λ h. behind_front old new before start after (mark page (codes "<p class=q>") ++ asked_head c.args.at asked.version) (request_text page asked.message) (request_spots asked.message)
-    (two_texts before (mark page (codes "<p class=q>")) (asked_head c.args.at asked.version) (string_bytes c.push_mark.new.text) start c.in_ok-push_mark-in-Asked.ensures c.in_ok-push_asked_head-in-Asked.ensures) h)
+    (two_texts before (mark page (codes "<p class=q>")) (asked_head c.args.at asked.version)
+    (string_bytes c.push_mark.new.text) start c.in_ok-push_mark-in-Asked.ensures c.in_ok-push_asked_head-in-Asked.ensures) h)
     c.push_request.ensures)
 
 pub returns-in_ok-push_told_head-in-Told : goal.returns-in_ok-push_told_head-in-Told
@@ -40,5 +41,6 @@ returns-in_ok-push_told_head-in-Told c =
     (sym c.in-Told.is)
     (on_ok _ _ c.push_payload.result
     (λ h. behind_front old new before start after (mark page (codes "<p class=r>") ++ told_head c.args.at told.version) (payload_text page classes told.message) (payload_spots classes told.message)
-    (two_texts before (mark page (codes "<p class=r>")) (told_head c.args.at told.version) (string_bytes c.push_mark-in-Told.new.text) start c.in_ok-push_mark-in-Told.ensures c.in_ok-push_told_head-in-Told.ensures) h)
+    (two_texts before (mark page (codes "<p class=r>")) (told_head c.args.at told.version)
+    (string_bytes c.push_mark-in-Told.new.text) start c.in_ok-push_mark-in-Told.ensures c.in_ok-push_told_head-in-Told.ensures) h)
     c.push_payload.ensures)

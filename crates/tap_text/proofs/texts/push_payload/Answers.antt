@@ -11,7 +11,9 @@ use Rattle.tap_text.proofs.texts.push_payload.Goals as goal
 
 pub returns-in-One : goal.returns-in-One
 returns-in-One c =
-    subst (λ (p : Payload). OnOk c.push_reply.result (Writes (payload_text c.args.page c.args.classes.now p) (payload_spots c.args.classes.now p) c.args.numbers.now c.push_reply.new.numbers (string_bytes c.args.text.now) (string_bytes c.push_reply.new.text)))
+    subst (λ (p : Payload). OnOk c.push_reply.result
+    (Writes (payload_text c.args.page c.args.classes.now p) (payload_spots c.args.classes.now p) c.args.numbers.now
+    c.push_reply.new.numbers (string_bytes c.args.text.now) (string_bytes c.push_reply.new.text)))
     (sym c.in-One.is) c.push_reply.ensures
 
 pub returns-in_ok-push_str-in-Rows : goal.returns-in_ok-push_str-in-Rows

@@ -25,7 +25,8 @@ returns-in_ok-push_statement-in-Execute c =
     (on_ok _ _ c.push_params.result
     (λ h. behind_front old new before start after (head ++ 10 ∷ statement_text page e.statement) (params_text page e.params) (params_spots e.params)
     (line_texts before head (statement_text page e.statement) (string_bytes c.write-in-Execute.new.self) start 10
-    (c.in_ok-write-in-Execute.ensures.bytes ∙ ap (λ n. before ++ (codes "session " ++ (decimal n ++ (codes " execute at version " ++ (decimal e.version ++ 10 ∷ []))))) c.number-in-Execute.ensures.value ∙ simp append_assoc)
+    (c.in_ok-write-in-Execute.ensures.bytes ∙ ap (λ n. before ++ (codes "session " ++ (decimal n ++ (codes " execute at version " ++ (decimal e.version ++ 10 ∷ [])))))
+    c.number-in-Execute.ensures.value ∙ simp append_assoc)
     (c.in_ok-push_statement-in-Execute.ensures ∙ ap (λ cs. string_bytes c.write-in-Execute.new.self ++ statement_text page cs) c.as_str-in-Execute.ensures.characters))
     (subst (λ (l : List SentParam). Writes (params_text page l) (params_spots l) old new start after) c.as_slice-in-Execute.ensures.items h))
     c.push_params.ensures)

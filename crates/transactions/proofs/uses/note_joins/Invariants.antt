@@ -6,6 +6,7 @@ use Rattle.transactions.proofs.uses.note_joins.Given as goal
 
 abbrev pub invariant-loop-further : goal.invariant-loop-further
 invariant-loop-further g l = record {
-  whole : with_uses l.own l.used.items (map (λ source. source.table) (map (λ join. join.source) (map join_of (drop l.further-index l.joins)))) ≡ with_uses l.own l.initial.used.items (map (λ source. source.table) (map (λ join. join.source) (map join_of l.joins)));
+  whole : with_uses l.own l.used.items (map (λ source. source.table) (map (λ join. join.source) (map join_of (drop l.further-index l.joins))))
+      ≡ with_uses l.own l.initial.used.items (map (λ source. source.table) (map (λ join. join.source) (map join_of l.joins)));
   front : take (length l.initial.used.items) l.used.items ≡ l.initial.used.items;
 }

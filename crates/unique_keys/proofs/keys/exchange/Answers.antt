@@ -30,7 +30,8 @@ put_in_each-requires-clause-each g c =
 pub put_in_each-requires-clause-numbered : goal.put_in_each-requires-clause-numbered
 put_in_each-requires-clause-numbered g c =
     let rows = map (λ row. row.now) c.args.new.now in
-    keys_each (length c.args.numbers.now) (keys_of c.args.indexes.now.items) rows c.in_ok-new_keys.new_keys c.in_ok-new_keys.ensures.keys (c.requires.each ∙ sym (length-map c.args.new.now (λ row. row.now)))
+    keys_each (length c.args.numbers.now) (keys_of c.args.indexes.now.items) rows c.in_ok-new_keys.new_keys
+    c.in_ok-new_keys.ensures.keys (c.requires.each ∙ sym (length-map c.args.new.now (λ row. row.now)))
 
 pub put_in_each-requires-clause-room : goal.put_in_each-requires-clause-room
 put_in_each-requires-clause-room g c =
@@ -60,4 +61,5 @@ returns g c = λ known there hits to e r i d k o.
     let go = rw ready.places at taken.rows in
     let come = rw (taken.places, ready.places) at c.put_in_each.ensures.rows in
     all_exchanged known there hits c.args.numbers.now new before c.put_in_each.new.indexes.items none (c.put_in_each.ensures.places ∙ taken.places ∙ ready.places)
-    (come (unhit known hits) (unhit there hits) new (unhit_each known there hits e) (go known there hits e (ready.same known there i) d (rw o at old_keys)) c.in_ok-new_keys.ensures.keys (all_differ 1 (keys_of before) _ none))
+    (come (unhit known hits) (unhit there hits) new (unhit_each known there hits e)
+    (go known there hits e (ready.same known there i) d (rw o at old_keys)) c.in_ok-new_keys.ensures.keys (all_differ 1 (keys_of before) _ none))

@@ -11,20 +11,23 @@ pub returns-in_err-reserve-clause-places : goal.returns-in_err-reserve-clause-pl
 returns-in_err-reserve-clause-places g c =
     let h = c.loop-i.invariant in
     let lt : c.loop-i.i < length c.loop-i.indexes.items = omega (arith, c.loop-i-test.true, c.len-i-end.ensures, c.args.indexes.now.ok.0, h.long) in
-    (kept_more c.args.indexes.now.items c.loop-i.indexes.items c.loop-i.i c.index_mut.result.now c.reserve.new.self lt c.index_mut.ensures.value h.reserved.kept c.reserve.ensures.places c.reserve.ensures.rows).keys
+    (kept_more c.args.indexes.now.items c.loop-i.indexes.items c.loop-i.i c.index_mut.result.now c.reserve.new.self
+    lt c.index_mut.ensures.value h.reserved.kept c.reserve.ensures.places c.reserve.ensures.rows).keys
 
 pub returns-in_err-reserve-clause-same : goal.returns-in_err-reserve-clause-same
 returns-in_err-reserve-clause-same g c =
     let h = c.loop-i.invariant in
     let lt : c.loop-i.i < length c.loop-i.indexes.items = omega (arith, c.loop-i-test.true, c.len-i-end.ensures, c.args.indexes.now.ok.0, h.long) in
-    (kept_more c.args.indexes.now.items c.loop-i.indexes.items c.loop-i.i c.index_mut.result.now c.reserve.new.self lt c.index_mut.ensures.value h.reserved.kept c.reserve.ensures.places c.reserve.ensures.rows).same
+    (kept_more c.args.indexes.now.items c.loop-i.indexes.items c.loop-i.i c.index_mut.result.now c.reserve.new.self
+    lt c.index_mut.ensures.value h.reserved.kept c.reserve.ensures.places c.reserve.ensures.rows).same
 
 pub loop-i-preserved : goal.loop-i-preserved
 loop-i-preserved g c =
     let h = c.loop-i.invariant in
     let now = c.loop-i.indexes.items in
     let lt : c.loop-i.i < length now = omega (arith, c.loop-i-test.true, c.len-i-end.ensures, c.args.indexes.now.ok.0, h.long) in
-    let kept = kept_more c.args.indexes.now.items now c.loop-i.i c.index_mut.result.now c.reserve.new.self lt c.index_mut.ensures.value h.reserved.kept c.reserve.ensures.places c.reserve.ensures.rows in
+    let kept = kept_more c.args.indexes.now.items now c.loop-i.i c.index_mut.result.now c.reserve.new.self lt
+    c.index_mut.ensures.value h.reserved.kept c.reserve.ensures.places c.reserve.ensures.rows in
     record {
       reserved = reserved_more c.args.count c.loop-i.i c.args.indexes.now.items now c.reserve.new.self lt h.reserved kept c.in_ok-reserve.ensures.room;
       long = length-set now c.loop-i.i c.reserve.new.self ∙ h.long;

@@ -10,13 +10,15 @@ pub returns-in-WriteFault-clause-content : goal.returns-in-WriteFault-clause-con
 returns-in-WriteFault-clause-content g c =
     let first = g.W.Sink.held c.args.out.now in
     let mid = g.W.Sink.held c.put_mark.new.out in
-    head_front c.args.page (g.S.Source.left c.args.input.now) first mid (subst (λ (l : List ℕ). AddsFront (mark c.args.page l) first mid) c.head.ensures c.in-WriteFault.ensures.content) ended.WriteFault tt
+    head_front c.args.page (g.S.Source.left c.args.input.now) first mid
+    (subst (λ (l : List ℕ). AddsFront (mark c.args.page l) first mid) c.head.ensures c.in-WriteFault.ensures.content) ended.WriteFault tt
 
 pub returns-in-OutOfMemory-clause-content : goal.returns-in-OutOfMemory-clause-content
 returns-in-OutOfMemory-clause-content g c =
     let first = g.W.Sink.held c.args.out.now in
     let mid = g.W.Sink.held c.put_mark.new.out in
-    head_front c.args.page (g.S.Source.left c.args.input.now) first mid (subst (λ (l : List ℕ). AddsFront (mark c.args.page l) first mid) c.head.ensures c.in-OutOfMemory.ensures.content) ended.OutOfMemory tt
+    head_front c.args.page (g.S.Source.left c.args.input.now) first mid
+    (subst (λ (l : List ℕ). AddsFront (mark c.args.page l) first mid) c.head.ensures c.in-OutOfMemory.ensures.content) ended.OutOfMemory tt
 
 pub returns-then-not-is_listed-clause-content : goal.returns-then-not-is_listed-clause-content
 returns-then-not-is_listed-clause-content g c =
@@ -33,7 +35,8 @@ returns-in-WriteFault-put_foot-clause-content g c =
     let now = g.W.Sink.held c.put_pieces-viewed.new.out in
     let last = g.W.Sink.held c.put_foot.new.out in
     let head = subst (λ (l : List ℕ). Adds (mark c.args.page l) first mid) c.head.ensures c.in-Whole.ensures.content in
-    listed_in_part c.args.page first mid now head c.put_pieces-viewed.new.seen.tally c.put_pieces-viewed.result _ _ c.put_pieces-viewed.ensures.content last (sym c.is_listed.ensures ∙ c.if-not-is_listed.false) c.in-WriteFault-put_foot.ensures.content ended.WriteFault tt
+    listed_in_part c.args.page first mid now head c.put_pieces-viewed.new.seen.tally c.put_pieces-viewed.result
+    _ _ c.put_pieces-viewed.ensures.content last (sym c.is_listed.ensures ∙ c.if-not-is_listed.false) c.in-WriteFault-put_foot.ensures.content ended.WriteFault tt
 
 pub returns-clause-content : goal.returns-clause-content
 returns-clause-content g c =
@@ -42,7 +45,8 @@ returns-clause-content g c =
     let now = g.W.Sink.held c.put_pieces-viewed.new.out in
     let last = g.W.Sink.held c.put_foot.new.out in
     let head = subst (λ (l : List ℕ). Adds (mark c.args.page l) first mid) c.head.ensures c.in-Whole.ensures.content in
-    listed_in_part c.args.page first mid now head c.put_pieces-viewed.new.seen.tally c.put_pieces-viewed.result _ _ c.put_pieces-viewed.ensures.content last (sym c.is_listed.ensures ∙ c.if-not-is_listed.false) c.in-OutOfMemory-put_foot.ensures.content ended.OutOfMemory tt
+    listed_in_part c.args.page first mid now head c.put_pieces-viewed.new.seen.tally c.put_pieces-viewed.result
+    _ _ c.put_pieces-viewed.ensures.content last (sym c.is_listed.ensures ∙ c.if-not-is_listed.false) c.in-OutOfMemory-put_foot.ensures.content ended.OutOfMemory tt
 
 pub returns-in-Whole-put_foot-clause-content : goal.returns-in-Whole-put_foot-clause-content
 returns-in-Whole-put_foot-clause-content g c =
@@ -51,4 +55,5 @@ returns-in-Whole-put_foot-clause-content g c =
     let now = g.W.Sink.held c.put_pieces-viewed.new.out in
     let last = g.W.Sink.held c.put_foot.new.out in
     let head = subst (λ (l : List ℕ). Adds (mark c.args.page l) first mid) c.head.ensures c.in-Whole.ensures.content in
-    listed c.args.page first mid now head c.put_pieces-viewed.new.seen.tally c.put_pieces-viewed.result _ _ c.put_pieces-viewed.ensures.content last (sym c.is_listed.ensures ∙ c.if-not-is_listed.false) c.in-Whole-put_foot.ensures.content
+    listed c.args.page first mid now head c.put_pieces-viewed.new.seen.tally c.put_pieces-viewed.result _ _
+    c.put_pieces-viewed.ensures.content last (sym c.is_listed.ensures ∙ c.if-not-is_listed.false) c.in-Whole-put_foot.ensures.content

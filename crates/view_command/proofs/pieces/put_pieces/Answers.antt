@@ -7,7 +7,8 @@ pub pieces-init : goal.pieces-init
 pieces-init g c =
     let e = c.new-held.ensures in
     record {
-      goes = goes_first c.args.page c.new-held.result c.args.seen.now (g.S.Source.left c.args.input.now) (g.W.Sink.held c.args.out.now) e.at e.bytes c.requires.classes c.requires.cells c.requires.tally;
+      goes = goes_first c.args.page c.new-held.result c.args.seen.now (g.S.Source.left c.args.input.now)
+          (g.W.Sink.held c.args.out.now) e.at e.bytes c.requires.classes c.requires.cells c.requires.tally;
       takes = refl;
       puts = refl;
     }
@@ -50,7 +51,8 @@ pieces-preserved g c =
     let fits : length c.in-Bytes.piece ≤ c.pieces.left = omega (arith, p.1) in
     let l = c.len-left.ensures in
     record {
-      goes = goes_on _ _ _ _ _ _ _ _ c.pieces.invariant.goes c.in-Bytes.piece (g.S.Source.left c.take.new.self) c.in-Bytes.ensures.content fits _ c.put_piece.new.held c.put_piece.new.seen _ (omega (arith, fits, l)) c.in-Waits.ensures.comes;
+      goes = goes_on _ _ _ _ _ _ _ _ c.pieces.invariant.goes c.in-Bytes.piece (g.S.Source.left c.take.new.self)
+          c.in-Bytes.ensures.content fits _ c.put_piece.new.held c.put_piece.new.seen _ (omega (arith, fits, l)) c.in-Waits.ensures.comes;
       takes = c.in-Bytes.ensures.counts ∙ c.pieces.invariant.takes;
       puts = c.in-Waits.ensures.counts ∙ c.pieces.invariant.puts;
     }

@@ -20,12 +20,14 @@ returns-in-One-clause-only c =
 
 pub returns-in-Bad-request_body_of-clause-cases : goal.returns-in-Bad-request_body_of-clause-cases
 returns-in-Bad-request_body_of-clause-cases c =
-    none_is_refused is_request_head asked_version asked_kind asked_body IsAsked SpellsRequest asked_at to_server c.args.bytes.now c.in-Whole.version c.in-Whole.kind c.in-Whole.body.now c.in-Whole.ensures
+    none_is_refused is_request_head asked_version asked_kind asked_body IsAsked SpellsRequest asked_at to_server
+    c.args.bytes.now c.in-Whole.version c.in-Whole.kind c.in-Whole.body.now c.in-Whole.ensures
     (asked_none c.in-Whole.version c.in-Whole.kind c.in-Whole.body.now c.in-Bad-request_body_of.ensures)
 
 pub returns-in-Bad-request_body_of-clause-only : goal.returns-in-Bad-request_body_of-clause-only
 returns-in-Bad-request_body_of-clause-only c =
-    none_is_spelled is_request_head asked_version asked_kind asked_body IsAsked SpellsRequest asked_at to_server c.args.bytes.now c.in-Whole.version c.in-Whole.kind c.in-Whole.body.now c.in-Whole.ensures
+    none_is_spelled is_request_head asked_version asked_kind asked_body IsAsked SpellsRequest asked_at to_server
+    c.args.bytes.now c.in-Whole.version c.in-Whole.kind c.in-Whole.body.now c.in-Whole.ensures
     (asked_none c.in-Whole.version c.in-Whole.kind c.in-Whole.body.now c.in-Bad-request_body_of.ensures)
 
 pub returns-in-Bad-clause-only : goal.returns-in-Bad-clause-only

@@ -7,4 +7,5 @@ use Rattle.wire_reading.proofs.checks.binary_size.Goals as goal
 
 pub returns : goal.returns
 returns c =
-    tested c.from_number.result (is_within 1 8000) IsBinarySize c.args.bytes c.from_number.ensures.value c.from_number.ensures.exactly (within_from 1 8000 c.args.bytes) (λ h. within_to 1 8000 c.args.bytes h.0 h.1)
+    tested c.from_number.result (is_within 1 8000) IsBinarySize c.args.bytes c.from_number.ensures.value
+    c.from_number.ensures.exactly (within_from 1 8000 c.args.bytes) (λ h. within_to 1 8000 c.args.bytes h.0 h.1)

@@ -7,4 +7,5 @@ use Rattle.wire_reading.proofs.checks.text_size.Goals as goal
 
 pub returns : goal.returns
 returns c =
-    tested c.from_number.result (is_within 1 4000) IsTextSize c.args.units c.from_number.ensures.value c.from_number.ensures.exactly (within_from 1 4000 c.args.units) (λ h. within_to 1 4000 c.args.units h.0 h.1)
+    tested c.from_number.result (is_within 1 4000) IsTextSize c.args.units c.from_number.ensures.value
+    c.from_number.ensures.exactly (within_from 1 4000 c.args.units) (λ h. within_to 1 4000 c.args.units h.0 h.1)

@@ -7,4 +7,5 @@ use Rattle.wire_reading.proofs.checks.unique_number.Goals as goal
 
 pub returns : goal.returns
 returns c =
-    tested c.from_number.result (is_within 1 8) IsUniqueNumber c.args.number c.from_number.ensures.value c.from_number.ensures.exactly (within_from 1 8 c.args.number) (λ h. within_to 1 8 c.args.number h.0 h.1)
+    tested c.from_number.result (is_within 1 8) IsUniqueNumber c.args.number c.from_number.ensures.value
+    c.from_number.ensures.exactly (within_from 1 8 c.args.number) (λ h. within_to 1 8 c.args.number h.0 h.1)

@@ -9,4 +9,13 @@ mend_length-requires-clause-length c =
     let w = request_within c.args.request.now c.in_ok-push_request_body.ensures.meets in
     let b = ap length c.in_ok-push_request_body.ensures.bytes in
     let h = ap length c.in_ok-extend_from_slice.ensures.items in
-    omega (arith, w, b, h, c.len-start.ensures, length-append c.extend_from_slice.new.self.items (request_body c.args.request.now), length-append c.args.out.now.items (c.version_byte.result ∷ c.request_kind.result ∷ 0 ∷ 0 ∷ 0 ∷ 0 ∷ []))
+    omega (
+      arith,
+      w,
+      b,
+      h,
+      c.len-start.ensures,
+      length-append c.extend_from_slice.new.self.items
+          (request_body c.args.request.now),
+      length-append c.args.out.now.items (c.version_byte.result ∷ c.request_kind.result ∷ 0 ∷ 0 ∷ 0 ∷ 0 ∷ []),
+    )

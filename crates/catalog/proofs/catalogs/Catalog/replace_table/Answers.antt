@@ -18,7 +18,8 @@ returns c =
     let view : the_view c.self.inside ≡ c.args.self.now = c.self.view_is in
     let last : is_at_last_version (the_view c.self.inside) ≡ false = ap is_at_last_version view ∙ sym c.is_at_last_version.ensures ∙ c.if-is_at_last_version.false in
     let at : table_place (the_view c.self.inside) c.args.old ≡ Some c.unwrap-place.result = ap (λ catalog. table_place catalog c.args.old) view ∙ sym c.table_place.ensures ∙ c.unwrap-place.ensures in
-    let at_new : table_place (the_view c.self.inside) c.args.new.now ≡ Some c.unwrap-from.result = ap (λ catalog. table_place catalog c.args.new.now) view ∙ sym c.table_place-2.ensures ∙ c.unwrap-from.ensures in
+    let at_new : table_place (the_view c.self.inside) c.args.new.now ≡ Some c.unwrap-from.result = ap
+    (λ catalog. table_place catalog c.args.new.now) view ∙ sym c.table_place-2.ensures ∙ c.unwrap-from.ensures in
     ap (λ catalog. with_replacement catalog c.args.old c.args.new.now) (sym view)
     ∙ replaced_there (the_view c.self.inside) c.args.old c.args.new.now c.unwrap-place.result c.unwrap-from.result c.get-table.result.now
     (record { name = c.args.old; columns = c.in_ok-copy.field-0; uniques = c.in_ok-copy-2.field-0 }) c.remove.new.self

@@ -9,7 +9,8 @@ use Rattle.disk.proofs.mem_disk.MemDiskDisk.read.Goals.{in-Succeeds, in-Fails, i
 use Rattle.disk.proofs.mem_disk.MemDiskDisk.read.Goals as goal
 
 pub invariant_of-self : goal.invariant_of-self
-invariant_of-self c = order_noted c.self.inside.first.items c.self.inside.log c.note.new.self (Read c.args.at c.args.max) c.self.inside.bytes.items c.self.invariant c.note.result c.note.ensures.noted tt refl
+invariant_of-self c = order_noted c.self.inside.first.items c.self.inside.log c.note.new.self (Read c.args.at c.args.max)
+    c.self.inside.bytes.items c.self.invariant c.note.result c.note.ensures.noted tt refl
 
 pub returns-clause-content : goal.returns-clause-content
 returns-clause-content c =
@@ -20,11 +21,16 @@ returns-clause-content c =
     let e : c.in-Ok.part ≡ take ((c.min-start.result + c.min-count.result) - c.min-start.result) (drop c.min-start.result file) = search rules in
     let part = part_is file c.in-Ok.part c.args.at c.args.max c.min-start.result c.min-count.result c.requires s n e in
     elim c.match-note.branch [
-      | in-Succeeds w ↦ rw w.result-is (passes_done c.self.inside.first.items c.self.inside.log c.note.new.self (Read c.args.at c.args.max) c.self.inside.bytes.items c.self.invariant w.in-Succeeds.ensures.noted tt
+      | in-Succeeds w ↦ rw w.result-is
+          (passes_done c.self.inside.first.items c.self.inside.log c.note.new.self (Read c.args.at c.args.max) c.self.inside.bytes.items c.self.invariant w.in-Succeeds.ensures.noted tt
           (λ before after. (after ≡ before) × IsPart c.args.at c.in-Ok.part before.seen) c.args.self.now.told told
           (refl, subst (IsPart c.args.at c.in-Ok.part) (sym c.self.invariant.0) part))
-      | in-Fails w ↦ rw w.result-is (passes_failed c.self.inside.first.items c.self.inside.log c.note.new.self (Read c.args.at c.args.max) c.self.inside.bytes.items c.self.invariant w.in-Fails.ensures.noted StaysSynced c.args.self.now.told told (refl, refl))
-      | in-OutOfMemory w ↦ rw w.result-is (unnoted c.self.inside.first.items c.self.inside.log c.note.new.self (Read c.args.at c.args.max) c.self.inside.bytes.items c.self.invariant w.in-OutOfMemory.ensures.noted c.args.self.now.told told)
+      | in-Fails w ↦ rw w.result-is
+          (passes_failed c.self.inside.first.items c.self.inside.log c.note.new.self (Read c.args.at c.args.max)
+          c.self.inside.bytes.items c.self.invariant w.in-Fails.ensures.noted StaysSynced c.args.self.now.told told (refl, refl))
+      | in-OutOfMemory w ↦ rw w.result-is
+          (unnoted c.self.inside.first.items c.self.inside.log c.note.new.self (Read c.args.at c.args.max)
+          c.self.inside.bytes.items c.self.invariant w.in-OutOfMemory.ensures.noted c.args.self.now.told told)
     ]
 
 pub returns-clause-noted : goal.returns-clause-noted
@@ -32,5 +38,6 @@ returns-clause-noted c =
     elim c.match-note.branch [
       | in-Succeeds w ↦ rw w.result-is (has_made c.self.inside.first.items c.self.inside.log c.note.new.self (Read c.args.at c.args.max) c.args.self.now c.self.view_is w.in-Succeeds.ensures.noted)
       | in-Fails w ↦ rw w.result-is (has_failed c.self.inside.first.items c.self.inside.log c.note.new.self (Read c.args.at c.args.max) c.args.self.now c.self.view_is w.in-Fails.ensures.noted)
-      | in-OutOfMemory w ↦ rw w.result-is (is_unmade c.self.inside.first.items c.self.inside.log c.note.new.self (Read c.args.at c.args.max) c.args.self.now c.self.view_is w.in-OutOfMemory.ensures.noted)
+      | in-OutOfMemory w ↦ rw w.result-is
+          (is_unmade c.self.inside.first.items c.self.inside.log c.note.new.self (Read c.args.at c.args.max) c.args.self.now c.self.view_is w.in-OutOfMemory.ensures.noted)
     ]

@@ -19,8 +19,11 @@ returns-clause-content c =
           let n : w.len.result ≡ length c.self.inside.bytes.items = search rules in
           rw w.result-is (passes_done c.self.inside.first.items c.self.inside.log c.note.new.self Size c.self.inside.bytes.items c.self.invariant w.in-Succeeds.ensures.noted tt
           (λ before after. (after ≡ before) × (w.len.result ≡ length before.seen)) c.args.self.now.told told (refl, n ∙ ap length (sym c.self.invariant.0)))
-      | in-Fails w ↦ rw w.result-is (passes_failed c.self.inside.first.items c.self.inside.log c.note.new.self Size c.self.inside.bytes.items c.self.invariant w.in-Fails.ensures.noted StaysSynced c.args.self.now.told told (refl, refl))
-      | in-OutOfMemory w ↦ rw w.result-is (unnoted c.self.inside.first.items c.self.inside.log c.note.new.self Size c.self.inside.bytes.items c.self.invariant w.in-OutOfMemory.ensures.noted c.args.self.now.told told)
+      | in-Fails w ↦ rw w.result-is
+          (passes_failed c.self.inside.first.items c.self.inside.log c.note.new.self Size c.self.inside.bytes.items
+          c.self.invariant w.in-Fails.ensures.noted StaysSynced c.args.self.now.told told (refl, refl))
+      | in-OutOfMemory w ↦ rw w.result-is
+          (unnoted c.self.inside.first.items c.self.inside.log c.note.new.self Size c.self.inside.bytes.items c.self.invariant w.in-OutOfMemory.ensures.noted c.args.self.now.told told)
     ]
 
 pub returns-clause-noted : goal.returns-clause-noted

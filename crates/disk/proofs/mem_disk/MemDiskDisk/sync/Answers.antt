@@ -16,9 +16,14 @@ pub returns-clause-content : goal.returns-clause-content
 returns-clause-content c =
     let told = (ap (λ (d : DiskState). d.told) (sym c.self.view_is)) in
     elim c.match-note.branch [
-      | in-Succeeds w ↦ rw w.result-is (passes_done c.self.inside.first.items c.self.inside.log c.note.new.self Sync c.self.inside.bytes.items c.self.invariant w.in-Succeeds.ensures.noted tt (λ before after. after ≡ kept before.seen) c.args.self.now.told told refl)
-      | in-Fails w ↦ rw w.result-is (passes_failed c.self.inside.first.items c.self.inside.log c.note.new.self Sync c.self.inside.bytes.items c.self.invariant w.in-Fails.ensures.noted StaysSynced c.args.self.now.told told (refl, refl))
-      | in-OutOfMemory w ↦ rw w.result-is (unnoted c.self.inside.first.items c.self.inside.log c.note.new.self Sync c.self.inside.bytes.items c.self.invariant w.in-OutOfMemory.ensures.noted c.args.self.now.told told)
+      | in-Succeeds w ↦ rw w.result-is
+          (passes_done c.self.inside.first.items c.self.inside.log c.note.new.self Sync c.self.inside.bytes.items
+          c.self.invariant w.in-Succeeds.ensures.noted tt (λ before after. after ≡ kept before.seen) c.args.self.now.told told refl)
+      | in-Fails w ↦ rw w.result-is
+          (passes_failed c.self.inside.first.items c.self.inside.log c.note.new.self Sync c.self.inside.bytes.items
+          c.self.invariant w.in-Fails.ensures.noted StaysSynced c.args.self.now.told told (refl, refl))
+      | in-OutOfMemory w ↦ rw w.result-is
+          (unnoted c.self.inside.first.items c.self.inside.log c.note.new.self Sync c.self.inside.bytes.items c.self.invariant w.in-OutOfMemory.ensures.noted c.args.self.now.told told)
     ]
 
 pub returns-clause-noted : goal.returns-clause-noted

@@ -26,7 +26,8 @@ returns-in_ok-push-in-Some g c =
     let columns = c.args.columns.now in
     let i = c.index_among.ensures.all t.numbers t.rows (rw c.as_slice.ensures.value c.self.invariant.indexed) in
     let has = subst (λ (held : Held). Contains held.keys columns) (sym c.self.view_is) c.requires in
-    let found = one_place columns c.args.key.now t.numbers t.rows c.index_among.result.now c.index_among.ensures.places i (keys_of c.self.inside.indexes.items) t.next c.len.ensures.each has c.self.invariant.distinct
+    let found = one_place columns c.args.key.now t.numbers t.rows c.index_among.result.now c.index_among.ensures.places
+    i (keys_of c.self.inside.indexes.items) t.next c.len.ensures.each has c.self.invariant.distinct
     c.in-Some.number c.place_of.result c.len.ensures.rising (sym c.number_of.ensures ∙ c.in-Some.is) c.place_of.ensures.within c.place_of.ensures.number in
     rw (← c.self.view_is) (c.in_ok-push-in-Some.ensures.items ∙ ap (λ l. before ++ l) (sym found))
 
@@ -37,5 +38,6 @@ returns-in-None g c =
     let columns = c.args.columns.now in
     let i = c.index_among.ensures.all t.numbers t.rows (rw c.as_slice.ensures.value c.self.invariant.indexed) in
     let has = subst (λ (held : Held). Contains held.keys columns) (sym c.self.view_is) c.requires in
-    let none = no_place columns c.args.key.now t.numbers t.rows c.index_among.result.now c.index_among.ensures.places i (keys_of c.self.inside.indexes.items) t.next c.len.ensures.each has c.self.invariant.distinct (sym c.number_of.ensures ∙ c.in-None.is) in
+    let none = no_place columns c.args.key.now t.numbers t.rows c.index_among.result.now c.index_among.ensures.places
+    i (keys_of c.self.inside.indexes.items) t.next c.len.ensures.each has c.self.invariant.distinct (sym c.number_of.ensures ∙ c.in-None.is) in
     rw (← c.self.view_is) (sym (append-nil before) ∙ ap (λ l. before ++ l) (sym none))

@@ -20,8 +20,10 @@ returns-in-Ok-clause-answers g c = λ held e.
     let disk = g.D.Disk.told c.args.disk.now in
     let out = g.W.Sink.held c.args.out.now in
     let after = outside new.journal.gate (g.D.Disk.told c.append_and_put.new.disk) (g.W.Sink.held c.append_and_put.new.out) in
-    let put = subst (λ (j : JournalState). PutsBy result (packed c.args.asked.now.version replies) (option_to_list entry) (outside j.gate disk out) after) c.in-Ok.ensures.journal c.append_and_put.ensures.put in
-    answers_so result held c.args.asked.now c.args.self.now c.serve.new.self new replies entry (outside c.args.self.now.journal.gate disk out) after c.in-Ok.ensures.served e c.append_and_put.ensures.kept put
+    let put = subst (λ (j : JournalState). PutsBy result (packed c.args.asked.now.version replies) (option_to_list entry) (outside j.gate disk out) after)
+    c.in-Ok.ensures.journal c.append_and_put.ensures.put in
+    answers_so result held c.args.asked.now c.args.self.now c.serve.new.self new replies entry
+    (outside c.args.self.now.journal.gate disk out) after c.in-Ok.ensures.served e c.append_and_put.ensures.kept put
 
 pub returns-in-Err-clause-answers : goal.returns-in-Err-clause-answers
 returns-in-Err-clause-answers g c = λ held e.

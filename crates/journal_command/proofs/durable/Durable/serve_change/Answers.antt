@@ -32,7 +32,8 @@ returns-else-is_done-clause-served c =
     let new : DurableState = record { state = c.serve.new.self; held = c.leave.new.self; journal = c.self.inside.journal } in
     let undone : is_done c.in_ok-replies.replies ≡ false = search rules in
     subst (λ (d : DurableState). IsServed c.in_ok-replies.replies None c.args.asked.now d new) c.self.view_is
-    (served_undone c.in_ok-replies.replies c.args.asked.now c.args.session old new c.in_ok-replies.ensures.served c.args.sort c.has_transaction-stays.result c.requires.asked undone c.has_transaction-stays.ensures
+    (served_undone c.in_ok-replies.replies c.args.asked.now c.args.session old new c.in_ok-replies.ensures.served
+    c.args.sort c.has_transaction-stays.result c.requires.asked undone c.has_transaction-stays.ensures
     (λ held e. c.leave.ensures held c.args.asked.now (c.in_ok-room.ensures.made held e)))
 
 pub returns-else-is_done-clause-holds : goal.returns-else-is_done-clause-holds
@@ -41,6 +42,7 @@ returns-else-is_done-clause-holds c =
     let new : DurableState = record { state = c.serve.new.self; held = c.leave.new.self; journal = c.self.inside.journal } in
     let undone : is_done c.in_ok-replies.replies ≡ false = search rules in
     let holds : IsHolding old.held = subst (λ (d : DurableState). IsHolding d.held) (sym c.self.view_is) c.requires.holds in
-    let s = served_undone c.in_ok-replies.replies c.args.asked.now c.args.session old new c.in_ok-replies.ensures.served c.args.sort c.has_transaction-stays.result c.requires.asked undone c.has_transaction-stays.ensures
+    let s = served_undone c.in_ok-replies.replies c.args.asked.now c.args.session old new c.in_ok-replies.ensures.served
+    c.args.sort c.has_transaction-stays.result c.requires.asked undone c.has_transaction-stays.ensures
     (λ held e. c.leave.ensures held c.args.asked.now (c.in_ok-room.ensures.made held e)) in
     (served_holds c.in_ok-replies.replies None c.args.asked.now old new s holds (λ x. (c.in_ok-room.ensures.meets, x))).1

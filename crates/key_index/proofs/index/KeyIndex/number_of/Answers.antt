@@ -7,4 +7,5 @@ pub returns : goal.returns
 returns g c =
     rw (← c.self.view_is)
     (c.number_by.ensures (number_under (map (λ level. map (λ e. (e.0.items, e.1)) level.value.entries) c.as_slice.result.now)) c.number_below.ensures
-    ∙ ap (λ ls. number_through (map (λ e. (e.0.items, e.1)) c.self.inside.top.entries) (number_under (map (λ level. map (λ e. (e.0.items, e.1)) level.value.entries) ls)) c.args.key.now) c.as_slice.ensures.value)
+    ∙ ap (λ ls. number_through (map (λ e. (e.0.items, e.1)) c.self.inside.top.entries)
+    (number_under (map (λ level. map (λ e. (e.0.items, e.1)) level.value.entries) ls)) c.args.key.now) c.as_slice.ensures.value)

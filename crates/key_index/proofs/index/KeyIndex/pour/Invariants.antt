@@ -8,7 +8,8 @@ use Rattle.key_index.proofs.index.KeyIndex.pour.Given as goal
 
 abbrev pub invariant-loop-atoms : goal.invariant-loop-atoms
 invariant-loop-atoms g l = record {
-  so_far : (key : List Atom) → number_through (map (λ e. (e.0.items, e.1)) l.fn.level.entries) (number_at l.fn.self) key ≡ number_through (map (λ e. (e.0.items, e.1)) l.level.entries) (number_at l.self) key;
+  so_far : (key : List Atom)
+      → number_through (map (λ e. (e.0.items, e.1)) l.fn.level.entries) (number_at l.fn.self) key ≡ number_through (map (λ e. (e.0.items, e.1)) l.level.entries) (number_at l.self) key;
   room : index_map_len l.level ≤ l.self.spare;
 }
 

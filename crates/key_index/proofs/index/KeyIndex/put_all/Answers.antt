@@ -18,7 +18,9 @@ loop-key-preserved g c =
     let h = c.loop-key.invariant in
     let is = c.in-Some.ensures.steps.0 in
     record {
-      so_far = λ key. h.so_far key ∙ put_more key c.in-Some.key (number_at c.loop-key.self key) (number_at c.put.new.self key) c.args.numbers.now c.loop-key.key-iterator.rest.items c.next.new.self.rest.items c.loop-key.i (get_or c.args.numbers.now c.loop-key.i 0) 0 (omega (arith, h.each, ap length is)) refl is (c.put.ensures.number key);
+      so_far = λ key. h.so_far key ∙ put_more key c.in-Some.key (number_at c.loop-key.self key)
+          (number_at c.put.new.self key) c.args.numbers.now c.loop-key.key-iterator.rest.items c.next.new.self.rest.items
+          c.loop-key.i (get_or c.args.numbers.now c.loop-key.i 0) 0 (omega (arith, h.each, ap length is)) refl is (c.put.ensures.number key);
       each = omega (arith, h.each, ap length is);
       room = omega (arith, h.room, ap length is, c.put.ensures.room);
     }

@@ -18,7 +18,8 @@ loop-key-preserved g c =
     let h = c.loop-key.invariant in
     let is = c.in-Some.ensures.steps.0 in
     record {
-      so_far = λ key. h.so_far key ∙ taken_next key c.in-Some.key (number_at c.loop-key.self key) (number_at c.remove.new.self key) c.loop-key.key-iterator.rest.items c.next.new.self.rest.items is (c.remove.ensures.number key);
+      so_far = λ key. h.so_far key ∙ taken_next key c.in-Some.key (number_at c.loop-key.self key)
+          (number_at c.remove.new.self key) c.loop-key.key-iterator.rest.items c.next.new.self.rest.items is (c.remove.ensures.number key);
       room = omega (arith, h.room, ap length is, c.remove.ensures.room);
       used = omega (arith, h.used, ap length is, c.remove.ensures.room);
     }

@@ -26,7 +26,8 @@ returns-in-OutOfMemory g c =
     let s = c.as_slice-answer.ensures in
     let n = none_came c.args.self.now.lacks.now c.args.self.now.lack.now.unasked c.if-self.false in
     let v = served_so _ c.args.request.now _ _ c.others_at-others.ensures c.next_at-self.ensures _ n _ _ _ c.in-Ok-ask_behind.ensures.state in
-    sends_so c.args.request.now _ _ refl refl _ v _ (three_same _ _ _ _ _ c.in-OutOfMemory.ensures.same c.in-Ok-ask_behind.ensures.same) sent.OutOfMemory _ _ _ _ (rw s at c.in-OutOfMemory.ensures.puts)
+    sends_so c.args.request.now _ _ refl refl _ v _ (three_same _ _ _ _ _ c.in-OutOfMemory.ensures.same c.in-Ok-ask_behind.ensures.same)
+    sent.OutOfMemory _ _ _ _ (rw s at c.in-OutOfMemory.ensures.puts)
 
 pub returns-in-Ok-join : goal.returns-in-Ok-join
 returns-in-Ok-join g c =

@@ -12,7 +12,8 @@ invariant_of-self g c =
     let rows = c.self.inside.rows.rows in
     let places = c.args.places.now in
     record {
-      each = ap length c.drop_at-2.ensures ∙ ap (λ n. length (unhit numbers (marked 0 n places))) h.each ∙ unhit_each numbers rows (marked 0 (length rows) places) h.each ∙ sym (ap length c.drop_at.ensures);
+      each = ap length c.drop_at-2.ensures ∙ ap (λ n. length (unhit numbers (marked 0 n places))) h.each ∙
+          unhit_each numbers rows (marked 0 (length rows) places) h.each ∙ sym (ap length c.drop_at.ensures);
       rising = subst (AreRising 0 c.self.inside.next) (sym c.drop_at-2.ensures) (rising_unhit 0 c.self.inside.next numbers (marked 0 (length numbers) places) h.rising);
       room = (omega arith, omega arith);
       fits = omega (arith, h.fits);

@@ -23,7 +23,18 @@ invariant_of-self g c =
       kept = record {
         paged = subst (λ vs. IsPaged (sizes vs)) (sym c.pack.ensures.pages) (packed_paged (values mid) c.thin.ensures.small);
         ready = kept.ready;
-        room = omega (arith, kept.room, ap length c.pack.ensures.pages, values_length new, values_length mid, packed_length (values mid), c.thin.ensures.length, c.pack.ensures.capacity, c.thin.ensures.capacity);
+        room = omega (
+          arith,
+          kept.room,
+          ap length c.pack.ensures.pages,
+          values_length new,
+          values_length mid,
+          packed_length
+              (values mid),
+          c.thin.ensures.length,
+          c.pack.ensures.capacity,
+          c.thin.ensures.capacity,
+        );
       };
       count = omega (arith, n, ap length rows, c.self.invariant.count);
       spare = omega arith;

@@ -21,5 +21,6 @@ pub returns : goal.returns
 returns g c = λ default.
     let p = rw c.as_slice.ensures.value at c.find-place.ensures in
     let pages = c.self.inside.pages.items in
-    c.get.ensures default ∙ place_read (values pages) c.args.i c.find-place.result.page c.find-place.result.at c.index.result.now.value default p (value_at pages c.find-place.result.page c.index.result.now c.index.ensures)
+    c.get.ensures default ∙ place_read (values pages) c.args.i c.find-place.result.page c.find-place.result.at
+    c.index.result.now.value default p (value_at pages c.find-place.result.page c.index.result.now c.index.ensures)
     ∙ ap (λ (s : Stored _). get_or s.rows c.args.i default) c.self.view_is

@@ -7,4 +7,5 @@ raise_table-requires g c = further_next c.args.self.now c.args.names.now c.loop-
 
 pub loop-name-preserved : goal.loop-name-preserved
 loop-name-preserved g c =
-    raised_next c.args.self.now c.args.names.now c.loop-name.self c.loop-name.name-index c.name-item.result c.loop-name.invariant c.loop-name-test.true c.name-item.is c.raise_table.new.self c.raise_table.ensures
+    raised_next c.args.self.now c.args.names.now c.loop-name.self c.loop-name.name-index c.name-item.result
+    c.loop-name.invariant c.loop-name-test.true c.name-item.is c.raise_table.new.self c.raise_table.ensures

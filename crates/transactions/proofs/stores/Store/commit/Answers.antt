@@ -22,7 +22,8 @@ commit-requires-clause-shape g c = c.self.invariant.shape
 pub invariant_of-self-in-Ok-None : goal.invariant_of-self-in-Ok-None
 invariant_of-self-in-Ok-None g c =
     let old : Store = store_of c.self.inside.shared c.self.inside.slots.transactions in
-    let done = commits old c.args.session c.in-Some.transaction c.commit.new.shared c.take.new.self.transactions (sym c.take.ensures.value ∙ c.in-Some.is) c.take.ensures.after (sym c.in-Ok-None.ensures ∙ c.in-Ok-None.field-0-is) c.commit.ensures in
+    let done = commits old c.args.session c.in-Some.transaction c.commit.new.shared c.take.new.self.transactions
+    (sym c.take.ensures.value ∙ c.in-Some.is) c.take.ensures.after (sym c.in-Ok-None.ensures ∙ c.in-Ok-None.field-0-is) c.commit.ensures in
     subst IsHeld (ap (λ (t : Transacted). t.after) done) (transact_held old c.args.session Commits c.self.invariant tt)
 
 pub returns-in-Err : goal.returns-in-Err

@@ -26,7 +26,8 @@ invariant_of-self g c =
     let done = steps_transacts old n c.step_in-answer.result e c.in-Some.transaction c.step_in-answer.new.transaction c.put.new.self.transactions (sym c.take.ensures.value ∙ c.in-Some.is)
     (c.put.ensures ∙ ap (λ xs. set xs (n - 1) (Some c.step_in-answer.new.transaction)) c.take.ensures.after) c.step_in-answer.ensures in
     held_after c.step_in-answer.result old (store_of old.shared c.put.new.self.transactions) (transact old n (Executes e)) done c.self.invariant
-    (transact_held old n (Executes e) c.self.invariant (subst (λ (s : Store). IsOnTables (world_of s n).world.catalog.tables b × MayDefine (world_of s n).world.catalog b.statement) (sym same) (c.requires.tables, c.requires.definable)))
+    (transact_held old n (Executes e) c.self.invariant
+    (subst (λ (s : Store). IsOnTables (world_of s n).world.catalog.tables b × MayDefine (world_of s n).world.catalog b.statement) (sym same) (c.requires.tables, c.requires.definable)))
 
 pub invariant_of-self-in-None : goal.invariant_of-self-in-None
 invariant_of-self-in-None g c =
@@ -35,9 +36,11 @@ invariant_of-self-in-None g c =
     let n = c.args.session in
     let b = bound_of c.args.bound in
     let e = execution b c.args.encs.now c.args.params.now in
-    let done = alone_transacts old n c.execute_alone.result e c.execute_alone.new.self c.take.new.self.transactions (sym c.take.ensures.value ∙ c.in-None.is) c.take.ensures.after c.execute_alone.ensures in
+    let done = alone_transacts old n c.execute_alone.result e c.execute_alone.new.self c.take.new.self.transactions
+    (sym c.take.ensures.value ∙ c.in-None.is) c.take.ensures.after c.execute_alone.ensures in
     held_after c.execute_alone.result old (store_of c.execute_alone.new.self c.take.new.self.transactions) (transact old n (Executes e)) done c.self.invariant
-    (transact_held old n (Executes e) c.self.invariant (subst (λ (s : Store). IsOnTables (world_of s n).world.catalog.tables b × MayDefine (world_of s n).world.catalog b.statement) (sym same) (c.requires.tables, c.requires.definable)))
+    (transact_held old n (Executes e) c.self.invariant
+    (subst (λ (s : Store). IsOnTables (world_of s n).world.catalog.tables b × MayDefine (world_of s n).world.catalog b.statement) (sym same) (c.requires.tables, c.requires.definable)))
 
 pub returns-in-Some : goal.returns-in-Some
 returns-in-Some g c =

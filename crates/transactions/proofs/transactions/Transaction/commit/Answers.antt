@@ -13,24 +13,28 @@ take_over-requires g c =
 
 pub raise_tables-requires-clause-there : goal.raise_tables-requires-clause-there
 raise_tables-requires-clause-there g c =
-    let laid = c.take_over.ensures ∙ ap (λ us. over (is_used us) c.args.shared.now c.self.inside.own) c.as_slice.ensures.value ∙ ap (λ (t : Transaction). over (is_used t.used) c.args.shared.now t.own) c.self.view_is in
+    let laid = c.take_over.ensures ∙ ap (λ us. over (is_used us) c.args.shared.now c.self.inside.own)
+    c.as_slice.ensures.value ∙ ap (λ (t : Transaction). over (is_used t.used) c.args.shared.now t.own) c.self.view_is in
     let names = c.as_slice-2.ensures.value ∙ ap (λ (t : Transaction). t.changed) c.self.view_is in
     (may_raise c.args.shared.now c.args.self _ _ c.requires.noted laid names).there
 
 pub raise_tables-requires-clause-further : goal.raise_tables-requires-clause-further
 raise_tables-requires-clause-further g c =
-    let laid = c.take_over.ensures ∙ ap (λ us. over (is_used us) c.args.shared.now c.self.inside.own) c.as_slice.ensures.value ∙ ap (λ (t : Transaction). over (is_used t.used) c.args.shared.now t.own) c.self.view_is in
+    let laid = c.take_over.ensures ∙ ap (λ us. over (is_used us) c.args.shared.now c.self.inside.own)
+    c.as_slice.ensures.value ∙ ap (λ (t : Transaction). over (is_used t.used) c.args.shared.now t.own) c.self.view_is in
     let names = c.as_slice-2.ensures.value ∙ ap (λ (t : Transaction). t.changed) c.self.view_is in
     (may_raise c.args.shared.now c.args.self _ _ c.requires.noted laid names).further
 
 pub raise_tables-requires-clause-apart : goal.raise_tables-requires-clause-apart
 raise_tables-requires-clause-apart g c =
-    let laid = c.take_over.ensures ∙ ap (λ us. over (is_used us) c.args.shared.now c.self.inside.own) c.as_slice.ensures.value ∙ ap (λ (t : Transaction). over (is_used t.used) c.args.shared.now t.own) c.self.view_is in
+    let laid = c.take_over.ensures ∙ ap (λ us. over (is_used us) c.args.shared.now c.self.inside.own)
+    c.as_slice.ensures.value ∙ ap (λ (t : Transaction). over (is_used t.used) c.args.shared.now t.own) c.self.view_is in
     let names = c.as_slice-2.ensures.value ∙ ap (λ (t : Transaction). t.changed) c.self.view_is in
     (may_raise c.args.shared.now c.args.self _ _ c.requires.noted laid names).apart
 
 pub returns : goal.returns
 returns g c =
-    let laid = c.take_over.ensures ∙ ap (λ us. over (is_used us) c.args.shared.now c.self.inside.own) c.as_slice.ensures.value ∙ ap (λ (t : Transaction). over (is_used t.used) c.args.shared.now t.own) c.self.view_is in
+    let laid = c.take_over.ensures ∙ ap (λ us. over (is_used us) c.args.shared.now c.self.inside.own)
+    c.as_slice.ensures.value ∙ ap (λ (t : Transaction). over (is_used t.used) c.args.shared.now t.own) c.self.view_is in
     let names = c.as_slice-2.ensures.value ∙ ap (λ (t : Transaction). t.changed) c.self.view_is in
     c.raise_tables.ensures ∙ ap (raised_all c.take_over.new.own) names ∙ ap (λ laid. raised_all laid c.args.self.changed) laid
