@@ -24,14 +24,14 @@ SECONDS = {
     "ae_base": 141, "ae_cli": 200, "ae_edge": 91, "aes_block": 120, "catalog": 95, "cell_codec": 33, "check_command": 70,
     "command_words": 103, "conversation": 36, "disk": 63, "drive_command": 100, "driver": 198, "enc_types": 61, "engine": 169,
     "expression_binding": 78, "frame_feed": 48, "indexed_tables": 95, "inference": 58, "journal_command": 111,
-    "journal_core": 40, "key_index": 92, "key_store": 40, "keyed_joins": 121, "lookups": 60, "operators": 107, "outcome_text": 59,
-    "plan_runs": 150, "planner": 76, "query_results": 75, "resolve": 225, "row_changes": 120, "row_lookups": 90, "row_store": 68,
+    "journal_core": 40, "key_index": 92, "key_store": 40, "hash_joins": 121, "lookups": 60, "operators": 107, "outcome_text": 59,
+    "executor": 150, "planner": 76, "query_results": 75, "resolve": 225, "row_changes": 120, "row_lookups": 90, "row_store": 68,
     "run_command": 80,
     "scalar": 99, "script_lang": 100, "script_run": 127, "semantic_checks": 87, "serve_command": 62, "server_core": 121,
     "sql_ddl": 112, "sql_expressions": 152, "sql_parse": 137, "sql_tree": 108, "statement_analysis": 93,
     "table_changes": 95, "transactions": 203,
     "unique_keys": 61, "value_norm": 36, "wire_bodies": 83, "wire_messages": 87, "wire_parts": 65, "wire_payloads": 33,
-    "wire_reading": 89, "wire_spelling": 134,
+    "wire_decoding": 89, "wire_encoding": 134,
 }
 OTHER = 18
 MEMORY = 2 << 30  # bytes that a proof may take; few take more

@@ -6,7 +6,7 @@ use Rattle.std.specs.List.{AllZip}
 use Rattle.ae_base.specs.declared.batches.Batch.{Batch}
 use Rattle.ae_base.specs.declared.faults.SqlFault.TheVariants.{EncryptionClash}
 use Rattle.ae_base.specs.declared.frames.FrameVersion.{FrameVersion}
-use Rattle.ae_edge.specs.Devices.{AddsFront}
+use Rattle.ae_edge.specs.Devices.{AddsPrefix}
 use Rattle.ae_edge.specs.Vaults.{KeyMap}
 use Rattle.ae_edge.proofs.Interface.{adds_front_none, removes_none}
 use Rattle.command_words.specs.Words.{command_in}
@@ -31,11 +31,11 @@ use Rattle.script_run.specs.declared.runs.Ran.TheVariants as ran
 use Rattle.script_run.specs.declared.status.Status.{Status}
 use Rattle.script_run.specs.declared.status.Status.TheVariants as status
 use Rattle.run_effects.specs.declared.stops.Stop.TheVariants as stop
-use Rattle.plain_meaning.specs.Alike.{Alike}
-use Rattle.plain_meaning.specs.Clashes.{IsBoundAs, IsClash, IsReached, IsRunIn, IsUntypedAt, batch_of}
-use Rattle.plain_meaning.specs.Laws.{ClashesExactly}
-use Rattle.plain_meaning.specs.Batches.{Came, begun, executed_with, execution_of, readied, waits, why_unopened}
-use Rattle.plain_meaning.specs.Reference.{held_at, means, nothing_held, reference, with_held}
+use Rattle.plaintext_laws.specs.Alike.{Alike}
+use Rattle.plaintext_laws.specs.Clashes.{IsBoundAs, IsClash, IsReached, IsRunIn, IsUntypedAt, batch_of}
+use Rattle.plaintext_laws.specs.Laws.{ClashesExactly}
+use Rattle.plaintext_laws.specs.Batches.{Came, begun, executed_with, execution_of, readied, waits, why_unopened}
+use Rattle.plaintext_laws.specs.Reference.{held_at, means, nothing_held, reference, with_held}
 use Rattle.run_command.specs.Ends.{RunDevices, RunsScript}
 use Rattle.run_command.specs.declared.runs.Count.{Count}
 use Rattle.run_command.specs.Plain.{IsDoneOrFault, PrintsPlain, meaning}
@@ -161,11 +161,11 @@ module _ (version : FrameVersion) (keys : KeyMap) (steps : List Step) (old new :
       let tap : new.tap.content ≡ old.tap.content = ap (λ (x : RunDevices). x.tap) e in
       inr (record {
         cause = cause;
-        text = subst (λ x. AddsFront (print (meaning keys steps)) old.out.content x) (sym out) (adds_front_none (print (meaning keys steps)) old.out.content);
+        text = subst (λ x. AddsPrefix (print (meaning keys steps)) old.out.content x) (sym out) (adds_front_none (print (meaning keys steps)) old.out.content);
         frames = record {
           drawn = [];
           share = subst (λ x. Drew [] old.entropy.content x) (sym entropy) (removes_none old.entropy.content);
-          tap = λ more. subst (λ x. AddsFront (transcript version keys steps more) old.tap.content x) (sym tap) (adds_front_none (transcript version keys steps more) old.tap.content);
+          tap = λ more. subst (λ x. AddsPrefix (transcript version keys steps more) old.tap.content x) (sym tap) (adds_front_none (transcript version keys steps more) old.tap.content);
         };
       })
 

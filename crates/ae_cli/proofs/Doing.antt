@@ -4,7 +4,7 @@ use Rattle.std.specs.Prelude.{IfSome, if◌then◌else◌, take}
 use Rattle.ae_base.specs.declared.frames.FrameVersion.{FrameVersion}
 use Rattle.ae_base.specs.declared.refusals.Refusal.{Refusal}
 use Rattle.ae_base.specs.declared.refusals.Refusal.TheVariants.{Fault, OutOfMemory}
-use Rattle.ae_edge.specs.Devices.{Rose, WhereTold}
+use Rattle.ae_edge.specs.Devices.{Rose, WhereExposed}
 use Rattle.command_words.specs.Words.{Reads, are_taken, command_in}
 use Rattle.command_words.specs.declared.commands.Command.{Command}
 use Rattle.command_words.specs.declared.commands.Command.TheVariants as command
@@ -73,7 +73,7 @@ module _ (words : List (List ℕ)) (end : Status) (old new : Seen) where
   OfBytes P = (bytes : List ℕ) × IfSome old.script.content (λ left. bytes ≡ left) × P bytes
 
   abbrev Taken : (List ℕ → List ℕ → Type 0) → Type 0
-  Taken P = WhereTold P old.script.content new.script.content
+  Taken P = WhereExposed P old.script.content new.script.content
 
   abbrev ReadRose : Type 0
   ReadRose = Rose old.script.faults new.script.faults
@@ -143,7 +143,7 @@ module _ (words : List (List ℕ)) (end : Status) (old new : Seen) where
   pub did_journal : command_in words ≡ Some (command.Serve true) → (e : Ended) → end ≡ status_of_journaling e
       → ServesJournal e old.script.content new.script.content old.disk.content new.disk.content old.out.content new.out.content
       → ServesExactly e old.script.content old.disk.content old.out.content new.out.content
-      → WhereTold StaysServable old.disk.content new.disk.content → IsntDamaged e old.disk.content new.disk.content
+      → WhereExposed StaysServable old.disk.content new.disk.content → IsntDamaged e old.disk.content new.disk.content
       → (e ≡ ended.ReadFault → ReadRose) → (e ≡ ended.WriteFault → WriteRose) → (e ≡ ended.DiskFault → Rose old.disk.faults new.disk.faults) → Does words end old new
   did_journal is e s h x v u r w d =
       did_asked (command.Serve true) is (status_of_journaling e) s (record { how = e; ends = s; serves = h; exact = x; servable = v; undamaged = u }) (journal_caused old new e r w d)

@@ -1,6 +1,6 @@
 -- What the words of a command line do.
 use Rattle.std.specs.Prelude.{◌≡◌, ◌≢◌, ◌⊎◌, ℕ, List, Option, Some, None, IfSome, IsTrue, Bool, true, false, take}
-use Rattle.ae_edge.specs.Devices.{Rose, WhereTold}
+use Rattle.ae_edge.specs.Devices.{Rose, WhereExposed}
 use Rattle.command_words.specs.Words.{are_taken, command_in}
 use Rattle.command_words.specs.declared.commands.Command.{Command}
 use Rattle.command_words.specs.declared.commands.Command.TheVariants as command
@@ -39,7 +39,7 @@ pub record DidScript {How : Type 0} (status_by : How → Status) (Did : How → 
   pub bytes : List ℕ
   pub told : IfSome old.script.content (λ left. bytes ≡ left)
   pub did : Did how bytes
-  pub taken : WhereTold (Takes how) old.script.content new.script.content
+  pub taken : WhereExposed (Takes how) old.script.content new.script.content
 
 -- It ran a script. Over a peer that serves from the empty state no reply stopped it, whatever the devices expose.
 pub record DidRun (Did : Ran → List ℕ → Type 0) (end : Status) (old new : Seen) : Type 0 where
@@ -64,7 +64,7 @@ pub record DidServeJournal (end : Status) (old new : Seen) : Type 0 where
   pub ends : end ≡ status_of_journaling how
   pub serves : ServesJournal how old.script.content new.script.content old.disk.content new.disk.content old.out.content new.out.content
   pub exact : ServesExactly how old.script.content old.disk.content old.out.content new.out.content
-  pub servable : WhereTold StaysServable old.disk.content new.disk.content
+  pub servable : WhereExposed StaysServable old.disk.content new.disk.content
   pub undamaged : IsntDamaged how old.disk.content new.disk.content
 
 -- It put the script of a size, or a front of it.

@@ -3,7 +3,7 @@ use Rattle.std.specs.Prelude.{◌≡◌, ◌⊎◌, ◌↔◌, ℕ, List, [], �
 use Rattle.std.specs.List.{AllZip}
 use Rattle.ae_base.specs.declared.batches.Batch.{Batch}
 use Rattle.ae_base.specs.declared.frames.FrameVersion.{FrameVersion}
-use Rattle.ae_edge.specs.Devices.{Adds, AddsFront, Rose}
+use Rattle.ae_edge.specs.Devices.{Adds, AddsPrefix, Rose}
 use Rattle.ae_edge.specs.Vaults.{KeyMap}
 use Rattle.sql_tree.specs.Bound.{Bound}
 use Rattle.server_core.specs.Serve.{State, empty_state}
@@ -16,11 +16,11 @@ use Rattle.script_lang.specs.declared.steps.Step.TheVariants.{Turn, Trust}
 use Rattle.script_source.specs.Scripts.{IsScript}
 use Rattle.script_run.specs.declared.status.Status.{Status}
 use Rattle.script_run.specs.declared.status.Status.TheVariants as status
-use Rattle.plain_meaning.specs.Alike.{Alike}
-use Rattle.plain_meaning.specs.Clashes.{IsBoundAs, IsClash, IsReached, IsTyped, RunsUntyped, batch_of}
-use Rattle.plain_meaning.specs.Reference.{held_at, means, nothing_held, with_held}
+use Rattle.plaintext_laws.specs.Alike.{Alike}
+use Rattle.plaintext_laws.specs.Clashes.{IsBoundAs, IsClash, IsReached, IsTyped, RunsUntyped, batch_of}
+use Rattle.plaintext_laws.specs.Reference.{held_at, means, nothing_held, with_held}
 use Rattle.run_command.specs.Plain.{meaning}
-use Rattle.run_command.specs.Transcript.{TapsFront, TapsWhole}
+use Rattle.run_command.specs.Transcript.{TapsPrefix, TapsWhole}
 use Rattle.command_words.specs.Words.{command_in}
 use Rattle.command_words.specs.declared.commands.Command.TheVariants as command
 use Rattle.ae_cli.specs.Does.{Does}
@@ -90,8 +90,8 @@ IsStop other old new = ⊥
 -- The status says why it stopped. The output has gained a beginning of that text, and the tap one of those frames.
 pub record WasStopped (version : FrameVersion) (keys : KeyMap) (steps : List Step) (end : Status) (old new : Seen) : Type 0 where
   pub cause : IsStop end old new
-  pub text : AddsFront (print (meaning keys steps)) old.out.content new.out.content
-  pub frames : TapsFront version keys steps old.entropy.content new.entropy.content old.tap.content new.tap.content
+  pub text : AddsPrefix (print (meaning keys steps)) old.out.content new.out.content
+  pub frames : TapsPrefix version keys steps old.entropy.content new.entropy.content old.tap.content new.tap.content
 
 -- Let the words be those of `ae run`, and the program have done what its clause `does` says of them, over a server that began empty. Let
 -- the script be exposed, and be one of these steps in its grammar and limit. Let the keys be exposed, and all values of each column key

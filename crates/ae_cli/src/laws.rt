@@ -3,7 +3,7 @@
 ghost use Rattle.ae_cli.specs.Headline.{Headline};
 ghost use Rattle.server_core.specs.Laws.{ServedAlike};
 
-use plain_meaning::laws::clashes_exactly;
+use plaintext_laws::laws::clashes_exactly;
 use server_core::laws::served_alike;
 
 /// Over a server that begins empty, the text that `ae run` prints is plain SQL's over the same

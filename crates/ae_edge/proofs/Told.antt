@@ -1,9 +1,9 @@
 -- One call after another, where contents are told; and how what is told grows.
 use Rattle.std.proofs.Common.{◌≡◌, ℕ, ◌≤◌, List, [], ◌++◌, Option, Some, None, refl, sym, ap, ◌∙◌, append_assoc, append-nil, arith}
-use Rattle.ae_edge.specs.Devices.{Rose, WhereTold, IsFront, GrewByFront, Adds, AddsFront, Removes}
+use Rattle.ae_edge.specs.Devices.{Rose, WhereExposed, IsPrefix, GrewByPrefix, Adds, AddsPrefix, Removes}
 
 -- two calls in a row: what P and Q say of each gives what R says of both
-pub told_then : {T : Type 0} (P Q R : T → T → Type 0) → ((x y z : T) → P x y → Q y z → R x z) → (a b c : Option T) → WhereTold P a b → WhereTold Q b c → WhereTold R a c
+pub told_then : {T : Type 0} (P Q R : T → T → Type 0) → ((x y z : T) → P x y → Q y z → R x z) → (a b c : Option T) → WhereExposed P a b → WhereExposed Q b c → WhereExposed R a c
 told_then P Q R f (Some x) (Some y) (Some z) p q = f x y z p q
 told_then P Q R f None None None p q = tt
 told_then P Q R f (Some x) None c p q = absurd p
@@ -12,34 +12,34 @@ told_then P Q R f (Some x) (Some y) None p q = absurd q
 told_then P Q R f None None (Some z) p q = absurd q
 
 -- no call: what holds of a content and itself
-pub told_same : {T : Type 0} (P : T → T → Type 0) → ((x : T) → P x x) → (a : Option T) → WhereTold P a a
+pub told_same : {T : Type 0} (P : T → T → Type 0) → ((x : T) → P x x) → (a : Option T) → WhereExposed P a a
 told_same P f (Some x) = f x
 told_same P f None = tt
 
 -- what follows from P, where contents are told
-pub told_map : {T : Type 0} (P Q : T → T → Type 0) → ((x y : T) → P x y → Q x y) → (a b : Option T) → WhereTold P a b → WhereTold Q a b
+pub told_map : {T : Type 0} (P Q : T → T → Type 0) → ((x y : T) → P x y → Q x y) → (a b : Option T) → WhereExposed P a b → WhereExposed Q a b
 told_map P Q f (Some x) (Some y) p = f x y p
 told_map P Q f None None p = tt
 told_map P Q f (Some x) None p = absurd p
 told_map P Q f None (Some y) p = absurd p
 
 -- a list is a front of itself, and nothing is a front of each
-pub front_same : {A : Type 0} (xs : List A) → IsFront xs xs
+pub front_same : {A : Type 0} (xs : List A) → IsPrefix xs xs
 front_same xs = record { rest = []; is = sym (append-nil xs) }
 
-pub front_none : {A : Type 0} (xs : List A) → IsFront [] xs
+pub front_none : {A : Type 0} (xs : List A) → IsPrefix [] xs
 front_none xs = record { rest = xs; is = refl }
 
-pub front_then : {A : Type 0} (xs ys zs : List A) → IsFront xs ys → IsFront ys zs → IsFront xs zs
+pub front_then : {A : Type 0} (xs ys zs : List A) → IsPrefix xs ys → IsPrefix ys zs → IsPrefix xs zs
 front_then {A = A} xs ys zs p q =
     record { rest = p.rest ++ q.rest; is = q.is ∙ ap (λ (w : List A). w ++ q.rest) p.is ∙ append_assoc xs p.rest q.rest }
 
 -- a front of a list is one of a longer list
-pub front_longer : {A : Type 0} (xs ys more : List A) → IsFront xs ys → IsFront xs (ys ++ more)
+pub front_longer : {A : Type 0} (xs ys more : List A) → IsPrefix xs ys → IsPrefix xs (ys ++ more)
 front_longer xs ys more p = front_then xs ys (ys ++ more) p (record { rest = more; is = refl })
 
 -- behind one list stand fronts of what stands behind it
-pub front_behind : {A : Type 0} (before xs ys : List A) → IsFront xs ys → IsFront (before ++ xs) (before ++ ys)
+pub front_behind : {A : Type 0} (before xs ys : List A) → IsPrefix xs ys → IsPrefix (before ++ xs) (before ++ ys)
 front_behind {A = A} before xs ys p = record { rest = p.rest; is = ap (λ (w : List A). before ++ w) p.is ∙ sym (append_assoc before xs p.rest) }
 
 -- what is told grows by nothing where no call comes
@@ -53,28 +53,28 @@ adds_then {A} xs ys =
     (λ x y z p q. q ∙ ap (λ (w : List A). w ++ ys) p ∙ append_assoc x xs ys)
 
 -- it grows by a list, and then by a front of another
-pub adds_then_front : {A : Type 0} (xs ys : List A) (a b c : Option (List A)) → Adds xs a b → AddsFront ys b c → AddsFront (xs ++ ys) a c
+pub adds_then_front : {A : Type 0} (xs ys : List A) (a b c : Option (List A)) → Adds xs a b → AddsPrefix ys b c → AddsPrefix (xs ++ ys) a c
 adds_then_front {A} xs ys =
-    told_then (λ (old new : List A). new ≡ old ++ xs) (GrewByFront ys) (GrewByFront (xs ++ ys))
-    (λ x y z p (q : GrewByFront ys y z). record {
+    told_then (λ (old new : List A). new ≡ old ++ xs) (GrewByPrefix ys) (GrewByPrefix (xs ++ ys))
+    (λ x y z p (q : GrewByPrefix ys y z). record {
       front = xs ++ q.front;
       grew = q.grew ∙ ap (λ (w : List A). w ++ q.front) p ∙ append_assoc x xs q.front;
       of_it = front_behind xs q.front ys q.of_it;
     })
 
 -- what grows by a front of a list grows by a front of each list that the list is a front of
-pub front_of : {A : Type 0} (xs ys : List A) (a b : Option (List A)) → Adds xs a b → IsFront xs ys → AddsFront ys a b
+pub front_of : {A : Type 0} (xs ys : List A) (a b : Option (List A)) → Adds xs a b → IsPrefix xs ys → AddsPrefix ys a b
 front_of {A} xs ys a b p q =
-    told_map (λ (old new : List A). new ≡ old ++ xs) (GrewByFront ys) (λ x y e. record { front = xs; grew = e; of_it = q }) a b p
+    told_map (λ (old new : List A). new ≡ old ++ xs) (GrewByPrefix ys) (λ x y e. record { front = xs; grew = e; of_it = q }) a b p
 
-pub adds_front_then : {A : Type 0} (xs ys : List A) (a b : Option (List A)) → AddsFront xs a b → IsFront xs ys → AddsFront ys a b
+pub adds_front_then : {A : Type 0} (xs ys : List A) (a b : Option (List A)) → AddsPrefix xs a b → IsPrefix xs ys → AddsPrefix ys a b
 adds_front_then {A} xs ys a b p q =
-    told_map (GrewByFront xs) (GrewByFront ys)
-    (λ x y (e : GrewByFront xs x y). record { front = e.front; grew = e.grew; of_it = front_then e.front xs ys e.of_it q })
+    told_map (GrewByPrefix xs) (GrewByPrefix ys)
+    (λ x y (e : GrewByPrefix xs x y). record { front = e.front; grew = e.grew; of_it = front_then e.front xs ys e.of_it q })
     a b p
 
 -- it grows by a front of each list where no call comes
-pub adds_front_none : {A : Type 0} (xs : List A) (a : Option (List A)) → AddsFront xs a a
+pub adds_front_none : {A : Type 0} (xs : List A) (a : Option (List A)) → AddsPrefix xs a a
 adds_front_none {A} xs a = front_of [] xs a a (adds_none a) (front_none xs)
 
 -- it loses nothing where no call comes, and one list and then another

@@ -1,6 +1,6 @@
 -- A file that is opened at its first use.
 use Rattle.std.specs.Prelude.{◌≡◌, Option, Some, None}
-use Rattle.ae_edge.specs.Devices.{WhereTold}
+use Rattle.ae_edge.specs.Devices.{WhereExposed}
 
 -- a file that is open stays as it is
 abbrev pub IsKept : {T : Type 0} → Option T → Option T → Type 0
@@ -11,4 +11,4 @@ IsKept None opened = Unit {0}
 pub record OpensThen {T : Type 0} (P : T → T → Type 0) (old new : Option T) : Type 0 where
   pub opened : Option T
   pub kept : IsKept old opened
-  pub on : WhereTold P opened new
+  pub on : WhereExposed P opened new

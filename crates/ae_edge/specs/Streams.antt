@@ -1,6 +1,6 @@
 -- A source that is read to its end, and bytes that are put whole.
 use Rattle.std.specs.Prelude.{◌≡◌, ℕ, ◌+◌, ◌≤◌, List, [], ◌++◌, length, Option}
-use Rattle.ae_edge.specs.Devices.{Adds, AddsFront, Rose}
+use Rattle.ae_edge.specs.Devices.{Adds, AddsPrefix, Rose}
 use Rattle.ae_edge.specs.declared.streams.ReadAll.{ReadAll}
 use Rattle.ae_edge.specs.declared.streams.ReadAll.TheVariants as read
 use Rattle.ae_edge.specs.declared.streams.PutAll.{PutAll}
@@ -32,8 +32,8 @@ IsWithin limit other = Unit {0}
 -- all bytes were put, or a front of them before a call failed
 abbrev pub PutsAll : List ℕ → PutAll → Option (List ℕ) → Option (List ℕ) → Type 0
 PutsAll bytes put.Whole old new = Adds bytes old new
-PutsAll bytes put.WriteFault old new = AddsFront bytes old new
-PutsAll bytes put.OutOfMemory old new = AddsFront bytes old new
+PutsAll bytes put.WriteFault old new = AddsPrefix bytes old new
+PutsAll bytes put.OutOfMemory old new = AddsPrefix bytes old new
 
 -- the count of faults stays, but where a call failed
 abbrev pub CountsPutAll : PutAll → ℕ → ℕ → Type 0

@@ -2,7 +2,7 @@
 
 ghost use Rattle.std.specs.Prelude.{◌≡◌, ◌≤◌, ◌∷◌, [], ℕ, List, Option};
 ghost use Rattle.std.specs.Borrow.{GName};
-ghost use Rattle.ae_edge.specs.Devices.{Rose, WhereTold};
+ghost use Rattle.ae_edge.specs.Devices.{Rose, WhereExposed};
 ghost use Rattle.ae_edge.specs.Draws.{Draws};
 
 /// What a call on a random source answers.
@@ -28,7 +28,7 @@ pub trait Entropy {
     /// Draws sixteen bytes. After `Failed` the same bytes are to come.
     fn draw(&mut self) -> Draw
         ensures same { names self.new ≡ names self.old }
-        ensures content { WhereTold (Draws result) (to_come self.old) (to_come self.new) }
+        ensures content { WhereExposed (Draws result) (to_come self.old) (to_come self.new) }
         ensures count { faults self.old ≤ faults self.new }
         ensures failed { result ≡ Draw.Failed → Rose (faults self.old) (faults self.new) };
 }

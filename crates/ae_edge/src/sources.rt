@@ -2,7 +2,7 @@
 
 ghost use Rattle.std.specs.Prelude.{◌≡◌, ◌≤◌, ◌∷◌, [], ℕ, List, Option};
 ghost use Rattle.std.specs.Borrow.{GName};
-ghost use Rattle.ae_edge.specs.Devices.{Rose, WhereTold};
+ghost use Rattle.ae_edge.specs.Devices.{Rose, WhereExposed};
 ghost use Rattle.ae_edge.specs.Sources.{CountsTake, IsPiece, Takes};
 
 use ae_base::blobs::Blob;
@@ -37,7 +37,7 @@ pub trait Source {
         requires { 1 ≤ max }
         ensures same { names self.new ≡ names self.old }
         ensures piece { IsPiece max result }
-        ensures content { WhereTold (Takes result) (left self.old) (left self.new) }
+        ensures content { WhereExposed (Takes result) (left self.old) (left self.new) }
         ensures count { faults self.old ≤ faults self.new }
         ensures failed { result ≡ Taken.Failed → Rose (faults self.old) (faults self.new) }
         ensures counts { CountsTake result (faults self.old) (faults self.new) };

@@ -1,7 +1,7 @@
 //! Sources that are read to their end, and bytes that are put whole.
 
 ghost use Rattle.std.specs.Prelude.{◌≡◌, ◌≤◌};
-ghost use Rattle.ae_edge.specs.Devices.{Rose, WhereTold};
+ghost use Rattle.ae_edge.specs.Devices.{Rose, WhereExposed};
 ghost use Rattle.ae_edge.specs.Streams.{IsWithin, CountsPutAll, PutsAll, CountsReadAll, ReadsAll};
 
 use crate::sinks::{Put, Sink};
@@ -26,7 +26,7 @@ pub enum ReadAll {
 pub fn read_all<S: Source>(source: &mut S, alloc: Global, limit: usize) -> ReadAll
     ensures same { S.names source.new ≡ S.names source.old }
     ensures within { IsWithin limit result }
-    ensures content { WhereTold (ReadsAll limit result) (S.left source.old) (S.left source.new) }
+    ensures content { WhereExposed (ReadsAll limit result) (S.left source.old) (S.left source.new) }
     ensures count { S.faults source.old ≤ S.faults source.new }
     ensures fault { result ≡ ReadAll.ReadFault → Rose (S.faults source.old) (S.faults source.new) }
     ensures counts { CountsReadAll result (S.faults source.old) (S.faults source.new) }

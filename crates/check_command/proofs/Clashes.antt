@@ -20,8 +20,8 @@ use Rattle.conversation.specs.Pending.{Pending, Use, uses_of}
 use Rattle.conversation.specs.declared.faults.DriverFault.{DriverFault}
 use Rattle.conversation.specs.declared.outcomes.Outcome.{Outcome}
 use Rattle.conversation.specs.declared.outcomes.Outcome.TheVariants as outcome
-use Rattle.plain_meaning.specs.Batches.{Came, came, declarations_of, pending}
-use Rattle.plain_meaning.specs.Batches as plain
+use Rattle.plaintext_laws.specs.Batches.{Came, came, declarations_of, pending}
+use Rattle.plaintext_laws.specs.Batches as plain
 use Rattle.check_command.specs.Asked.{is_clash}
 use Rattle.check_command.specs.Check.{HasNoTransaction, checked, described_only, defines, Chains}
 use Rattle.check_command.proofs.Unused.{IsDone, alone_at, definition_done}

@@ -24,9 +24,9 @@ use Rattle.conversation.specs.declared.sessions.Session.{Session}
 use Rattle.conversation.specs.declared.sessions.Session.TheVariants as session
 use Rattle.conversation.specs.declared.sessions.Turn.{Turn}
 use Rattle.script_lang.specs.Limits.{HasParams}
-use Rattle.plain_meaning.specs.Batches.{declarations_of, execution_of, pending}
-use Rattle.plain_meaning.proofs.Interface.{told_among, encs_found}
-use Rattle.plain_meaning.proofs.Interface.{parts_of}
+use Rattle.plaintext_laws.specs.Batches.{declarations_of, execution_of, pending}
+use Rattle.plaintext_laws.proofs.Interface.{told_among, encs_found}
+use Rattle.plaintext_laws.proofs.Interface.{parts_of}
 use Rattle.check_command.proofs.Following.{bind_ok}
 use Rattle.conversation.specs.declared.faults.Halt.{Halt}
 use Rattle.conversation.specs.declared.faults.Halt.TheVariants as halt

@@ -39,9 +39,9 @@ use Rattle.conversation.specs.declared.outcomes.Outcome.TheVariants as outcome_o
 use Rattle.std.specs.declared.alloc.AllocError.{AllocError}
 use Rattle.conversation.specs.Pending.{Pending, Use, uses_in, uses_of}
 use Rattle.conversation.specs.Sessions.{encs_of, with_enc}
-use Rattle.plain_meaning.specs.Batches.{Came, declarations_of, pending}
-use Rattle.plain_meaning.specs.Batches as plain
-use Rattle.plain_meaning.proofs.Interface.{parts_of, understood_alone, transact_alone}
+use Rattle.plaintext_laws.specs.Batches.{Came, declarations_of, pending}
+use Rattle.plaintext_laws.specs.Batches as plain
+use Rattle.plaintext_laws.proofs.Interface.{parts_of, understood_alone, transact_alone}
 use Rattle.check_command.proofs.Following.{bind_ok}
 use Rattle.check_command.specs.Asked.{AnswersAs, ComesTo, IsDefinition}
 use Rattle.check_command.specs.Check.{HasNoTransaction, defines, reads_definition}

@@ -36,15 +36,15 @@ use Rattle.std.proofs.Common.{
 }
 use Rattle.std.proofs.Math.ListN.{drop_of_length-le}
 use Rattle.ae_base.specs.declared.batches.Batch.{Batch}
-use Rattle.ae_edge.specs.Devices.{Adds, AddsFront, IsFront}
+use Rattle.ae_edge.specs.Devices.{Adds, AddsPrefix, IsPrefix}
 use Rattle.ae_edge.proofs.Interface.{adds_none, adds_then}
 use Rattle.outcome_text.specs.Printing.{is_refusal, has_refusal}
 use Rattle.script_lang.specs.declared.steps.Step.{Step}
 use Rattle.script_lang.specs.declared.steps.Act.TheVariants.{Whole, Half, Execute, Rotate}
 use Rattle.script_lang.specs.declared.steps.Step.TheVariants.{Turn, Trust}
 use Rattle.server_core.specs.Serve.{State, empty_state}
-use Rattle.check_command.specs.Check.{SessionBatch, checked, batches, outcomes, IsCheck, IsCheckFront}
-use Rattle.check_command.specs.Ends.{PutsCheck, PutsCheckFront}
+use Rattle.check_command.specs.Check.{SessionBatch, checked, batches, outcomes, IsCheck, IsCheckPrefix}
+use Rattle.check_command.specs.Ends.{PutsCheck, PutsCheckPrefix}
 use Rattle.check_command.specs.Puts.{PutsLines, PutsPart, PutsStep}
 use Rattle.check_command.specs.declared.steps.Unput.TheVariants as unput
 
@@ -56,7 +56,7 @@ pub record SoFar (all left : List Step) (now : State) (refused : Bool) (old new 
   pub text : List ℕ
   pub put : Adds text old new
   pub whole : (rest : List ℕ) → IsCheck now (batches left) rest → IsCheck empty_state (batches all) (text ++ rest)
-  pub front : (rest : List ℕ) → IsCheckFront now (batches left) rest → IsCheckFront empty_state (batches all) (text ++ rest)
+  pub front : (rest : List ℕ) → IsCheckPrefix now (batches left) rest → IsCheckPrefix empty_state (batches all) (text ++ rest)
   pub refuses : has_refusal (outcomes empty_state (batches all)) ≡ refused || has_refusal (outcomes now (batches left))
 
 pub begins_so : (all : List Step) (old : Option (List ℕ)) → SoFar all all empty_state false old old
@@ -74,7 +74,7 @@ or-none false = refl
 module _ (all left : List Step) (now : State) (refused : Bool) (old new : Option (List ℕ)) where
   batch_more : (number : ℕ) (batch : Batch) (b : Bool) (next : State) (after : Option (List ℕ)) (text : List ℕ) → Adds text old new
       → ((rest : List ℕ) → IsCheck now (at number batch ∷ batches left) rest → IsCheck empty_state (batches all) (text ++ rest))
-      → ((rest : List ℕ) → IsCheckFront now (at number batch ∷ batches left) rest → IsCheckFront empty_state (batches all) (text ++ rest))
+      → ((rest : List ℕ) → IsCheckPrefix now (at number batch ∷ batches left) rest → IsCheckPrefix empty_state (batches all) (text ++ rest))
       → has_refusal (outcomes empty_state (batches all)) ≡ refused || has_refusal (outcomes now (at number batch ∷ batches left))
       → PutsLines b now next number batch new after → SoFar all left next (refused || b) old after
   batch_more number batch b next after text put whole front refuses p =
@@ -83,8 +83,8 @@ module _ (all left : List Step) (now : State) (refused : Bool) (old new : Option
         put = adds_then text p.lines old new after put p.put;
         whole = λ rest h. subst (IsCheck empty_state (batches all)) (sym (append_assoc text p.lines rest))
             (whole (p.lines ++ rest) (p.lines, rest, p.are, subst (λ v. IsCheck v (batches left) rest) (sym w) h, refl));
-        front = λ rest h. subst (IsCheckFront empty_state (batches all)) (sym (append_assoc text p.lines rest))
-            (front (p.lines ++ rest) (inr (p.lines, p.are, inr (rest, subst (λ v. IsCheckFront v (batches left) rest) (sym w) h, refl))));
+        front = λ rest h. subst (IsCheckPrefix empty_state (batches all)) (sym (append_assoc text p.lines rest))
+            (front (p.lines ++ rest) (inr (p.lines, p.are, inr (rest, subst (λ v. IsCheckPrefix v (batches left) rest) (sym w) h, refl))));
         refuses =
             refuses ∙ or-assoc refused (is_refusal (checked now number batch).comes) (has_refusal (outcomes (checked now number batch).state (batches left)))
             ∙ ap (λ c. (refused || c) || has_refusal (outcomes (checked now number batch).state (batches left))) (sym p.refuses)
@@ -134,15 +134,15 @@ puts_check steps i now refused old new le s =
 
 -- ---- no further
 
-front_put : (xs : List ℕ) (a b : Option (List ℕ)) → AddsFront xs a b → (ys : List ℕ) × IsFront ys xs × Adds ys a b
+front_put : (xs : List ℕ) (a b : Option (List ℕ)) → AddsPrefix xs a b → (ys : List ℕ) × IsPrefix ys xs × Adds ys a b
 front_put xs (Some a) (Some b) h = (h.front, h.of_it, h.grew)
 front_put xs (Some a) None h = absurd h
 front_put xs None (Some b) h = absurd h
 front_put xs None None h = ([], record { rest = xs; is = refl }, tt)
 
 part_put : (all left : List Step) (number : ℕ) (batch : Batch) (now : State) (old new after : Option (List ℕ)) (text : List ℕ) → Adds text old new
-    → ((rest : List ℕ) → IsCheckFront now (at number batch ∷ batches left) rest → IsCheckFront empty_state (batches all) (text ++ rest))
-    → PutsPart now number batch new after → PutsCheckFront all old after
+    → ((rest : List ℕ) → IsCheckPrefix now (at number batch ∷ batches left) rest → IsCheckPrefix empty_state (batches all) (text ++ rest))
+    → PutsPart now number batch new after → PutsCheckPrefix all old after
 part_put all left number batch now old new after text put front (inl e) =
     (text ++ [], front [] (inl refl), subst (λ xs. Adds xs old after) (sym (append-nil text)) (subst (Adds text old) (sym e) put))
 part_put all left number batch now old new after text put front (inr h) =
@@ -150,7 +150,7 @@ part_put all left number batch now old new after text put front (inr h) =
     (text ++ f.0, front f.0 (inr (h.0, h.1, inl f.1)), adds_then text f.0 old new after put f.2)
 
 pub fault_put : (all left : List Step) (now next : State) (refused : Bool) (old new after : Option (List ℕ)) (step : Step)
-    → SoFar all (step ∷ left) now refused old new → PutsStep (Err unput.WriteFault) now next step new after → PutsCheckFront all old after
+    → SoFar all (step ∷ left) now refused old new → PutsStep (Err unput.WriteFault) now next step new after → PutsCheckPrefix all old after
 fault_put all left now next refused old new after (Turn number (Whole batch)) s p = part_put all left number batch now old new after s.text s.put s.front p
 fault_put all left now next refused old new after (Turn number (Half batch)) s p = part_put all left number batch now old new after s.text s.put s.front p
 fault_put all left now next refused old new after (Turn number Execute) s p = let o : Err unput.WriteFault ≡ Ok false = p.refuses in absurd cc
@@ -158,7 +158,7 @@ fault_put all left now next refused old new after (Turn number (Rotate from to))
 fault_put all left now next refused old new after (Trust path) s p = let o : Err unput.WriteFault ≡ Ok false = p.refuses in absurd cc
 
 pub short_put : (all left : List Step) (now next : State) (refused : Bool) (old new after : Option (List ℕ)) (step : Step)
-    → SoFar all (step ∷ left) now refused old new → PutsStep (Err unput.OutOfMemory) now next step new after → PutsCheckFront all old after
+    → SoFar all (step ∷ left) now refused old new → PutsStep (Err unput.OutOfMemory) now next step new after → PutsCheckPrefix all old after
 short_put all left now next refused old new after (Turn number (Whole batch)) s p = part_put all left number batch now old new after s.text s.put s.front p
 short_put all left now next refused old new after (Turn number (Half batch)) s p = part_put all left number batch now old new after s.text s.put s.front p
 short_put all left now next refused old new after (Turn number Execute) s p = let o : Err unput.OutOfMemory ≡ Ok false = p.refuses in absurd cc

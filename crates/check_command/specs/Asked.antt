@@ -24,7 +24,7 @@ use Rattle.conversation.specs.declared.outcomes.Outcome.TheVariants as outcome
 use Rattle.conversation.specs.declared.sessions.Session.{Session}
 use Rattle.conversation.specs.declared.sessions.Session.TheVariants as session
 use Rattle.script_lang.specs.Limits.{HasParams}
-use Rattle.plain_meaning.specs.Batches.{Came, declarations_of, pending}
+use Rattle.plaintext_laws.specs.Batches.{Came, declarations_of, pending}
 use Rattle.check_command.specs.Check.{HasNoTransaction, defines}
 use Rattle.check_command.specs.declared.describing.Asked.{Asked}
 use Rattle.check_command.specs.declared.describing.Asked.TheVariants as asked

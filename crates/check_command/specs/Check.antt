@@ -4,7 +4,7 @@
 use Rattle.std.specs.Prelude.{◌≡◌, ◌⊎◌, ℕ, List, [], ◌∷◌, ◌++◌, flat_map, replicate, codes, decimal, encode_utf8_all, Option, Some, None, Result, Ok, Err, Bool, true, false}
 use Rattle.ae_base.specs.declared.batches.Batch.{Batch}
 use Rattle.ae_base.specs.declared.faults.SqlFault.{SqlFault}
-use Rattle.ae_edge.specs.Devices.{IsFront}
+use Rattle.ae_edge.specs.Devices.{IsPrefix}
 use Rattle.sql_tree.specs.Bound.{Bound}
 use Rattle.sql_tree.specs.Statements.{Statement}
 use Rattle.sql_tree.specs.Sorts.{is_written_defining}
@@ -19,7 +19,7 @@ use Rattle.conversation.specs.declared.outcomes.Outcome.{Outcome}
 use Rattle.script_lang.specs.declared.steps.Step.{Step}
 use Rattle.script_lang.specs.declared.steps.Act.TheVariants.{Whole, Half, Execute, Rotate}
 use Rattle.script_lang.specs.declared.steps.Step.TheVariants.{Turn, Trust}
-use Rattle.plain_meaning.specs.Batches.{Came, begins, declarations_of, execution_of, waits}
+use Rattle.plaintext_laws.specs.Batches.{Came, begins, declarations_of, execution_of, waits}
 use Rattle.outcome_text.specs.Printing.{line, printed_outcome}
 
 -- ---- which batches are executed
@@ -93,9 +93,9 @@ IsCheck state (b ∷ more) text =
     (lines rest : List ℕ) × AreLinesOf state b.number b.batch lines × IsCheck (checked state b.number b.batch).state more rest × (text ≡ lines ++ rest)
 
 -- the text is a front of that: nothing, a front of the first batch's lines, or all of these and a front of what follows
-abbrev pub IsCheckFront : State → List SessionBatch → List ℕ → Type 0
-IsCheckFront state [] text = text ≡ []
-IsCheckFront state (b ∷ more) text =
+abbrev pub IsCheckPrefix : State → List SessionBatch → List ℕ → Type 0
+IsCheckPrefix state [] text = text ≡ []
+IsCheckPrefix state (b ∷ more) text =
     (text ≡ [])
     ⊎ ((lines : List ℕ) × AreLinesOf state b.number b.batch lines
-    × (IsFront text lines ⊎ ((rest : List ℕ) × IsCheckFront (checked state b.number b.batch).state more rest × (text ≡ lines ++ rest))))
+    × (IsPrefix text lines ⊎ ((rest : List ℕ) × IsCheckPrefix (checked state b.number b.batch).state more rest × (text ≡ lines ++ rest))))

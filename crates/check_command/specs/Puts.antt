@@ -1,7 +1,7 @@
 -- What is put of one batch, and of one step.
 use Rattle.std.specs.Prelude.{◌≡◌, ◌⊎◌, ℕ, ◌≤◌, List, Option, Result, Ok, Err, Bool, false, string_bytes}
 use Rattle.ae_base.specs.declared.batches.Batch.{Batch}
-use Rattle.ae_edge.specs.Devices.{Adds, AddsFront, Rose}
+use Rattle.ae_edge.specs.Devices.{Adds, AddsPrefix, Rose}
 use Rattle.outcome_text.specs.Printing.{is_refusal}
 use Rattle.script_lang.specs.declared.steps.Step.{Step}
 use Rattle.script_lang.specs.declared.steps.Act.TheVariants.{Whole, Half, Execute, Rotate}
@@ -28,7 +28,7 @@ pub record PutsLines (refused : Bool) (old new : State) (number : ℕ) (batch : 
 
 -- nothing was put of the batch, or a front of its lines
 abbrev pub PutsPart : State → ℕ → Batch → Option (List ℕ) → Option (List ℕ) → Type 0
-PutsPart state number batch before after = (after ≡ before) ⊎ ((lines : List ℕ) × AreLinesOf state number batch lines × AddsFront lines before after)
+PutsPart state number batch before after = (after ≡ before) ⊎ ((lines : List ℕ) × AreLinesOf state number batch lines × AddsPrefix lines before after)
 
 -- a batch was put, or a part of it, by the cause
 abbrev pub PutsBatch : Result Bool Unput → State → State → ℕ → Batch → Option (List ℕ) → Option (List ℕ) → Type 0

@@ -2,7 +2,7 @@
 
 ghost use Rattle.std.specs.Prelude.{◌≡◌, ◌≤◌, [], IfOk, length, encode_utf8_all};
 ghost use Rattle.conversation.specs.declared.outcomes.Outcome.{Outcome};
-ghost use Rattle.plain_meaning.specs.Batches.{execution_of};
+ghost use Rattle.plaintext_laws.specs.Batches.{execution_of};
 ghost use Rattle.wire_parts.specs.Texts.{IsStatementText};
 ghost use Rattle.wire_messages.specs.declared.requests.Request.TheVariants as request;
 ghost use Rattle.check_command.specs.Asked.{AnswersAs, ComesTo, IsDefinition};

@@ -3,7 +3,7 @@
 ghost use Rattle.std.specs.Prelude.{◌≡◌, ◌++◌, IfOk, OnOk, None, flat_map, map, string_bytes};
 ghost use Rattle.ae_base.specs.declared.batches.Param.{Param};
 ghost use Rattle.conversation.specs.Batches.{why_unfit};
-ghost use Rattle.plain_meaning.specs.Batches.{declarations_of};
+ghost use Rattle.plaintext_laws.specs.Batches.{declarations_of};
 ghost use Rattle.outcome_text.specs.Printing.{printed_outcome};
 ghost use Rattle.statement_analysis.specs.Describing.{binding_of};
 ghost use Rattle.statement_analysis.specs.Explaining.{Explains};

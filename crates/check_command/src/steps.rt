@@ -4,7 +4,7 @@ ghost use Rattle.std.specs.Prelude.{◌≡◌, ◌||◌, ℕ, IfOk};
 ghost use Rattle.std.specs.List.{All};
 ghost use Rattle.ae_edge.specs.Devices.{Rose};
 ghost use Rattle.conversation.specs.Batches.{why_unfit};
-ghost use Rattle.plain_meaning.specs.Batches.{declarations_of};
+ghost use Rattle.plaintext_laws.specs.Batches.{declarations_of};
 ghost use Rattle.script_lang.specs.Limits.{HasParams, IsWithinLimits};
 ghost use Rattle.statement_analysis.specs.Describing.{binding_of};
 ghost use Rattle.server_core.specs.Serve.{State, catalog_of, empty_state};

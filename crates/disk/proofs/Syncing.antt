@@ -1,7 +1,7 @@
 -- A write or a cut that is synced at once, and reads of a file that is on the disk.
 use Rattle.std.proofs.Common.{◌≡◌, inl, ℕ, ◌≤◌, List, [], ◌∷◌, ◌++◌, length, take, Option, Some, None, refl, sym, ap, ◌∙◌, subst, arith, ◌<◌, drop, length-append}
 use Rattle.std.specs.Prelude.{IfSome}
-use Rattle.ae_edge.specs.Devices.{WhereTold}
+use Rattle.ae_edge.specs.Devices.{WhereExposed}
 use Rattle.disk.specs.Calls.{StaysSynced, WasAsked, with_bytes, with_length, Writes, Cuts, Syncs, IsPart, Gives}
 use Rattle.disk.specs.Crashes.{Asked, Range, Length, Stand, IsImage, kept}
 use Rattle.disk.specs.Moments.{Moments, Passes, LeavesNow, Leaves, NoCall}
@@ -84,15 +84,15 @@ write_synced stored.Done at bytes a b c k w y = record { moments = write_moments
 write_synced stored.Failed at bytes a b c k w y = write_moments stored.Failed at bytes a b c k w y
 write_synced stored.OutOfMemory at bytes a b c k w y = write_moments stored.OutOfMemory at bytes a b c k w y
 
-pub write_failed_told : (at : ℕ) (bytes : List ℕ) (a b : Option Moments) → IfSome a IsKept → WhereTold (Writes stored.Failed at bytes) a b → WhereTold (WritesThrough stored.Failed at bytes) a b
+pub write_failed_told : (at : ℕ) (bytes : List ℕ) (a b : Option Moments) → IfSome a IsKept → WhereExposed (Writes stored.Failed at bytes) a b → WhereExposed (WritesThrough stored.Failed at bytes) a b
 write_failed_told at bytes = told_from IsKept (Writes stored.Failed at bytes) (WritesThrough stored.Failed at bytes) (write_failed at bytes)
 
 pub write_unasked_told : (at : ℕ) (bytes : List ℕ) (a b : Option Moments) → IfSome a IsKept
-    → WhereTold (Writes stored.OutOfMemory at bytes) a b → WhereTold (WritesThrough stored.OutOfMemory at bytes) a b
+    → WhereExposed (Writes stored.OutOfMemory at bytes) a b → WhereExposed (WritesThrough stored.OutOfMemory at bytes) a b
 write_unasked_told at bytes = told_from IsKept (Writes stored.OutOfMemory at bytes) (WritesThrough stored.OutOfMemory at bytes) (write_unasked at bytes)
 
 pub write_synced_told : (result : Stored) (at : ℕ) (bytes : List ℕ) (a b c : Option Moments) → IfSome a IsKept
-    → WhereTold (Writes stored.Done at bytes) a b → WhereTold (Syncs result) b c → WhereTold (WritesThrough result at bytes) a c
+    → WhereExposed (Writes stored.Done at bytes) a b → WhereExposed (Syncs result) b c → WhereExposed (WritesThrough result at bytes) a c
 write_synced_told result at bytes = told_from_then IsKept (Writes stored.Done at bytes) (Syncs result) (WritesThrough result at bytes) (write_synced result at bytes)
 
 -- ---- a cut
@@ -115,14 +115,14 @@ cut_synced stored.Done len a b c k w y = record { moments = cut_moments stored.D
 cut_synced stored.Failed len a b c k w y = cut_moments stored.Failed len a b c k w y
 cut_synced stored.OutOfMemory len a b c k w y = cut_moments stored.OutOfMemory len a b c k w y
 
-pub cut_failed_told : (len : ℕ) (a b : Option Moments) → IfSome a IsKept → WhereTold (Cuts stored.Failed len) a b → WhereTold (CutsThrough stored.Failed len) a b
+pub cut_failed_told : (len : ℕ) (a b : Option Moments) → IfSome a IsKept → WhereExposed (Cuts stored.Failed len) a b → WhereExposed (CutsThrough stored.Failed len) a b
 cut_failed_told len = told_from IsKept (Cuts stored.Failed len) (CutsThrough stored.Failed len) (cut_failed len)
 
-pub cut_unasked_told : (len : ℕ) (a b : Option Moments) → IfSome a IsKept → WhereTold (Cuts stored.OutOfMemory len) a b → WhereTold (CutsThrough stored.OutOfMemory len) a b
+pub cut_unasked_told : (len : ℕ) (a b : Option Moments) → IfSome a IsKept → WhereExposed (Cuts stored.OutOfMemory len) a b → WhereExposed (CutsThrough stored.OutOfMemory len) a b
 cut_unasked_told len = told_from IsKept (Cuts stored.OutOfMemory len) (CutsThrough stored.OutOfMemory len) (cut_unasked len)
 
 pub cut_synced_told : (result : Stored) (len : ℕ) (a b c : Option Moments) → IfSome a IsKept
-    → WhereTold (Cuts stored.Done len) a b → WhereTold (Syncs result) b c → WhereTold (CutsThrough result len) a c
+    → WhereExposed (Cuts stored.Done len) a b → WhereExposed (Syncs result) b c → WhereExposed (CutsThrough result len) a c
 cut_synced_told result len = told_from_then IsKept (Cuts stored.Done len) (Syncs result) (CutsThrough result len) (cut_synced result len)
 
 -- ---- reads
@@ -173,24 +173,24 @@ read_end part bytes a b c h r none =
 read_failed : (bytes : List ℕ) (a b c : Moments) → HasRead bytes a b → Gives (length bytes) given.Failed b c → ReadsWhole given.Failed a c
 read_failed bytes a b c h r = stays_pass StaysSynced a b c h.kept h.stays r (stays_kept b c (is_kept_now a b h.kept h.stays) r)
 
-pub read_none_told : (a : Option Moments) → IfSome a IsKept → WhereTold (HasRead []) a a
+pub read_none_told : (a : Option Moments) → IfSome a IsKept → WhereExposed (HasRead []) a a
 read_none_told (Some a) k = record { front = refl; kept = k; stays = stays_same a k }
 read_none_told None k = tt
 
-pub read_on_told : (part bytes : List ℕ) (a b c : Option Moments) → WhereTold (HasRead bytes) a b → WhereTold (Gives (length bytes) (given.Bytes part)) b c → WhereTold (HasRead (bytes ++ part)) a c
+pub read_on_told : (part bytes : List ℕ) (a b c : Option Moments) → WhereExposed (HasRead bytes) a b → WhereExposed (Gives (length bytes) (given.Bytes part)) b c → WhereExposed (HasRead (bytes ++ part)) a c
 read_on_told part bytes = told_then (HasRead bytes) (Gives (length bytes) (given.Bytes part)) (HasRead (bytes ++ part)) (λ a b c h r. read_on part bytes a b c h r)
 
-pub read_end_told : (part bytes : List ℕ) (a b c : Option Moments) → WhereTold (HasRead bytes) a b
-    → WhereTold (Gives (length bytes) (given.Bytes part)) b c → part ≡ [] → WhereTold (ReadsWhole (given.Bytes bytes)) a c
+pub read_end_told : (part bytes : List ℕ) (a b c : Option Moments) → WhereExposed (HasRead bytes) a b
+    → WhereExposed (Gives (length bytes) (given.Bytes part)) b c → part ≡ [] → WhereExposed (ReadsWhole (given.Bytes bytes)) a c
 read_end_told part bytes a b c h r none = told_then (HasRead bytes) (Gives (length bytes) (given.Bytes part))
     (ReadsWhole (given.Bytes bytes)) (λ x y z p q. read_end part bytes x y z p q none) a b c h r
 
-pub read_failed_told : (bytes : List ℕ) (a b c : Option Moments) → WhereTold (HasRead bytes) a b → WhereTold (Gives (length bytes) given.Failed) b c → WhereTold (ReadsWhole given.Failed) a c
+pub read_failed_told : (bytes : List ℕ) (a b c : Option Moments) → WhereExposed (HasRead bytes) a b → WhereExposed (Gives (length bytes) given.Failed) b c → WhereExposed (ReadsWhole given.Failed) a c
 read_failed_told bytes = told_then (HasRead bytes) (Gives (length bytes) given.Failed) (ReadsWhole given.Failed) (read_failed bytes)
 
 -- without memory for what came
-pub read_stopped_told : (part bytes : List ℕ) (a b c : Option Moments) → WhereTold (HasRead bytes) a b
-    → WhereTold (Gives (length bytes) (given.Bytes part)) b c → WhereTold (ReadsWhole given.OutOfMemory) a c
+pub read_stopped_told : (part bytes : List ℕ) (a b c : Option Moments) → WhereExposed (HasRead bytes) a b
+    → WhereExposed (Gives (length bytes) (given.Bytes part)) b c → WhereExposed (ReadsWhole given.OutOfMemory) a c
 read_stopped_told part bytes =
     told_then (HasRead bytes) (Gives (length bytes) (given.Bytes part)) (ReadsWhole given.OutOfMemory) (λ a b c h r. (read_on part bytes a b c h r).stays)
 

@@ -2,7 +2,7 @@
 
 ghost use Rattle.std.specs.Prelude.{◌≡◌, ◌<◌, ◌≤◌, ◌+◌, ◌^◌, ◌∷◌, [], ℕ, List, Option, IfSome, length};
 ghost use Rattle.std.specs.Borrow.{GName};
-ghost use Rattle.ae_edge.specs.Devices.{WhereTold};
+ghost use Rattle.ae_edge.specs.Devices.{WhereExposed};
 ghost use Rattle.disk.specs.Calls.{CountsGiven, CountsMeasured, CountsStored, Cuts, Gives, IsWithin, Measures, Syncs, Writes};
 ghost use Rattle.disk.specs.Moments.{Moments};
 
@@ -54,7 +54,7 @@ pub trait Disk {
     /// The length of the file in bytes.
     fn size(&mut self) -> Measured
         ensures same { names self.new ≡ names self.old }
-        ensures content { WhereTold (Measures result) (told self.old) (told self.new) }
+        ensures content { WhereExposed (Measures result) (told self.old) (told self.new) }
         ensures count { faults self.old ≤ faults self.new }
         ensures counts { CountsMeasured result (faults self.old) (faults self.new) };
 
@@ -63,7 +63,7 @@ pub trait Disk {
         requires { 1 ≤ max }
         ensures same { names self.new ≡ names self.old }
         ensures piece { IsWithin max result }
-        ensures content { WhereTold (Gives at result) (told self.old) (told self.new) }
+        ensures content { WhereExposed (Gives at result) (told self.old) (told self.new) }
         ensures count { faults self.old ≤ faults self.new }
         ensures counts { CountsGiven result (faults self.old) (faults self.new) };
 
@@ -73,7 +73,7 @@ pub trait Disk {
         requires inside { IfSome (told self.old) (λ disk. at ≤ length disk.now.seen) }
         requires end { at + length bytes.now < 2 ^ 64 }
         ensures same { names self.new ≡ names self.old }
-        ensures content { WhereTold (Writes result at bytes.now) (told self.old) (told self.new) }
+        ensures content { WhereExposed (Writes result at bytes.now) (told self.old) (told self.new) }
         ensures count { faults self.old ≤ faults self.new }
         ensures counts { CountsStored result (faults self.old) (faults self.new) };
 
@@ -81,14 +81,14 @@ pub trait Disk {
     fn cut(&mut self, len: u64) -> Stored
         requires inside { IfSome (told self.old) (λ disk. len ≤ length disk.now.seen) }
         ensures same { names self.new ≡ names self.old }
-        ensures content { WhereTold (Cuts result len) (told self.old) (told self.new) }
+        ensures content { WhereExposed (Cuts result len) (told self.old) (told self.new) }
         ensures count { faults self.old ≤ faults self.new }
         ensures counts { CountsStored result (faults self.old) (faults self.new) };
 
     /// Puts the file on the disk as reads give it: from then on a crash leaves that.
     fn sync(&mut self) -> Stored
         ensures same { names self.new ≡ names self.old }
-        ensures content { WhereTold (Syncs result) (told self.old) (told self.new) }
+        ensures content { WhereExposed (Syncs result) (told self.old) (told self.new) }
         ensures count { faults self.old ≤ faults self.new }
         ensures counts { CountsStored result (faults self.old) (faults self.new) };
 }

@@ -1,7 +1,7 @@
 //! Writes and cuts that are synced at once, and a file that is read whole.
 
 ghost use Rattle.std.specs.Prelude.{◌≡◌, ◌<◌, ◌≤◌, ◌+◌, ◌^◌, IfSome, length};
-ghost use Rattle.ae_edge.specs.Devices.{WhereTold};
+ghost use Rattle.ae_edge.specs.Devices.{WhereExposed};
 ghost use Rattle.disk.specs.Calls.{CountsGiven, CountsStored};
 ghost use Rattle.disk.specs.Durable.{CutsThrough, IsKept, ReadsWhole, WritesThrough};
 
@@ -18,7 +18,7 @@ pub fn write_through<D: Disk>(disk: &mut D, at: u64, bytes: &[u8]) -> Stored
     requires inside { IfSome (D.told disk.old) (λ d. at ≤ length d.now.seen) }
     requires end { at + length bytes.now < 2 ^ 64 }
     ensures same { D.names disk.new ≡ D.names disk.old }
-    ensures content { WhereTold (WritesThrough result at bytes.now)
+    ensures content { WhereExposed (WritesThrough result at bytes.now)
         (D.told disk.old) (D.told disk.new) }
     ensures count { D.faults disk.old ≤ D.faults disk.new }
     ensures counts { CountsStored result (D.faults disk.old) (D.faults disk.new) }
@@ -35,7 +35,7 @@ pub fn cut_through<D: Disk>(disk: &mut D, len: u64) -> Stored
     requires kept { IfSome (D.told disk.old) IsKept }
     requires inside { IfSome (D.told disk.old) (λ d. len ≤ length d.now.seen) }
     ensures same { D.names disk.new ≡ D.names disk.old }
-    ensures content { WhereTold (CutsThrough result len) (D.told disk.old) (D.told disk.new) }
+    ensures content { WhereExposed (CutsThrough result len) (D.told disk.old) (D.told disk.new) }
     ensures count { D.faults disk.old ≤ D.faults disk.new }
     ensures counts { CountsStored result (D.faults disk.old) (D.faults disk.new) }
 {
@@ -50,7 +50,7 @@ pub fn cut_through<D: Disk>(disk: &mut D, len: u64) -> Stored
 pub fn read_whole<D: Disk>(disk: &mut D, alloc: Global) -> Given
     requires kept { IfSome (D.told disk.old) IsKept }
     ensures same { D.names disk.new ≡ D.names disk.old }
-    ensures content { WhereTold (ReadsWhole result) (D.told disk.old) (D.told disk.new) }
+    ensures content { WhereExposed (ReadsWhole result) (D.told disk.old) (D.told disk.new) }
     ensures count { D.faults disk.old ≤ D.faults disk.new }
     ensures counts { CountsGiven result (D.faults disk.old) (D.faults disk.new) }
 {

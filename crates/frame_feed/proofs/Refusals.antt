@@ -5,8 +5,8 @@ use Rattle.ae_base.specs.declared.frames.FrameVersion.{FrameVersion}
 use Rattle.wire_messages.specs.declared.requests.Request.{Request}
 use Rattle.wire_payloads.specs.declared.payloads.Payload.{Payload}
 use Rattle.wire_payloads.specs.declared.versioned.Versioned.{Versioned}
-use Rattle.wire_spelling.specs.Packing.{SpellsPayload, payload_body}
-use Rattle.wire_spelling.specs.Spelling.{SpellsRequest, request_body, u32}
+use Rattle.wire_encoding.specs.Packing.{SpellsPayload, payload_body}
+use Rattle.wire_encoding.specs.Spelling.{SpellsRequest, request_body, u32}
 use Rattle.wire_frames.specs.Frames.{IsRefused, is_request_head, is_reply_head}
 use Rattle.wire_frames.specs.declared.decoding.Way.{Way}
 use Rattle.wire_frames.specs.declared.decoding.Way.TheVariants.{ToServer, ToDriver}

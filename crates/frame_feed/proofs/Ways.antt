@@ -8,8 +8,8 @@ use Rattle.wire_messages.specs.declared.replies.Reply.{Reply}
 use Rattle.wire_messages.specs.declared.requests.Request.{Request}
 use Rattle.wire_payloads.specs.declared.payloads.Payload.{Payload}
 use Rattle.wire_payloads.specs.declared.versioned.Versioned.{Versioned}
-use Rattle.wire_spelling.specs.Packing.{SpellsPayload, packed, payload_frame, payloads_of}
-use Rattle.wire_spelling.specs.Spelling.{SpellsRequest, asked_frame}
+use Rattle.wire_encoding.specs.Packing.{SpellsPayload, packed, payload_frame, payloads_of}
+use Rattle.wire_encoding.specs.Spelling.{SpellsRequest, asked_frame}
 use Rattle.wire_frames.specs.Decoding.{has_head}
 use Rattle.wire_frames.specs.Frames.{Placed, End, Whole, Rest, Refused, EndsSo, ReadsAs, is_request_head, is_reply_head, RequestFrames, ReplyFrames, placed_from}
 use Rattle.wire_frames.specs.Laws.{IsAsked, IsReadOnce, IsReadBack, IsUnpacked}

@@ -1,7 +1,7 @@
 -- What a feed holds, and the messages of either direction.
 use Rattle.std.specs.Prelude.{ℕ, ◌+◌, ◌-◌, ◌≤◌, ◌^◌, List, [], ◌++◌, length, take, drop, min, Bool, true, false, Option, Some, None, ◌==◌, if◌then◌else◌}
-use Rattle.wire_spelling.specs.Packing.{SpellsPayload}
-use Rattle.wire_spelling.specs.Spelling.{SpellsRequest}
+use Rattle.wire_encoding.specs.Packing.{SpellsPayload}
+use Rattle.wire_encoding.specs.Spelling.{SpellsRequest}
 use Rattle.wire_frames.specs.declared.decoding.Way.{Way}
 use Rattle.wire_frames.specs.declared.decoding.Way.TheVariants.{ToServer, ToDriver}
 use Rattle.frame_feed.specs.declared.messages.Message.{Message}

@@ -7,8 +7,8 @@ use Rattle.wire_messages.specs.declared.requests.Request.{Request}
 use Rattle.ae_base.specs.declared.frames.FrameVersion.{FrameVersion}
 use Rattle.wire_payloads.specs.declared.payloads.Payload.{Payload}
 use Rattle.wire_payloads.specs.declared.versioned.Versioned.{Versioned}
-use Rattle.wire_spelling.specs.Packing.{packed, payload_frame, payloads_of}
-use Rattle.wire_spelling.specs.Spelling.{asked_frame}
+use Rattle.wire_encoding.specs.Packing.{packed, payload_frame, payloads_of}
+use Rattle.wire_encoding.specs.Spelling.{asked_frame}
 use Rattle.wire_frames.specs.Frames.{Placed, End, Whole, RequestFrames, ReplyFrames, placed_from}
 use Rattle.wire_frames.specs.declared.decoding.Way.{Way}
 use Rattle.wire_frames.specs.declared.decoding.Way.TheVariants.{ToServer, ToDriver}

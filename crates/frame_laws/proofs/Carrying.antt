@@ -7,7 +7,7 @@ use Rattle.ae_base.specs.Limits.{most_frame_bytes, most_frame_rows}
 use Rattle.ae_base.specs.declared.atoms.AtomOf.TheVariants.{Null, Plain, Sealed}
 use Rattle.ae_base.specs.declared.frames.FrameVersion.{FrameVersion}
 use Rattle.ae_base.specs.declared.frames.FrameVersion.TheVariants.{V1, V2}
-use Rattle.blind_laws.specs.Renaming.{AreCells, PairsCells}
+use Rattle.renaming_laws.specs.Renaming.{AreCells, PairsCells}
 use Rattle.scalar.specs.Classes.{Class, Open, Det, Rnd, Pairing, Listing, Correspond, RowsCorrespond}
 use Rattle.server_core.specs.Correspond.{RepliesCorrespond, classes_behind, class_of_sent}
 use Rattle.wire_messages.specs.declared.replies.Reply.{Reply}
@@ -15,8 +15,8 @@ use Rattle.wire_messages.specs.declared.replies.Reply.TheVariants.{Described, Co
 use Rattle.wire_payloads.specs.Payloads.{Atoms, width}
 use Rattle.wire_payloads.specs.declared.payloads.Payload.{Payload}
 use Rattle.wire_payloads.specs.declared.payloads.Payload.TheVariants.{One}
-use Rattle.wire_spelling.specs.Packing.{closed, gathered, payloads_of, rows_body, takes}
-use Rattle.wire_spelling.specs.Spelling.{atom, blob, u16}
+use Rattle.wire_encoding.specs.Packing.{closed, gathered, payloads_of, rows_body, takes}
+use Rattle.wire_encoding.specs.Spelling.{atom, blob, u16}
 use Rattle.frame_laws.specs.Correspond.{PayloadsCorrespond}
 use Rattle.frame_laws.specs.Laws.{RepliesAreCarriedAlike}
 

@@ -1,12 +1,12 @@
 -- Replies that are renamed are carried by frames that are.
 use Rattle.std.specs.Prelude.{List, []}
 use Rattle.ae_base.specs.declared.frames.FrameVersion.{FrameVersion}
-use Rattle.blind_laws.specs.Renaming.{IsRenaming}
+use Rattle.renaming_laws.specs.Renaming.{IsRenaming}
 use Rattle.frame_laws.specs.Correspond.{PayloadsCorrespond}
 use Rattle.scalar.specs.Classes.{Entry, Listing}
 use Rattle.server_core.specs.Correspond.{RepliesCorrespond}
 use Rattle.wire_messages.specs.declared.replies.Reply.{Reply}
-use Rattle.wire_spelling.specs.Packing.{payloads_of}
+use Rattle.wire_encoding.specs.Packing.{payloads_of}
 
 -- replies that correspond, and before which no columns are told, are carried by frames that do: where rows share a frame, those that
 -- correspond share one, since frames are made by lengths alone, which a renaming keeps

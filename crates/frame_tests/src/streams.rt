@@ -10,11 +10,11 @@ use ae_base::lists::Seq;
 use frame_feed::{FrameFeed, Message, Next};
 use std::alloc::{AllocError, Global};
 use std::test::Fail;
+use wire_encoding::{encode_reply, encode_request, pack};
 use wire_frames::Way;
 use wire_messages::replies::{Reply, RowParts};
 use wire_parts::atoms::AtomPart;
 use wire_payloads::payloads::Payload;
-use wire_spelling::{encode_reply, encode_request, pack};
 
 // How a stream ends: after a frame, at what is no frame, or inside a frame.
 #[derive(Clone, Copy, PartialEq, Eq, Debug)]

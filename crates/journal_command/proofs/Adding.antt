@@ -1,6 +1,6 @@
 -- Entries that are added one after another, over the moments of a disk.
 use Rattle.std.proofs.Common.{◌≡◌, inl, inr, ℕ, ◌+◌, List, [], ◌∷◌, ◌++◌, length, Option, refl, sym, ap, ◌∙◌, subst, append-nil, append_assoc, arith}
-use Rattle.ae_edge.specs.Devices.{WhereTold, IsFront}
+use Rattle.ae_edge.specs.Devices.{WhereExposed, IsPrefix}
 use Rattle.ae_edge.proofs.Interface.{front_behind, front_none, front_same, told_map, told_same, told_then}
 use Rattle.disk.specs.Moments.{Moments, LeavesNow, Leaves}
 use Rattle.disk.proofs.Interface.{leaves_last, leaves_none, leaves_then, leaves_weaker}
@@ -9,7 +9,7 @@ use Rattle.journal_core.specs.Journals.{Records, ReadsAs, WithOrWithout, place_b
 use Rattle.journal_core.specs.declared.journal.Appended.{Appended}
 use Rattle.journal_core.specs.declared.journal.Appended.TheVariants as appended
 use Rattle.journal_core.proofs.Interface.{kept_leaves, end_reads}
-use Rattle.journal_command.specs.Records.{HasFront, HasLeast, AreAdded, AreTried, AddsEntries, TriesEntries, HaveRoom}
+use Rattle.journal_command.specs.Records.{HasPrefix, HasLeast, AreAdded, AreTried, AddsEntries, TriesEntries, HaveRoom}
 
 -- ---- places
 
@@ -27,10 +27,10 @@ room_more gate middle (x ∷ xs) ys e p q = (p.0, room_more (gate + 9 + length x
 pub ends_leave : (gate : ℕ) (entries : List (List ℕ)) (disk : Moments) → EndsAt gate entries disk → LeavesNow (ReadsAs (Records entries)) disk.now
 ends_leave gate entries disk e = kept_leaves (ReadsAs (Records entries)) (e.front ++ 0 ∷ []) disk.now e.now (end_reads entries e.front e.opens)
 
-none_more : (entries all : List (List ℕ)) (image : List ℕ) → ReadsAs (Records entries) image → HasFront entries all image
+none_more : (entries all : List (List ℕ)) (image : List ℕ) → ReadsAs (Records entries) image → HasPrefix entries all image
 none_more entries all image r = record { front = []; of_all = front_none all; reads = subst (λ (es : List (List ℕ)). ReadsAs (Records es) image) (sym (append-nil entries)) r }
 
-one_more : (entries : List (List ℕ)) (entry image : List ℕ) → WithOrWithout entries entry image → HasFront entries (entry ∷ []) image
+one_more : (entries : List (List ℕ)) (entry image : List ℕ) → WithOrWithout entries entry image → HasPrefix entries (entry ∷ []) image
 one_more entries entry image (inl without) = none_more entries (entry ∷ []) image without
 one_more entries entry image (inr with) = record { front = entry ∷ []; of_all = front_same (entry ∷ []); reads = with }
 
@@ -38,14 +38,14 @@ all_more : (entries more : List (List ℕ)) (image : List ℕ) → ReadsAs (Reco
 all_more entries more image r = record { front = more; at_least = front_same more; of_all = front_same more; reads = r }
 
 -- a front of some is a front of more
-front_longer : {A : Type 0} (front xs ys : List A) → IsFront front xs → IsFront front (xs ++ ys)
+front_longer : {A : Type 0} (front xs ys : List A) → IsPrefix front xs → IsPrefix front (xs ++ ys)
 front_longer front xs ys f = record { rest = f.rest ++ ys; is = ap (λ w. w ++ ys) f.is ∙ append_assoc front f.rest ys }
 
-longer : (entries xs ys : List (List ℕ)) (image : List ℕ) → HasFront entries xs image → HasFront entries (xs ++ ys) image
+longer : (entries xs ys : List (List ℕ)) (image : List ℕ) → HasPrefix entries xs image → HasPrefix entries (xs ++ ys) image
 longer entries xs ys image h = record { front = h.front; of_all = front_longer h.front xs ys h.of_all; reads = h.reads }
 
 -- behind entries that were added stands a front of the next ones
-behind : (entries xs ys : List (List ℕ)) (image : List ℕ) → HasFront (entries ++ xs) ys image → HasLeast entries xs (xs ++ ys) image
+behind : (entries xs ys : List (List ℕ)) (image : List ℕ) → HasPrefix (entries ++ xs) ys image → HasLeast entries xs (xs ++ ys) image
 behind entries xs ys image h = record {
   front = xs ++ h.front;
   at_least = record { rest = h.front; is = refl };
@@ -53,17 +53,17 @@ behind entries xs ys image h = record {
   reads = subst (λ (es : List (List ℕ)). ReadsAs (Records es) image) (append_assoc entries xs h.front) h.reads;
 }
 
-at_least : (entries xs ys : List (List ℕ)) (image : List ℕ) → HasLeast entries xs ys image → HasFront entries ys image
+at_least : (entries xs ys : List (List ℕ)) (image : List ℕ) → HasLeast entries xs ys image → HasPrefix entries ys image
 at_least entries xs ys image h = record { front = h.front; of_all = h.of_all; reads = h.reads }
 
-behind_front : (entries xs ys : List (List ℕ)) (image : List ℕ) → HasFront (entries ++ xs) ys image → HasFront entries (xs ++ ys) image
+behind_front : (entries xs ys : List (List ℕ)) (image : List ℕ) → HasPrefix (entries ++ xs) ys image → HasPrefix entries (xs ++ ys) image
 behind_front entries xs ys image h = at_least entries xs (xs ++ ys) image (behind entries xs ys image h)
 
 -- ---- moments
 
 -- nothing was tried
-unchanged : (gate : ℕ) (entries more : List (List ℕ)) (disk : Moments) → EndsAt gate entries disk → Leaves (HasFront entries more) disk disk
-unchanged gate entries more disk e = leaves_none (HasFront entries more) disk (λ image is. none_more entries more image (ends_leave gate entries disk e image is))
+unchanged : (gate : ℕ) (entries more : List (List ℕ)) (disk : Moments) → EndsAt gate entries disk → Leaves (HasPrefix entries more) disk disk
+unchanged gate entries more disk e = leaves_none (HasPrefix entries more) disk (λ image is. none_more entries more image (ends_leave gate entries disk e image is))
 
 pub adds_no_entry : (gate : ℕ) (disk : Option Moments) → AddsEntries gate gate [] disk disk
 adds_no_entry gate =
@@ -71,11 +71,11 @@ adds_no_entry gate =
     (λ disk. λ entries e. record { moments = unchanged gate entries [] disk e; ends = subst (λ (es : List (List ℕ)). EndsAt gate es disk) (sym (append-nil entries)) e })
 
 module _ (entries xs ys : List (List ℕ)) (a b c : Moments) where
-  moments_then : Leaves (HasFront entries xs) a b → Leaves (HasFront (entries ++ xs) ys) b c → Leaves (HasFront entries (xs ++ ys)) a c
+  moments_then : Leaves (HasPrefix entries xs) a b → Leaves (HasPrefix (entries ++ xs) ys) b c → Leaves (HasPrefix entries (xs ++ ys)) a c
   moments_then p q =
-      leaves_then (HasFront entries (xs ++ ys)) a b c
-      (leaves_weaker (HasFront entries xs) (HasFront entries (xs ++ ys)) a b (longer entries xs ys) p)
-      (leaves_weaker (HasFront (entries ++ xs) ys) (HasFront entries (xs ++ ys)) b c (behind_front entries xs ys) q)
+      leaves_then (HasPrefix entries (xs ++ ys)) a b c
+      (leaves_weaker (HasPrefix entries xs) (HasPrefix entries (xs ++ ys)) a b (longer entries xs ys) p)
+      (leaves_weaker (HasPrefix (entries ++ xs) ys) (HasPrefix entries (xs ++ ys)) b c (behind_front entries xs ys) q)
 
   added_then : (middle gate : ℕ) → AreAdded middle entries xs a b → AreAdded gate (entries ++ xs) ys b c → AreAdded gate entries (xs ++ ys) a c
   added_then middle gate p q = record {
@@ -86,7 +86,7 @@ module _ (entries xs ys : List (List ℕ)) (a b c : Moments) where
   tried_then : (middle : ℕ) → AreAdded middle entries xs a b → AreTried (entries ++ xs) [] ys b c → AreTried entries xs (xs ++ ys) a c
   tried_then middle p q = record {
     moments = moments_then p.moments q.moments;
-    now = λ image is. behind entries xs ys image (leaves_last (HasFront (entries ++ xs) ys) b c q.moments image is);
+    now = λ image is. behind entries xs ys image (leaves_last (HasPrefix (entries ++ xs) ys) b c q.moments image is);
   }
 
 -- entries were added, and then others
@@ -112,7 +112,7 @@ added_tried first last xs =
     (λ old new. (entries : List (List ℕ)) → EndsAt first entries old → AreTried entries xs xs old new)
     (λ a b p. λ entries e. let one = p entries e in record { moments = one.moments; now = λ image is. all_more entries xs image (ends_leave last (entries ++ xs) b one.ends image is) })
 
-least_none : (entries all : List (List ℕ)) (image : List ℕ) → HasFront entries all image → HasLeast entries [] all image
+least_none : (entries all : List (List ℕ)) (image : List ℕ) → HasPrefix entries all image → HasLeast entries [] all image
 least_none entries all image h = record { front = h.front; at_least = front_none h.front; of_all = h.of_all; reads = h.reads }
 
 pub tries_none : (gate : ℕ) (more : List (List ℕ)) (disk : Option Moments) → TriesEntries gate [] more disk disk
@@ -125,16 +125,16 @@ tries_none gate more =
 
 appended_one : (gate : ℕ) (entry : List ℕ) (a b : Moments) (entries : List (List ℕ)) → Leaves (WithOrWithout entries entry) a b → AreTried entries [] (entry ∷ []) a b
 appended_one gate entry a b entries w =
-    let m = leaves_weaker (WithOrWithout entries entry) (HasFront entries (entry ∷ [])) a b (one_more entries entry) w in
-    record { moments = m; now = λ image is. least_none entries (entry ∷ []) image (leaves_last (HasFront entries (entry ∷ [])) a b m image is) }
+    let m = leaves_weaker (WithOrWithout entries entry) (HasPrefix entries (entry ∷ [])) a b (one_more entries entry) w in
+    record { moments = m; now = λ image is. least_none entries (entry ∷ []) image (leaves_last (HasPrefix entries (entry ∷ [])) a b m image is) }
 
-pub appended_done : (gate : ℕ) (entry : List ℕ) (a b : Option Moments) → WhereTold (Appends appended.Done gate entry) a b → AddsEntries gate (gate + 9 + length entry) (entry ∷ []) a b
+pub appended_done : (gate : ℕ) (entry : List ℕ) (a b : Option Moments) → WhereExposed (Appends appended.Done gate entry) a b → AddsEntries gate (gate + 9 + length entry) (entry ∷ []) a b
 appended_done gate entry =
     told_map (Appends appended.Done gate entry) (λ old new. (entries : List (List ℕ)) → EndsAt gate entries old → AreAdded (gate + 9 + length entry) entries (entry ∷ []) old new)
     (λ old new a. λ entries e. let h = a entries e in record
-    { moments = leaves_weaker (WithOrWithout entries entry) (HasFront entries (entry ∷ [])) old new (one_more entries entry) h.moments; ends = h.ends })
+    { moments = leaves_weaker (WithOrWithout entries entry) (HasPrefix entries (entry ∷ [])) old new (one_more entries entry) h.moments; ends = h.ends })
 
-pub appended_tried : (result : Appended) (gate : ℕ) (entry : List ℕ) (a b : Option Moments) → WhereTold (Appends result gate entry) a b → TriesEntries gate [] (entry ∷ []) a b
+pub appended_tried : (result : Appended) (gate : ℕ) (entry : List ℕ) (a b : Option Moments) → WhereExposed (Appends result gate entry) a b → TriesEntries gate [] (entry ∷ []) a b
 appended_tried appended.Done gate entry =
     told_map (Appends appended.Done gate entry) (λ old new. (entries : List (List ℕ)) → EndsAt gate entries old → AreTried entries [] (entry ∷ []) old new)
     (λ old new a. λ entries e. appended_one gate entry old new entries (a entries e).moments)
@@ -147,6 +147,6 @@ appended_tried appended.OutOfMemory gate entry =
 appended_tried appended.JournalFull gate entry =
     told_map (Appends appended.JournalFull gate entry) (λ old new. (entries : List (List ℕ)) → EndsAt gate entries old → AreTried entries [] (entry ∷ []) old new)
     (λ old new a. λ entries e.
-    let n = leaves_none (HasFront entries (entry ∷ [])) old (λ image is. none_more entries (entry ∷ []) image (ends_leave gate entries old e image is)) in
+    let n = leaves_none (HasPrefix entries (entry ∷ [])) old (λ image is. none_more entries (entry ∷ []) image (ends_leave gate entries old e image is)) in
     subst (λ (w : Moments). AreTried entries [] (entry ∷ []) old w) (sym a)
-    (record { moments = n; now = λ image is. least_none entries (entry ∷ []) image (leaves_last (HasFront entries (entry ∷ [])) old old n image is) }))
+    (record { moments = n; now = λ image is. least_none entries (entry ∷ []) image (leaves_last (HasPrefix entries (entry ∷ [])) old old n image is) }))

@@ -1,14 +1,14 @@
 -- A record is added, and then the replies are put.
 use Rattle.std.proofs.Common.{◌≡◌, inl, ◌+◌, ◌<◌, ◌≤◌, ℕ, List, [], ◌∷◌, length, map, Option, Some, None, refl, sym, ap, subst, ◌∙◌, arith}
 use Rattle.std.specs.Prelude.{◌↔◌, option_to_list}
-use Rattle.ae_edge.specs.Devices.{WhereTold, Adds}
+use Rattle.ae_edge.specs.Devices.{WhereExposed, Adds}
 use Rattle.disk.specs.Moments.{Moments}
 use Rattle.journal_core.specs.Appends.{Appends, gate_after, most_bytes}
 use Rattle.journal_core.specs.declared.journal.Appended.{Appended}
 use Rattle.journal_core.specs.declared.journal.Appended.TheVariants as appended
 use Rattle.serve_command.specs.ServeAll.{answer_frames}
 use Rattle.wire_messages.specs.declared.replies.Reply.{Reply}
-use Rattle.wire_spelling.specs.Packing.{packed}
+use Rattle.wire_encoding.specs.Packing.{packed}
 use Rattle.journal_command.specs.Durable.{AnswersBy, AppendsEntry, DurableState, IsServed, PutsBy}
 use Rattle.journal_command.specs.Keeping.{Asked, entries_of, frames_of, keeping}
 use Rattle.journal_command.specs.Records.{HaveRoom}
@@ -26,7 +26,7 @@ has_room result gate entry isnt full = (not_lt most_bytes (gate + 10 + length en
     not_lt m n none = grind arith
 
 appends_one : (result : Appended) (gate : ℕ) (entry : List ℕ) (a b : Option Moments)
-    → (result ≡ appended.JournalFull) ↔ (most_bytes < gate + 10 + length entry) → WhereTold (Appends result gate entry) a b
+    → (result ≡ appended.JournalFull) ↔ (most_bytes < gate + 10 + length entry) → WhereExposed (Appends result gate entry) a b
     → AppendsEntry result gate (gate_after result gate entry) (entry ∷ []) a b
 appends_one appended.Done gate entry a b full w = (appended_done gate entry a b w, omega arith, has_room appended.Done gate entry (λ e. cc) full.1)
 appends_one appended.DiskFault gate entry a b full w = (appended_tried appended.DiskFault gate entry a b w, has_room appended.DiskFault gate entry (λ e. cc) full.1)
@@ -34,7 +34,7 @@ appends_one appended.OutOfMemory gate entry a b full w = appended_tried appended
 appends_one appended.JournalFull gate entry a b full w = (appended_tried appended.JournalFull gate entry a b w, record { entry = entry; is = refl; full = full.0 refl })
 
 pub appends_some : (result : Appended) (gate after : ℕ) (entry : Option (List ℕ)) (x : List ℕ) (a b : Option Moments) → entry ≡ Some x → after ≡ gate_after result gate x
-    → (result ≡ appended.JournalFull) ↔ (most_bytes < gate + 10 + length x) → WhereTold (Appends result gate x) a b → AppendsEntry result gate after (option_to_list entry) a b
+    → (result ≡ appended.JournalFull) ↔ (most_bytes < gate + 10 + length x) → WhereExposed (Appends result gate x) a b → AppendsEntry result gate after (option_to_list entry) a b
 appends_some result gate after entry x a b e g full w =
     subst (λ (o : Option (List ℕ)). AppendsEntry result gate after (option_to_list o) a b) (sym e)
     (subst (λ (n : ℕ). AppendsEntry result gate n (x ∷ []) a b) (sym g) (appends_one result gate x a b full w))

@@ -2,7 +2,7 @@
 use Rattle.std.proofs.Common.{◌≡◌, inl, inr, ℕ, List, [], ◌∷◌, length, take, Option, Some, None, refl, sym, ap, subst, arith}
 use Rattle.std.specs.List.{All}
 use Rattle.std.proofs.lemmas.List.Elements.{All-head, All-tail}
-use Rattle.ae_edge.specs.Devices.{WhereTold, AddsFront}
+use Rattle.ae_edge.specs.Devices.{WhereExposed, AddsPrefix}
 use Rattle.ae_edge.proofs.Interface.{adds_front_none}
 use Rattle.disk.specs.Crashes.{IsImage}
 use Rattle.disk.specs.Moments.{Moments}
@@ -15,7 +15,7 @@ use Rattle.serve_command.specs.declared.commands.Served.TheVariants as served
 use Rattle.serve_command.proofs.Interface.{exactly_from}
 use Rattle.wire_frames.specs.Frames.{End, is_request_head}
 use Rattle.wire_frames.specs.Laws.{HasOneReading, IsReadBack, IsReadOnce}
-use Rattle.wire_spelling.specs.Spelling.{SpellsRequest, asked_frame}
+use Rattle.wire_encoding.specs.Spelling.{SpellsRequest, asked_frame}
 use Rattle.journal_command.specs.Exact.{IsServedBy, ServesExactly}
 use Rattle.journal_command.specs.Journaling.{IsBad, IsUnserved, Runs, ServesJournal}
 use Rattle.journal_command.specs.Keeping.{Asked, entries_of, frames_in}
@@ -27,10 +27,10 @@ use Rattle.journal_command.specs.declared.endings.Ended.TheVariants as ended
 use Rattle.journal_command.proofs.Servable.{not_bad, same_records, same_requests}
 
 -- where the disk was told, it is still, and what is stated of it holds
-told_of : (P : Moments → Moments → Type 0) (x : Moments) (a c : Option Moments) → a ≡ Some x → WhereTold P a c → (y : Moments) × P x y
-told_of P x a c e w = told P x c (subst (λ (d : Option Moments). WhereTold P d c) e w)
+told_of : (P : Moments → Moments → Type 0) (x : Moments) (a c : Option Moments) → a ≡ Some x → WhereExposed P a c → (y : Moments) × P x y
+told_of P x a c e w = told P x c (subst (λ (d : Option Moments). WhereExposed P d c) e w)
   where
-    told : (P : Moments → Moments → Type 0) (x : Moments) (c : Option Moments) → WhereTold P (Some x) c → (y : Moments) × P x y
+    told : (P : Moments → Moments → Type 0) (x : Moments) (c : Option Moments) → WhereExposed P (Some x) c → (y : Moments) × P x y
     told P x (Some y) p = (y, p)
     told P x None p = absurd p
 
@@ -66,11 +66,11 @@ module _ (reading : HasOneReading SpellsRequest) (once : IsReadOnce is_request_h
     exactly : (by : Served) (how : Ended) (r : Runs how source left a c out now) → Ends (state_behind empty_state file.records) by r.taken left out now → IsServed by bytes end frames out now
     exactly by how r ends = exactly_from reading once back (state_behind empty_state file.records) by r.taken source left out now r.lost ends bytes frames end after told serves
 
-    unserved : IsUnserved source left a c out now → AddsFront frames out now
-    unserved u = subst (AddsFront frames out) (sym u.unput) (adds_front_none frames out)
+    unserved : IsUnserved source left a c out now → AddsPrefix frames out now
+    unserved u = subst (AddsPrefix frames out) (sym u.unput) (adds_front_none frames out)
 
     -- all requests before the one that was tried
-    stopped : (how : Ended) (r : Runs how source left a c out now) → Ends (state_behind empty_state file.records) served.OutOfMemory r.taken left out now → AddsFront frames out now
+    stopped : (how : Ended) (r : Runs how source left a c out now) → Ends (state_behind empty_state file.records) served.OutOfMemory r.taken left out now → AddsPrefix frames out now
     stopped how r ends = exactly served.OutOfMemory how r ends
 
     served_by : (how : Ended) → ServesJournal how source left a c out now → IsServedBy how bytes end frames out now

@@ -36,10 +36,10 @@ use Rattle.std.proofs.lemmas.Bool.{lt-ltb}
 use Rattle.std.proofs.lemmas.List.{flat_map_more, get_or-map, get_or-set_same, length-map, length-set, map-set, set-set}
 use Rattle.std.proofs.lemmas.List.Elements.{All-nil, All-cons, All-head, All-tail, All-append}
 use Rattle.journal_core.specs.Records.{IsExecuteFrame, IsRecord}
-use Rattle.recording.specs.Recorded.{Kept, held_at, kept, kept_of, with_held}
+use Rattle.recording_laws.specs.Recorded.{Kept, held_at, kept, kept_of, with_held}
 use Rattle.statement_analysis.specs.declared.sorts.Sort.{Sort}
 use Rattle.statement_analysis.specs.declared.sorts.Sort.TheVariants as sorts
-use Rattle.wire_spelling.specs.Spelling.{asked_frame}
+use Rattle.wire_encoding.specs.Spelling.{asked_frame}
 use Rattle.journal_command.specs.Keeping.{Asked, HeldFrames, IsHeldRequest, IsKept, HasRoom, KeptFrames, RoomMade, entries_of, frames_in, frames_of, kept_frames, no_frames, with_frame}
 
 -- ---- one session

@@ -1,14 +1,14 @@
 -- How far the input was taken, and what stands where serving ends.
 use Rattle.std.proofs.Common.{◌≡◌, ◌+◌, ◌<◌, ◌≤◌, ◌^◌, ℕ, List, [], ◌++◌, length, map, take, Option, refl, sym, subst, ◌∙◌, length-append, append-nil, arith, inl, inr}
 use Rattle.std.proofs.lemmas.List.{take-append-le, take_all}
-use Rattle.ae_edge.specs.Devices.{WhereTold, Removes}
+use Rattle.ae_edge.specs.Devices.{WhereExposed, Removes}
 use Rattle.ae_edge.specs.Sources.{Takes}
 use Rattle.ae_edge.specs.declared.sources.Taken.TheVariants as taken
 use Rattle.ae_edge.proofs.Interface.{removes_none, removes_then}
 use Rattle.wire_frames.specs.Frames.{Whole, Refused, Rest, IsNotYet, is_request_head}
 use Rattle.wire_frames.specs.declared.decoding.Way.TheVariants.{ToServer}
 use Rattle.frame_feed.specs.Feeding.{Feeding, empty_feed}
-use Rattle.recording.specs.Recorded.{nothing_held}
+use Rattle.recording_laws.specs.Recorded.{nothing_held}
 use Rattle.server_core.specs.Laws.{AreServedSeriallyFrom, RequestsAreSerialFrom}
 use Rattle.server_core.specs.Serve.{State}
 use Rattle.server_core.specs.States.{any_cell}
@@ -49,7 +49,7 @@ module _ (law : RequestsAreSerialFrom) (start : State) (count : ℕ) (feed : Fee
       → Begins bytes requests others → AreServedSeriallyFrom start (messages_of requests)
   serially bytes = λ store none requests others b. law start store none (messages_of requests)
 
-  lost_more : (piece : List ℕ) (after : Option (List ℕ)) → WhereTold (Takes (taken.Bytes piece)) left after → Removes (g.taken ++ piece) source after
+  lost_more : (piece : List ℕ) (after : Option (List ℕ)) → WhereExposed (Takes (taken.Bytes piece)) left after → Removes (g.taken ++ piece) source after
   lost_more piece after h = removes_then g.taken piece source left after g.lost (removes_piece piece left after h)
 
   lost_same : (after : Option (List ℕ)) → Removes [] left after → Removes g.taken source after
@@ -71,7 +71,7 @@ module _ (law : RequestsAreSerialFrom) (start : State) (count : ℕ) (feed : Fee
   abbrev so_open : AnswersOpen start g.taken first.out now.out
   so_open = answers_open start g.taken feed durable.state first.out now.out g.so_far.stands g.waits
 
-  module _ (piece : List ℕ) (after : Option (List ℕ)) (took : WhereTold (Takes (taken.Bytes piece)) left after) (fits : length piece ≤ count) where
+  module _ (piece : List ℕ) (after : Option (List ℕ)) (took : WhereExposed (Takes (taken.Bytes piece)) left after) (fits : length piece ≤ count) where
     still_within : length (g.taken ++ piece) ≤ most_stream_bytes
     still_within = omega (arith, g.few, fits, length-append g.taken piece)
 
@@ -134,7 +134,7 @@ module _ (law : RequestsAreSerialFrom) (start : State) (count : ℕ) (feed : Fee
       record { kept = fed; all = so_all.all; none = so_all.none }
 
   -- a byte past the limit
-  pub ends_past : (piece : List ℕ) (after : Option (List ℕ)) → WhereTold (Takes (taken.Bytes piece)) left after → length piece ≡ 1 → count ≡ 0 → ServesPieces ended.TooLong start source after first now
+  pub ends_past : (piece : List ℕ) (after : Option (List ℕ)) → WhereExposed (Takes (taken.Bytes piece)) left after → length piece ≡ 1 → count ≡ 0 → ServesPieces ended.TooLong start source after first now
   ends_past piece after took one none =
       let all : length g.taken ≡ most_stream_bytes = omega (arith, g.few, none) in
       let front : take most_stream_bytes (g.taken ++ piece) ≡ g.taken =
@@ -147,14 +147,14 @@ module _ (law : RequestsAreSerialFrom) (start : State) (count : ℕ) (feed : Fee
         serial = serially (g.taken ++ piece);
       }
 
-  pub ends_unread : (after : Option (List ℕ)) → WhereTold (Takes taken.Failed) left after → ServesPieces ended.ReadFault start source after first now
+  pub ends_unread : (after : Option (List ℕ)) → WhereExposed (Takes taken.Failed) left after → ServesPieces ended.ReadFault start source after first now
   ends_unread after h = record { taken = g.taken; lost = lost_same after (removes_failed left after h); puts = (within, so_open); keeps = so_all; serial = serially g.taken }
 
-  pub ends_without : (after : Option (List ℕ)) → WhereTold (Takes taken.OutOfMemory) left after → ServesPieces ended.OutOfMemory start source after first now
+  pub ends_without : (after : Option (List ℕ)) → WhereExposed (Takes taken.OutOfMemory) left after → ServesPieces ended.OutOfMemory start source after first now
   ends_without after h = record { taken = g.taken; lost = lost_same after (removes_unheld left after h); puts = (within, inl so_first); keeps = so_kept.kept; serial = serially g.taken }
 
   -- the end of the input
-  pub ends_whole : (r : Ended) (after : Option (List ℕ)) → WhereTold (Takes taken.End) left after → EndsAt r feed → ServesPieces r start source after first now
+  pub ends_whole : (r : Ended) (after : Option (List ℕ)) → WhereExposed (Takes taken.End) left after → EndsAt r feed → ServesPieces r start source after first now
   ends_whole ended.Done after h e = record {
     taken = g.taken;
     lost = lost_same after (removes_end left after h);

@@ -1,7 +1,7 @@
 -- The records of a journal are served again, each as it is read.
 use Rattle.std.proofs.Common.{◌≡◌, inl, inr, ℕ, ◌+◌, List, [], ◌∷◌, ◌++◌, length, Option, Some, None, refl, sym, ap, ◌∙◌, append_assoc, append-nil, arith}
 use Rattle.std.specs.Prelude.{IfSome}
-use Rattle.ae_edge.specs.Devices.{WhereTold}
+use Rattle.ae_edge.specs.Devices.{WhereExposed}
 use Rattle.ae_edge.proofs.Interface.{told_map, told_then}
 use Rattle.disk.specs.Durable.{StaysKept}
 use Rattle.disk.specs.Moments.{Moments}
@@ -31,9 +31,9 @@ pub record HasServedTo (gate place : ℕ) (old now : State) (disk disk_now : Opt
   pub seen : List (List ℕ)
   pub so_far : AreSoFar old seen now
   pub place_is : place ≡ place_behind seen
-  pub of : WhereTold (AreFirst gate seen) disk disk_now
+  pub of : WhereExposed (AreFirst gate seen) disk disk_now
 
-first_told : (gate : ℕ) (a : Option Moments) → IfSome a (IsMounted gate) → WhereTold (AreFirst gate []) a a
+first_told : (gate : ℕ) (a : Option Moments) → IfSome a (IsMounted gate) → WhereExposed (AreFirst gate []) a a
 first_told gate (Some a) m = record { of = λ entries ends. (entries, refl); stays = stays_same a (mounted_kept gate a m) }
 first_told gate None m = tt
 
@@ -63,7 +63,7 @@ module _ (gate place : ℕ) (old now : State) (a b : Option Moments) (h : HasSer
     stays = stays (entry.Next bytes) x y z f c;
   }
 
-  pub served_more : (bytes : List ℕ) (new : State) (c : Option Moments) → WhereTold (Continues (entry.Next bytes) place gate) b c
+  pub served_more : (bytes : List ℕ) (new : State) (c : Option Moments) → WhereExposed (Continues (entry.Next bytes) place gate) b c
       → (requests : List Asked) × IsServedRecord now requests bytes × (new ≡ state_after now requests) → HasServedTo gate (place + (9 + length bytes)) old new a c
   served_more bytes new c w one = record {
     seen = h.seen ++ bytes ∷ [];
@@ -72,7 +72,7 @@ module _ (gate place : ℕ) (old now : State) (a b : Option Moments) (h : HasSer
     of = told_then (AreFirst gate h.seen) (Continues (entry.Next bytes) place gate) (AreFirst gate (h.seen ++ bytes ∷ [])) (one_more bytes) a b c h.of w;
   }
 
-  pub served_all : (c : Option Moments) → place ≡ gate → WhereTold (Continues entry.End place gate) b c → AreRestarted gate old now a c
+  pub served_all : (c : Option Moments) → place ≡ gate → WhereExposed (Continues entry.End place gate) b c → AreRestarted gate old now a c
   served_all c e w = record {
     records = h.so_far.records;
     served = record { proper = h.so_far.served.proper; whole = refl; served = h.so_far.served.served };
@@ -88,7 +88,7 @@ module _ (gate place : ℕ) (old now : State) (a b : Option Moments) (h : HasSer
         )) a b c h.of w;
   }
 
-  pub served_not : (bytes : List ℕ) (c : Option Moments) → WhereTold (Continues (entry.Next bytes) place gate) b c → ((requests : List Asked) → IsServedRecord now requests bytes → ⊥)
+  pub served_not : (bytes : List ℕ) (c : Option Moments) → WhereExposed (Continues (entry.Next bytes) place gate) b c → ((requests : List Asked) → IsServedRecord now requests bytes → ⊥)
       → OfEntries (λ entries. RefusesAt old entries place) gate a c
   served_not bytes c w refused =
       told_then (AreFirst gate h.seen) (Continues (entry.Next bytes) place gate) (λ x z. ((entries : List (List ℕ)) → EndsAt gate entries x → RefusesAt old entries place) × StaysKept x z)
@@ -99,12 +99,12 @@ module _ (gate place : ℕ) (old now : State) (a b : Option Moments) (h : HasSer
         stays (entry.Next bytes) x y z f q,
       )) a b c h.of w
 
-  pub served_other : (c : Option Moments) → WhereTold (Continues entry.Other place gate) b c → OfEntries (λ entries. RefusesAt old entries place) gate a c
+  pub served_other : (c : Option Moments) → WhereExposed (Continues entry.Other place gate) b c → OfEntries (λ entries. RefusesAt old entries place) gate a c
   served_other c w =
       told_then (AreFirst gate h.seen) (Continues entry.Other place gate) (λ x z. ((entries : List (List ℕ)) → EndsAt gate entries x → RefusesAt old entries place) × StaysKept x z)
       (λ x y z f q. ((λ entries ends. absurd (there entry.Other x y z f q entries ends).first), stays entry.Other x y z f q)) a b c h.of w
 
-  pub served_stays : (found : Entry) (c : Option Moments) → WhereTold (Continues found place gate) b c → WhereTold StaysKept a c
+  pub served_stays : (found : Entry) (c : Option Moments) → WhereExposed (Continues found place gate) b c → WhereExposed StaysKept a c
   served_stays found c w = told_then (AreFirst gate h.seen) (Continues found place gate) StaysKept (stays found) a b c h.of w
 
 -- ---- behind them the input is served
@@ -126,5 +126,5 @@ found_served ended.TooLong gate source left disk disk_after out out_after r = r
 found_served (ended.BadFrame place) gate source left disk disk_after out out_after r = r
 found_served ended.JournalFull gate source left disk disk_after out out_after r = r
 
-pub still_of : (P : List (List ℕ) → Type 0) (gate : ℕ) (a b : Option Moments) → OfEntries P gate a b → WhereTold StaysKept a b
+pub still_of : (P : List (List ℕ) → Type 0) (gate : ℕ) (a b : Option Moments) → OfEntries P gate a b → WhereExposed StaysKept a b
 still_of P gate = told_map (λ old new. ((entries : List (List ℕ)) → EndsAt gate entries old → P entries) × StaysKept old new) StaysKept (λ x y p. p.1)

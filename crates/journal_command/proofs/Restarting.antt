@@ -30,8 +30,8 @@ use Rattle.std.specs.List.{All}
 use Rattle.std.proofs.lemmas.List.{append_cancel_left, drop_more, flat_map_more, take_more}
 use Rattle.std.proofs.lemmas.List.Elements.{All-nil, All-push, All-head, All-tail}
 use Rattle.journal_core.specs.Journals.{place_behind}
-use Rattle.recording.specs.Laws.{AreDone, AreServedAgain, IsIdle}
-use Rattle.recording.specs.Recorded.{is_done}
+use Rattle.recording_laws.specs.Laws.{AreDone, AreServedAgain, IsIdle}
+use Rattle.recording_laws.specs.Recorded.{is_done}
 use Rattle.server_core.specs.Serve.{State, serve}
 use Rattle.wire_frames.specs.Decoding.{ReadsEach}
 use Rattle.wire_frames.specs.Laws.{HasOneReading}
@@ -40,9 +40,9 @@ use Rattle.serve_command.specs.ServeAll.{messages_of, state_after}
 use Rattle.serve_command.specs.Serving.{IsProper}
 use Rattle.wire_messages.specs.Exchanges.{Served}
 use Rattle.wire_messages.specs.declared.replies.Reply.{Reply}
-use Rattle.wire_spelling.specs.Spelling.{SpellsRequest, asked_frame}
+use Rattle.wire_encoding.specs.Spelling.{SpellsRequest, asked_frame}
 use Rattle.journal_command.specs.Keeping.{Asked, entries_of, frames_in, messages_in}
-use Rattle.journal_command.specs.Restarts.{AnswersFront, AreServedRecords, IsServedRecord, RefusesAt, ServesFront, state_behind}
+use Rattle.journal_command.specs.Restarts.{AnswersPrefix, AreServedRecords, IsServedRecord, RefusesAt, ServesPrefix, state_behind}
 use Rattle.journal_command.specs.declared.restarts.Front.TheVariants as front
 use Rattle.journal_command.proofs.Recording.{entries_append}
 
@@ -52,7 +52,7 @@ both : (b : Bool) → b ≡ true → b ≡ false → ⊥
 both b t f = cc
 
 pub front_undone : (asked : Asked) (replies : List Reply) (used : ℕ) (bytes : List ℕ) (old new : State) → ReadsEach SpellsRequest (decoded.One asked used) bytes
-    → (serve old asked.message ≡ record { replies = replies; after = new }) → is_done replies ≡ false → AnswersFront front.Refused bytes old new
+    → (serve old asked.message ≡ record { replies = replies; after = new }) → is_done replies ≡ false → AnswersPrefix front.Refused bytes old new
 front_undone asked replies used bytes old new only s e = λ other first rest spelled whole done.
     let same = (only other first rest spelled whole).0 in
     both (is_done (serve old asked.message).replies) (ap (λ (r : Asked). is_done (serve old r.message).replies) same ∙ done) (ap (λ (x : Served State). is_done x.replies) s ∙ e)
@@ -81,7 +81,7 @@ done_next : (state : State) (requests : List Asked) (r : Asked) (others : List A
 done_next state [] r others all = all.0
 done_next state (x ∷ requests) r others all = done_next (serve state x.message).after requests r others all.1
 
-pub more_served : (state : State) (entry rest : List ℕ) (now new : State) (used : ℕ) → HasServed state entry rest now → ServesFront used rest now new → HasServed state entry (drop used rest) new
+pub more_served : (state : State) (entry rest : List ℕ) (now new : State) (used : ℕ) → HasServed state entry rest now → ServesPrefix used rest now new → HasServed state entry (drop used rest) new
 more_served state entry rest now new used h f =
     let r = f.asked in
     record {
@@ -118,7 +118,7 @@ goes law (x ∷ ones) (y ∷ others) rest p q e =
     let g = goes law ones others rest (All-tail IsProper x ones p) (All-tail IsProper y others q) tails in
     record { more = g.more; is = ap (λ (r : Asked). r ∷ others) (sym same.0) ∙ ap (λ (l : List Asked). x ∷ l) g.is; left = g.left; proper = g.proper }
 
-pub refused_front : HasOneReading SpellsRequest → (state : State) (entry rest : List ℕ) (now new : State) → HasServed state entry rest now → 0 < length rest → AnswersFront front.Refused rest now new
+pub refused_front : HasOneReading SpellsRequest → (state : State) (entry rest : List ℕ) (now new : State) → HasServed state entry rest now → 0 < length rest → AnswersPrefix front.Refused rest now new
     → (requests : List Asked) → IsServedRecord state requests entry → ⊥
 refused_front law state entry rest now new h some refused requests s =
     let g = goes law h.requests requests rest h.proper s.proper (sym h.whole ∙ s.whole) in

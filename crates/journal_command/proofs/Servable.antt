@@ -2,7 +2,7 @@
 use Rattle.std.proofs.Common.{◌≡◌, inl, inr, ◌-◌, ℕ, List, [], ◌∷◌, ◌++◌, Option, length, refl, sym, ap, subst, ◌∙◌, append-nil, length-append, arith}
 use Rattle.std.specs.List.{All}
 use Rattle.std.proofs.lemmas.List.Elements.{All-nil, All-cons, All-head, All-tail, All-append, All-set, All-weaker, All-replicate}
-use Rattle.ae_edge.specs.Devices.{WhereTold, IsFront}
+use Rattle.ae_edge.specs.Devices.{WhereExposed, IsPrefix}
 use Rattle.ae_edge.proofs.Interface.{told_map}
 use Rattle.disk.specs.Crashes.{Stand, IsImage}
 use Rattle.disk.specs.Moments.{Moments, LeavesNow, Leaves}
@@ -10,19 +10,19 @@ use Rattle.disk.proofs.Interface.{leaves_weaker}
 use Rattle.journal_core.specs.Journals.{Records, Damaged, ReadsAs}
 use Rattle.journal_core.specs.Mounts.{IsSomeImage}
 use Rattle.journal_core.proofs.Interface.{one_reading}
-use Rattle.recording.specs.Laws.{AreServedAgain, FrontsAreAccepted}
-use Rattle.recording.specs.Recorded.{nothing_held, requests_recorded, session_of}
-use Rattle.recording.proofs.Interface.{map_append, records_forget}
+use Rattle.recording_laws.specs.Laws.{AreServedAgain, PrefixesAreAccepted}
+use Rattle.recording_laws.specs.Recorded.{nothing_held, requests_recorded, session_of}
+use Rattle.recording_laws.proofs.Interface.{map_append, records_forget}
 use Rattle.server_core.specs.Laws.{RequestsMayBeAsked}
 use Rattle.server_core.specs.Serve.{State, empty_state, serve}
 use Rattle.serve_command.specs.ServeAll.{messages_of, state_after}
 use Rattle.serve_command.specs.Serving.{IsProper}
 use Rattle.wire_messages.specs.declared.requests.Request.{Request}
 use Rattle.wire_frames.specs.Laws.{HasOneReading}
-use Rattle.wire_spelling.specs.Spelling.{SpellsRequest, asked_frame}
+use Rattle.wire_encoding.specs.Spelling.{SpellsRequest, asked_frame}
 use Rattle.journal_command.specs.Journaling.{IsBad, IsDurable, IsUnserved, KeepsRecords, Runs, ServesJournal}
 use Rattle.journal_command.specs.Keeping.{Asked, IsHeldRequest, entries_of, frames_in, held_behind, keeping, messages_in, records_of}
-use Rattle.journal_command.specs.Records.{HasFront, IsOfRun}
+use Rattle.journal_command.specs.Records.{HasPrefix, IsOfRun}
 use Rattle.journal_command.specs.Restarts.{AreServedRecords, IsServedRecord, state_behind}
 use Rattle.journal_command.specs.Servable.{IsServable, IsntDamaged, StaysServable}
 use Rattle.journal_command.specs.declared.endings.Ended.{Ended}
@@ -52,7 +52,7 @@ recorded_proper state held (r ∷ requests) h p =
 
 pub record IsOfFront (front : List (List ℕ)) (records : List (List Asked)) : Type 0 where
   pub ones : List (List Asked)
-  pub of_all : IsFront ones records
+  pub of_all : IsPrefix ones records
   pub is : front ≡ entries_of ones
 
 front_of_entries : (front rest : List (List ℕ)) (records : List (List Asked)) → entries_of records ≡ front ++ rest → IsOfFront front records
@@ -83,17 +83,17 @@ entries_append (x ∷ xs) ys = ap (λ (l : List (List ℕ)). frames_in x ∷ l) 
 messages_append : (xs ys : List (List Asked)) → messages_in (xs ++ ys) ≡ messages_in xs ++ messages_in ys
 messages_append xs ys = map_append messages_of xs ys
 
-front_of_messages : (start : State) (requests : List Asked) (front : List (List Asked)) → IsFront front (records_of start nothing_held requests)
-    → IsFront (messages_in front) (requests_recorded start nothing_held (messages_of requests))
+front_of_messages : (start : State) (requests : List Asked) (front : List (List Asked)) → IsPrefix front (records_of start nothing_held requests)
+    → IsPrefix (messages_in front) (requests_recorded start nothing_held (messages_of requests))
 front_of_messages start requests front f = record {
   rest = messages_in f.rest;
   is = sym (records_forget (λ (a : Asked). a.message) (λ (r : Request). r) start requests) ∙ ap messages_in f.is ∙ messages_append front f.rest;
 }
 
-module _ (may : RequestsMayBeAsked) (law : FrontsAreAccepted) where
+module _ (may : RequestsMayBeAsked) (law : PrefixesAreAccepted) where
   -- the records that were found, and a front of those of a run
   run_servable : (records : List (List Asked)) (requests : List Asked) (image : List ℕ) → AreServedRecords empty_state records (entries_of records) → All IsProper requests
-      → HasFront (entries_of records) (entries_of (records_of (state_behind empty_state records) nothing_held requests)) image → IsServable image
+      → HasPrefix (entries_of records) (entries_of (records_of (state_behind empty_state records) nothing_held requests)) image → IsServable image
   run_servable records requests image s p h =
       let all = records_of (state_behind empty_state records) nothing_held requests in
       let f = front_of_entries h.front h.of_all.rest all h.of_all.is in
@@ -121,13 +121,13 @@ module _ (may : RequestsMayBeAsked) (law : FrontsAreAccepted) where
       → (image : List ℕ) → IsOfRun (entries_of records) (entries_of (records_of (state_behind empty_state records) nothing_held requests)) stand image → IsServable image
   of_run records requests stand s p all image h = elim h [ inl before ↦ some_servable stand all image before | inr front ↦ run_servable records requests image s p front ]
 
-  unserved_stays : (source left out out_after : Option (List ℕ)) (a c : Option Moments) → IsUnserved source left a c out out_after → WhereTold StaysServable a c
+  unserved_stays : (source left out out_after : Option (List ℕ)) (a c : Option Moments) → IsUnserved source left a c out out_after → WhereExposed StaysServable a c
   unserved_stays source left out out_after a c u =
       told_map (λ old new. Leaves (IsSomeImage old.now) old new) StaysServable
       (λ old new m. λ all. leaves_weaker (IsSomeImage old.now) IsServable old new (some_servable old.now all) m) a c u.crashed
 
   durable_stays : (records : List (List Asked)) (taken : List ℕ) (out out_after : Option (List ℕ)) (a c : Option Moments) → AreServedRecords empty_state records (entries_of records)
-      → IsDurable records taken a c out out_after → WhereTold StaysServable a c
+      → IsDurable records taken a c out out_after → WhereExposed StaysServable a c
   durable_stays records taken out out_after a c s d =
       let requests = d.answered ++ d.tried in
       let more = entries_of (records_of (state_behind empty_state records) nothing_held requests) in
@@ -143,10 +143,10 @@ module _ (may : RequestsMayBeAsked) (law : FrontsAreAccepted) where
   is_durable (ended.BadFrame place) records taken a c out out_after k = k.kept.durable
   is_durable other records taken a c out out_after k = k.durable
 
-  run_stays : (how : Ended) (source left out out_after : Option (List ℕ)) (a c : Option Moments) → Runs how source left a c out out_after → WhereTold StaysServable a c
+  run_stays : (how : Ended) (source left out out_after : Option (List ℕ)) (a c : Option Moments) → Runs how source left a c out out_after → WhereExposed StaysServable a c
   run_stays how source left out out_after a c r = durable_stays r.records r.taken out out_after a c r.served (is_durable how r.records r.taken a c out out_after r.keeps)
 
-  pub stays_servable : (how : Ended) (source left out out_after : Option (List ℕ)) (a c : Option Moments) → ServesJournal how source left a c out out_after → WhereTold StaysServable a c
+  pub stays_servable : (how : Ended) (source left out out_after : Option (List ℕ)) (a c : Option Moments) → ServesJournal how source left a c out out_after → WhereExposed StaysServable a c
   stays_servable (ended.Damaged place) source left out out_after a c s = unserved_stays source left out out_after a c s.0
   stays_servable ended.DiskFault source left out out_after a c s =
       elim s [ inl u ↦ unserved_stays source left out out_after a c u | inr r ↦ run_stays ended.DiskFault source left out out_after a c r ]

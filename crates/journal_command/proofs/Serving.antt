@@ -7,7 +7,7 @@ use Rattle.disk.specs.Moments.{Moments}
 use Rattle.journal_core.specs.Appends.{IsMounted}
 use Rattle.journal_core.specs.States.{JournalState}
 use Rattle.journal_core.specs.Records.{IsExecute, IsRecord}
-use Rattle.recording.specs.Recorded.{Kept, has_transaction, held_at, is_done, kept_by, kept_of, kept_where, nothing_held, session_of, with_held}
+use Rattle.recording_laws.specs.Recorded.{Kept, has_transaction, held_at, is_done, kept_by, kept_of, kept_where, nothing_held, session_of, with_held}
 use Rattle.statement_analysis.specs.Sorts.{sort_of}
 use Rattle.statement_analysis.specs.declared.sorts.Sort.{Sort}
 use Rattle.server_core.specs.Serve.{State, serve}

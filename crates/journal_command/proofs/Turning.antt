@@ -1,11 +1,11 @@
 -- One request more is answered and recorded, and what stands where it isn't.
 use Rattle.std.proofs.Common.{◌≡◌, ◌⊎◌, inl, inr, ◌<◌, ◌^◌, ℕ, List, [], ◌∷◌, ◌++◌, length, map, drop, Option, refl, sym, ap, subst, ◌∙◌, append-nil, arith}
-use Rattle.ae_edge.specs.Devices.{AddsFront}
+use Rattle.ae_edge.specs.Devices.{AddsPrefix}
 use Rattle.ae_edge.proofs.Interface.{adds_then_front, front_of, front_same}
 use Rattle.frame_feed.specs.Feeding.{Feeding, behind, empty_feed, with_piece}
 use Rattle.frame_feed.specs.Steps.{Steps}
 use Rattle.frame_feed.specs.declared.feeds.Next.TheVariants as next
-use Rattle.recording.specs.Recorded.{nothing_held}
+use Rattle.recording_laws.specs.Recorded.{nothing_held}
 use Rattle.server_core.specs.Serve.{State}
 use Rattle.serve_command.specs.ServeAll.{answer_frames, reply_frames, state_after}
 use Rattle.serve_command.specs.Serving.{Begins, AnswersAll, AnswersFirst, BreaksOff}
@@ -14,7 +14,7 @@ use Rattle.serve_command.specs.Turns.{IsNext}
 use Rattle.serve_command.proofs.Interface.{answers_all, answers_first, begins_more, breaks_off, frames_more, refused_so, stands_fed, stands_first, stands_more}
 use Rattle.wire_frames.specs.Frames.{Refused, IsNotYet, IsRefused, is_request_head}
 use Rattle.wire_frames.specs.declared.decoding.Way.TheVariants.{ToServer}
-use Rattle.wire_spelling.specs.Spelling.{SpellsRequest}
+use Rattle.wire_encoding.specs.Spelling.{SpellsRequest}
 use Rattle.journal_command.specs.Durable.{DurableState}
 use Rattle.journal_command.specs.Keeping.{Asked, entries_of, frames_of, held_after, held_behind, keeping, records_of}
 use Rattle.journal_command.specs.Records.{HaveRoom, HasNoRoom, TriesEntries}
@@ -100,7 +100,7 @@ module _ (start : State) (taken : List ℕ) (feed : Feeding) (durable : DurableS
   -- ---- where it ends
 
   -- these requests were answered, with their records on the disk, and no other one was tried
-  kept_whole : (requests : List Asked) (others : List ℕ) (new : Outside) → Begins taken requests others → AddsFront (reply_frames start requests) first.out new.out
+  kept_whole : (requests : List Asked) (others : List ℕ) (new : Outside) → Begins taken requests others → AddsPrefix (reply_frames start requests) first.out new.out
       → AreThere (entries_of (records_of start nothing_held requests)) first new → HasRoomFor start taken first new
   kept_whole requests others new begins put t =
       let none = sym (append-nil requests) in
@@ -132,11 +132,11 @@ module _ (start : State) (taken : List ℕ) (feed : Feeding) (durable : DurableS
 
   -- its records are on the disk, and some of its replies were put
   kept_in_part : (r : Asked) (used : ℕ) (new : Outside) → IsNext feed r used → AreThere (entries_of (keeping durable.state held r).records) now new
-      → AddsFront (answer_frames durable.state r) now.out new.out → HasRoomFor start taken first new
+      → AddsPrefix (answer_frames durable.state r) now.out new.out → HasRoomFor start taken first new
   kept_in_part r used new next t put =
-      let of_start = subst (λ (x : State). AddsFront (answer_frames x r) now.out new.out) s.stands.left put in
+      let of_start = subst (λ (x : State). AddsPrefix (answer_frames x r) now.out new.out) s.stands.left put in
       kept_whole (answered ++ r ∷ []) (drop used feed.held) new (begins_more taken answered feed.held used r s.stands.begins next.spells)
-      (subst (λ (l : List ℕ). AddsFront l first.out new.out) (sym (frames_more start answered r))
+      (subst (λ (l : List ℕ). AddsPrefix l first.out new.out) (sym (frames_more start answered r))
       (adds_then_front (reply_frames start answered) (answer_frames (state_after start answered) r) first.out now.out new.out s.stands.put of_start)) (there_next r new t)
 
   -- its records may be on the disk, and nothing was put
@@ -148,7 +148,7 @@ module _ (start : State) (taken : List ℕ) (feed : Feeding) (durable : DurableS
     others = drop used feed.held;
     begins = begins_more taken answered feed.held used r s.stands.begins next.spells;
     put =
-        subst (λ (x : Option (List ℕ)). AddsFront (reply_frames start answered) first.out x) (sym t.put)
+        subst (λ (x : Option (List ℕ)). AddsPrefix (reply_frames start answered) first.out x) (sym t.put)
         (front_of (reply_frames start answered) (reply_frames start answered) first.out now.out s.stands.put (front_same (reply_frames start answered)));
     kept = tried_next r new t;
     room = s.there.room;
@@ -180,7 +180,7 @@ module _ (start : State) (taken : List ℕ) (feed : Feeding) (durable : DurableS
   first_before : (new : Outside) → new.out ≡ now.out → AnswersFirst start taken first.out new.out
   first_before new e = subst (λ (x : Option (List ℕ)). AnswersFirst start taken first.out x) (sym e) (answers_first start taken feed durable.state first.out now.out s.stands)
 
-  breaks_in : (r : Asked) (used : ℕ) (new : Outside) → IsNext feed r used → AddsFront (answer_frames durable.state r) now.out new.out → BreaksOff start taken first.out new.out
+  breaks_in : (r : Asked) (used : ℕ) (new : Outside) → IsNext feed r used → AddsPrefix (answer_frames durable.state r) now.out new.out → BreaksOff start taken first.out new.out
   breaks_in r used new next put = breaks_off start taken feed durable.state first.out now.out s.stands new.out (record { request = r; used = used; next = next; put = put })
 
   stops_next : (stop : Stop) (new : Outside) → StopsNext stop feed held durable now new → PutsOf stop start taken first.out new.out × KeepsBy stop start taken first new

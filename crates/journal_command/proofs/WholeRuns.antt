@@ -1,6 +1,6 @@
 -- A whole run: the journal is found, its records are served again, and then the input.
 use Rattle.std.proofs.Common.{◌≡◌, ◌⊎◌, inl, inr, ℕ, List, [], ◌∷◌, ◌++◌, take, Option, Bool, true, false, refl, sym, ap, subst, ◌∙◌, arith}
-use Rattle.ae_edge.specs.Devices.{WhereTold}
+use Rattle.ae_edge.specs.Devices.{WhereExposed}
 use Rattle.ae_edge.proofs.Interface.{told_then}
 use Rattle.disk.specs.Crashes.{IsImage, Stand, kept}
 use Rattle.disk.specs.Durable.{StaysKept}
@@ -12,14 +12,14 @@ use Rattle.journal_core.specs.Mounts.{Finds, IsSomeImage, Mounts}
 use Rattle.journal_core.specs.States.{JournalState}
 use Rattle.journal_core.specs.declared.mounting.Mounted.TheVariants as mounted
 use Rattle.journal_core.proofs.Interface.{end_reads, ends_still, one_reading}
-use Rattle.recording.specs.Recorded.{nothing_held}
-use Rattle.recording.proofs.Interface.{none_behind, store_behind}
+use Rattle.recording_laws.specs.Recorded.{nothing_held}
+use Rattle.recording_laws.proofs.Interface.{none_behind, store_behind}
 use Rattle.server_core.specs.Laws.{RequestsMayBeAsked}
 use Rattle.serve_command.specs.Serving.{most_stream_bytes}
 use Rattle.server_core.specs.Serve.{State, empty_state}
 use Rattle.journal_command.specs.Journaling.{IsBad, IsDurable, IsFull, IsntFull, IsUnserved, KeepsAll, KeepsRecords, Runs, ServesFound, ServesFrom, ServesJournal, ServesRestarted, StandsStill}
 use Rattle.journal_command.specs.Keeping.{Asked, entries_of, messages_in, records_of}
-use Rattle.journal_command.specs.Records.{AreTried, HasFront, HasLeast, HaveRoom, IsOfRun}
+use Rattle.journal_command.specs.Records.{AreTried, HasPrefix, HasLeast, HaveRoom, IsOfRun}
 use Rattle.journal_command.specs.Restarts.{AreServedRecords, RefusesAt, state_behind}
 use Rattle.journal_command.specs.Running.{HasKept, HasKeptAll, HasNoRoomFor, HasRoomFor, KeepsSo, ServesPieces}
 use Rattle.journal_command.specs.Stopping.{outside}
@@ -66,7 +66,7 @@ still_mounted journal entries x y z m all =
 -- ---- nothing was served
 
 still_unserved : (journal : JournalState) (source left out out_after : Option (List ℕ)) (a b c : Option Moments)
-    → WhereTold (Mounts (mounted.Ready journal)) a b → StandsStill source left b c out out_after → IsUnserved source left a c out out_after
+    → WhereExposed (Mounts (mounted.Ready journal)) a b → StandsStill source left b c out out_after → IsUnserved source left a c out out_after
 still_unserved journal source left out out_after a b c w s = record {
   untaken = s.untaken;
   unput = s.unput;
@@ -90,7 +90,7 @@ refused_at journal place x y z m r =
 -- ---- or the input was
 
 module _ (may : RequestsMayBeAsked) (journal : JournalState) (entries : List (List ℕ)) (a b : Option Moments)
-    (w : WhereTold (HasMounted journal entries) a b) (sound : journal.gate ≡ place_behind entries) where
+    (w : WhereExposed (HasMounted journal entries) a b) (sound : journal.gate ≡ place_behind entries) where
   module _ (records : List (List Asked)) (served : AreServedRecords empty_state records entries) (source left out out_after : Option (List ℕ)) (c : Option Moments) (gate : ℕ) where
     abbrev start : State
     start = state_behind empty_state records
@@ -106,23 +106,23 @@ module _ (may : RequestsMayBeAsked) (journal : JournalState) (entries : List (Li
         let t = q entries m.finds.ends in
         subst (λ (es : List (List ℕ)). Leaves (IsOfRun es more x.now) x z) served.whole
         (leaves_then (IsOfRun entries more x.now) x y z (leaves_weaker (IsSomeImage x.now) (IsOfRun entries more x.now) x y (λ image i. inl i) m.moments)
-        (leaves_weaker (HasFront entries more) (IsOfRun entries more x.now) y z (λ image h. inr h) t.moments))
+        (leaves_weaker (HasPrefix entries more) (IsOfRun entries more x.now) y z (λ image h. inr h) t.moments))
 
-    crashed : (answered all : List Asked) → WhereTold (Tried answered all) b c
-        → WhereTold (λ old new. Leaves (IsOfRun (entries_of records) (entries_of (records_of start nothing_held all)) old.now) old new) a c
+    crashed : (answered all : List Asked) → WhereExposed (Tried answered all) b c
+        → WhereExposed (λ old new. Leaves (IsOfRun (entries_of records) (entries_of (records_of start nothing_held all)) old.now) old new) a c
     crashed answered all q =
         told_then (HasMounted journal entries) (Tried answered all)
         (λ old new. Leaves (IsOfRun (entries_of records) (entries_of (records_of start nothing_held all)) old.now) old new) (moments answered all) a b c w q
 
-    least : (answered all : List Asked) → WhereTold (Tried answered all) b c
-        → WhereTold (λ old new. LeavesNow (HasLeast (entries_of records) (entries_of (records_of start nothing_held answered)) (entries_of (records_of start nothing_held all))) new.now) a c
+    least : (answered all : List Asked) → WhereExposed (Tried answered all) b c
+        → WhereExposed (λ old new. LeavesNow (HasLeast (entries_of records) (entries_of (records_of start nothing_held answered)) (entries_of (records_of start nothing_held all))) new.now) a c
     least answered all q =
         let least = entries_of (records_of start nothing_held answered) in
         let more = entries_of (records_of start nothing_held all) in
         told_then (HasMounted journal entries) (Tried answered all) (λ old new. LeavesNow (HasLeast (entries_of records) least more) new.now)
         (λ x y z m t. subst (λ (es : List (List ℕ)). LeavesNow (HasLeast es least more) z.now) served.whole (t entries m.finds.ends).now) a b c w q
 
-    found : (answered all : List Asked) → WhereTold (Tried answered all) b c → WhereTold (λ old new. IsImage old.now old.now.seen × ReadsAs (Records (entries_of records)) old.now.seen) a c
+    found : (answered all : List Asked) → WhereExposed (Tried answered all) b c → WhereExposed (λ old new. IsImage old.now old.now.seen × ReadsAs (Records (entries_of records)) old.now.seen) a c
     found answered all q =
         told_then (HasMounted journal entries) (Tried answered all) (λ old new. IsImage old.now old.now.seen × ReadsAs (Records (entries_of records)) old.now.seen)
         (λ x y z m t. (m.finds.was_image, subst (λ (es : List (List ℕ)). ReadsAs (Records es) x.now.seen) served.whole m.finds.read)) a b c w q
@@ -213,7 +213,7 @@ not_so : (how : Ended) → is_memory how ≡ false → how ≡ ended.OutOfMemory
 unfolding is_memory
 not_so how f e = false_true (sym f ∙ ap is_memory e)
 
-module _ (may : RequestsMayBeAsked) (journal : JournalState) (a b : Option Moments) (w : WhereTold (Mounts (mounted.Ready journal)) a b)
+module _ (may : RequestsMayBeAsked) (journal : JournalState) (a b : Option Moments) (w : WhereExposed (Mounts (mounted.Ready journal)) a b)
     (source left out out_after : Option (List ℕ)) (c : Option Moments) where
   -- a run, or no memory for one
   data Came (how : Ended) : Type 0 where
@@ -224,7 +224,7 @@ module _ (may : RequestsMayBeAsked) (journal : JournalState) (a b : Option Momen
   came how r =
       let q = r.restarted in
       let entries = entries_of q.records in
-      let there : WhereTold (HasMounted journal entries) a r.between =
+      let there : WhereExposed (HasMounted journal entries) a r.between =
       told_then (Mounts (mounted.Ready journal)) (λ old new. ((es : List (List ℕ)) → EndsAt journal.gate es old → es ≡ entries) × StaysKept old new)
       (HasMounted journal entries) (still_mounted journal entries) a b r.between w q.all in
       let stays = still_of (λ es. es ≡ entries) journal.gate b r.between q.all in
@@ -232,7 +232,7 @@ module _ (may : RequestsMayBeAsked) (journal : JournalState) (a b : Option Momen
       elim from [
         | inl s ↦ Ran (runs may journal entries a r.between there q.place q.records q.served source left out out_after c s.0 how s.1)
         | inr e ↦ Stood e.0
-            (still_unserved journal source left out out_after a b c w (record { untaken = e.1; unput = e.3; stays = subst (λ (x : Option Moments). WhereTold StaysKept b x) (sym e.2) stays }))
+            (still_unserved journal source left out out_after a b c w (record { untaken = e.1; unput = e.3; stays = subst (λ (x : Option Moments). WhereExposed StaysKept b x) (sym e.2) stays }))
       ]
 
   ran : (how : Ended) → is_memory how ≡ false → ServesRestarted how journal.gate source left b c out out_after → Runs how source left a c out out_after

@@ -1,6 +1,6 @@
 -- The command over a whole input and a whole file.
 use Rattle.std.specs.Prelude.{◌≡◌, ℕ, List, take, Option, Some}
-use Rattle.ae_edge.specs.Devices.{AddsFront}
+use Rattle.ae_edge.specs.Devices.{AddsPrefix}
 use Rattle.disk.specs.Moments.{Moments}
 use Rattle.wire_frames.specs.Frames.{End}
 use Rattle.server_core.specs.Serve.{State, empty_state}
@@ -21,8 +21,8 @@ IsServedBy ended.WriteFault bytes end frames old new = IsServed served.WriteFaul
 IsServedBy ended.OutOfMemory bytes end frames old new = IsServed served.OutOfMemory bytes end frames old new
 IsServedBy ended.TooLong bytes end frames old new = IsServed served.TooLong bytes end frames old new
 IsServedBy (ended.BadFrame place) bytes end frames old new = IsServed (served.BadFrame place) bytes end frames old new
-IsServedBy ended.DiskFault bytes end frames old new = AddsFront frames old new
-IsServedBy ended.JournalFull bytes end frames old new = AddsFront frames old new
+IsServedBy ended.DiskFault bytes end frames old new = AddsPrefix frames old new
+IsServedBy ended.JournalFull bytes end frames old new = AddsPrefix frames old new
 IsServedBy (ended.Damaged place) bytes end frames old new = ⊥
 
 -- Where the input and the disk expose what they hold, and the records of the file are served again: by how the bytes within the limit

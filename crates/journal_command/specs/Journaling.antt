@@ -1,6 +1,6 @@
 -- The command `serve --journal`: what is put of what was taken of the input, and what a crash leaves, by how it ended.
 use Rattle.std.specs.Prelude.{◌≡◌, ◌⊎◌, ℕ, ◌+◌, ◌<◌, ◌≤◌, List, [], ◌∷◌, ◌++◌, length, take, Option}
-use Rattle.ae_edge.specs.Devices.{WhereTold, AddsFront, Removes}
+use Rattle.ae_edge.specs.Devices.{WhereExposed, AddsPrefix, Removes}
 use Rattle.disk.specs.Crashes.{IsImage, kept}
 use Rattle.disk.specs.Durable.{StaysKept}
 use Rattle.disk.specs.Moments.{Moments, LeavesNow, Leaves}
@@ -9,7 +9,7 @@ use Rattle.journal_core.specs.Journals.{Records, Damaged, ReadsAs, place_behind}
 use Rattle.journal_core.specs.Mounts.{IsLeft, IsSomeImage}
 use Rattle.server_core.specs.Laws.{AreServedSeriallyFrom}
 use Rattle.server_core.specs.Serve.{State, empty_state}
-use Rattle.recording.specs.Recorded.{nothing_held}
+use Rattle.recording_laws.specs.Recorded.{nothing_held}
 use Rattle.serve_command.specs.ServeAll.{messages_of, reply_frames}
 use Rattle.serve_command.specs.Serving.{Begins, most_stream_bytes}
 use Rattle.journal_command.specs.Keeping.{Asked, entries_of, frames_in, records_of}
@@ -31,10 +31,10 @@ pub record IsDurable (records : List (List Asked)) (taken : List ℕ) (disk disk
   pub few : length tried ≤ 1
   pub others : List ℕ
   pub begins : Begins taken (answered ++ tried) others
-  pub put : AddsFront (reply_frames (state_behind empty_state records) answered) out out_after
-  pub crashed : WhereTold
+  pub put : AddsPrefix (reply_frames (state_behind empty_state records) answered) out out_after
+  pub crashed : WhereExposed
       (λ old new. Leaves (IsOfRun (entries_of records) (entries_of (records_of (state_behind empty_state records) nothing_held (answered ++ tried))) old.now) old new) disk disk_after
-  pub kept : WhereTold (λ old new. LeavesNow (HasLeast (entries_of records) (entries_of (records_of (state_behind empty_state records) nothing_held answered))
+  pub kept : WhereExposed (λ old new. LeavesNow (HasLeast (entries_of records) (entries_of (records_of (state_behind empty_state records) nothing_held answered))
       (entries_of (records_of (state_behind empty_state records) nothing_held (answered ++ tried)))) new.now) disk disk_after
   pub room : HaveRoom (place_behind (entries_of records)) (entries_of (records_of (state_behind empty_state records) nothing_held answered))
 
@@ -73,7 +73,7 @@ KeepsRecords other records taken disk disk_after out out_after = IsntFull record
 -- COMMIT.
 pub record Runs (how : Ended) (source left : Option (List ℕ)) (disk disk_after : Option Moments) (out out_after : Option (List ℕ)) : Type 0 where
   pub records : List (List Asked)
-  pub found : WhereTold (λ old new. IsImage old.now old.now.seen × ReadsAs (Records (entries_of records)) old.now.seen) disk disk_after
+  pub found : WhereExposed (λ old new. IsImage old.now old.now.seen × ReadsAs (Records (entries_of records)) old.now.seen) disk disk_after
   pub served : AreServedRecords empty_state records (entries_of records)
   pub taken : List ℕ
   pub lost : Removes taken source left
@@ -99,11 +99,11 @@ IsBad place old new = (ReadsAs (Damaged place) old.now.seen × IsLeft old new) �
 pub record IsUnserved (source left : Option (List ℕ)) (disk disk_after : Option Moments) (out out_after : Option (List ℕ)) : Type 0 where
   pub untaken : left ≡ source
   pub unput : out_after ≡ out
-  pub crashed : WhereTold (λ old new. Leaves (IsSomeImage old.now) old new) disk disk_after
+  pub crashed : WhereExposed (λ old new. Leaves (IsSomeImage old.now) old new) disk disk_after
 
 abbrev pub ServesJournal : Ended → Option (List ℕ) → Option (List ℕ) → Option Moments → Option Moments → Option (List ℕ) → Option (List ℕ) → Type 0
 ServesJournal (ended.Damaged place) source left disk disk_after out out_after =
-    IsUnserved source left disk disk_after out out_after × WhereTold (λ old new. IsImage old.now old.now.seen × IsBad place old new) disk disk_after
+    IsUnserved source left disk disk_after out out_after × WhereExposed (λ old new. IsImage old.now old.now.seen × IsBad place old new) disk disk_after
 ServesJournal ended.DiskFault source left disk disk_after out out_after =
     IsUnserved source left disk disk_after out out_after ⊎ Runs ended.DiskFault source left disk disk_after out out_after
 ServesJournal ended.OutOfMemory source left disk disk_after out out_after =
@@ -129,7 +129,7 @@ pub record ServesRestarted (how : Ended) (gate : ℕ) (source left : Option (Lis
 pub record StandsStill (source left : Option (List ℕ)) (disk disk_after : Option Moments) (out out_after : Option (List ℕ)) : Type 0 where
   pub untaken : left ≡ source
   pub unput : out_after ≡ out
-  pub stays : WhereTold StaysKept disk disk_after
+  pub stays : WhereExposed StaysKept disk disk_after
 
 abbrev pub ServesFound : Ended → ℕ → Option (List ℕ) → Option (List ℕ) → Option Moments → Option Moments → Option (List ℕ) → Option (List ℕ) → Type 0
 ServesFound (ended.Damaged place) gate source left disk disk_after out out_after =

@@ -3,14 +3,14 @@ use Rattle.std.specs.Prelude.{◌≡◌, ℕ, ◌-◌, List, [], ◌∷◌, ◌+
 use Rattle.std.specs.List.{All}
 use Rattle.journal_core.specs.Records.{IsExecute}
 use Rattle.serve_command.specs.Serving.{IsProper}
-use Rattle.recording.specs.Recorded.{Kept, held_at, kept_by, recorded, session_of, with_held}
+use Rattle.recording_laws.specs.Recorded.{Kept, held_at, kept_by, recorded, session_of, with_held}
 use Rattle.serve_command.specs.ServeAll.{messages_of}
 use Rattle.statement_analysis.specs.declared.sorts.Sort.{Sort}
 use Rattle.statement_analysis.specs.declared.sorts.Sort.TheVariants as sort
 use Rattle.server_core.specs.Serve.{State, serve}
 use Rattle.wire_messages.specs.declared.requests.Request.{Request}
 use Rattle.wire_payloads.specs.declared.versioned.Versioned.{Versioned}
-use Rattle.wire_spelling.specs.Spelling.{asked_frame}
+use Rattle.wire_encoding.specs.Spelling.{asked_frame}
 
 -- frames in a row, and whether more than the BEGIN's is among them
 pub record HeldFrames : Type 0 where

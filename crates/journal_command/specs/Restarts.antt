@@ -1,17 +1,17 @@
 -- Records that are found are served again.
 use Rattle.std.specs.Prelude.{true, ◌≡◌, ◌≤◌, ℕ, List, ◌∷◌, ◌++◌, length, take, Option}
 use Rattle.std.specs.List.{All}
-use Rattle.ae_edge.specs.Devices.{Rose, WhereTold}
+use Rattle.ae_edge.specs.Devices.{Rose, WhereExposed}
 use Rattle.disk.specs.Durable.{StaysKept}
 use Rattle.disk.specs.Moments.{Moments}
 use Rattle.journal_core.specs.Appends.{EndsAt}
 use Rattle.journal_core.specs.Journals.{place_behind}
 use Rattle.serve_command.specs.ServeAll.{messages_of, state_after}
 use Rattle.serve_command.specs.Serving.{IsProper}
-use Rattle.wire_spelling.specs.Spelling.{SpellsRequest}
+use Rattle.wire_encoding.specs.Spelling.{SpellsRequest}
 use Rattle.server_core.specs.Serve.{State, serve}
-use Rattle.recording.specs.Laws.{AreDone, AreServedAgain, IsIdle}
-use Rattle.recording.specs.Recorded.{after_records, is_done}
+use Rattle.recording_laws.specs.Laws.{AreDone, AreServedAgain, IsIdle}
+use Rattle.recording_laws.specs.Recorded.{after_records, is_done}
 use Rattle.journal_command.specs.Keeping.{Asked, entries_of, frames_in, messages_in}
 use Rattle.journal_command.specs.declared.restarts.Front.{Front}
 use Rattle.journal_command.specs.declared.restarts.Front.TheVariants as front
@@ -50,7 +50,7 @@ pub record RefusesAt (state : State) (entries : List (List ℕ)) (place : ℕ) :
 -- ---- calls
 
 -- the request that stands first, which is done, and the state after it
-pub record ServesFront (used : ℕ) (bytes : List ℕ) (old new : State) : Type 0 where
+pub record ServesPrefix (used : ℕ) (bytes : List ℕ) (old new : State) : Type 0 where
   pub asked : Asked
   pub held : used ≤ length bytes
   pub spelled : SpellsRequest asked (take used bytes)
@@ -58,10 +58,10 @@ pub record ServesFront (used : ℕ) (bytes : List ℕ) (old new : State) : Type 
   pub after : new ≡ (serve old asked.message).after
 
 -- no request that stands first is done
-abbrev pub AnswersFront : Front → List ℕ → State → State → Type 0
-AnswersFront (front.Done used) bytes old new = ServesFront used bytes old new
-AnswersFront front.Refused bytes old new = (asked : Asked) (first rest : List ℕ) → SpellsRequest asked first → bytes ≡ first ++ rest → is_done (serve old asked.message).replies ≡ true → ⊥
-AnswersFront front.OutOfMemory bytes old new = Unit {0}
+abbrev pub AnswersPrefix : Front → List ℕ → State → State → Type 0
+AnswersPrefix (front.Done used) bytes old new = ServesPrefix used bytes old new
+AnswersPrefix front.Refused bytes old new = (asked : Asked) (first rest : List ℕ) → SpellsRequest asked first → bytes ≡ first ++ rest → is_done (serve old asked.message).replies ≡ true → ⊥
+AnswersPrefix front.OutOfMemory bytes old new = Unit {0}
 
 abbrev pub ServesEntry : Again → List ℕ → State → State → Type 0
 ServesEntry again.Served entry old new = (requests : List Asked) × IsServedRecord old requests entry × (new ≡ state_after old requests)
@@ -77,7 +77,7 @@ ServesAgain again.OutOfMemory entries old new = Unit {0}
 
 -- where the disk is told, the entries behind which the last gate stands have P; the disk stands as it stood
 abbrev pub OfEntries : (List (List ℕ) → Type 0) → ℕ → Option Moments → Option Moments → Type 0
-OfEntries P gate = WhereTold (λ old new. ((entries : List (List ℕ)) → EndsAt gate entries old → P entries) × StaysKept old new)
+OfEntries P gate = WhereExposed (λ old new. ((entries : List (List ℕ)) → EndsAt gate entries old → P entries) × StaysKept old new)
 
 -- all entries were read and served again, and the last gate stands behind them
 pub record AreRestarted (gate : ℕ) (old new : State) (disk disk_after : Option Moments) : Type 0 where
@@ -90,8 +90,8 @@ pub record AreRestarted (gate : ℕ) (old new : State) (disk disk_after : Option
 abbrev pub Restarts : Restarted → ℕ → State → State → Option Moments → Option Moments → Type 0
 Restarts restarted.Served gate old new disk disk_after = AreRestarted gate old new disk disk_after
 Restarts (restarted.Refused place) gate old new disk disk_after = OfEntries (λ entries. RefusesAt old entries place) gate disk disk_after
-Restarts restarted.DiskFault gate old new disk disk_after = WhereTold StaysKept disk disk_after
-Restarts restarted.OutOfMemory gate old new disk disk_after = WhereTold StaysKept disk disk_after
+Restarts restarted.DiskFault gate old new disk disk_after = WhereExposed StaysKept disk disk_after
+Restarts restarted.OutOfMemory gate old new disk disk_after = WhereExposed StaysKept disk disk_after
 
 -- the count of faults stays, but where a call failed
 abbrev pub CountsRestarted : Restarted → ℕ → ℕ → Type 0

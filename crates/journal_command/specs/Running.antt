@@ -1,18 +1,18 @@
 -- Requests of an input that are answered and recorded: what is put for them, and what a crash leaves of their records.
 use Rattle.std.specs.Prelude.{◌≡◌, ◌⊎◌, ℕ, ◌+◌, ◌≤◌, ◌<◌, List, [], ◌∷◌, ◌++◌, length, take, Option}
-use Rattle.ae_edge.specs.Devices.{AddsFront, Removes}
+use Rattle.ae_edge.specs.Devices.{AddsPrefix, Removes}
 use Rattle.journal_core.specs.Appends.{most_bytes}
 use Rattle.journal_core.specs.Journals.{place_behind}
 use Rattle.server_core.specs.Laws.{AreServedSeriallyFrom}
 use Rattle.server_core.specs.Serve.{State}
 use Rattle.server_core.specs.States.{any_cell}
-use Rattle.recording.specs.Recorded.{nothing_held}
+use Rattle.recording_laws.specs.Recorded.{nothing_held}
 use Rattle.serve_command.specs.ServeAll.{messages_of, reply_frames}
 use Rattle.serve_command.specs.Serving.{Begins, AnswersFirst, BreaksOff, Ends, most_stream_bytes}
 use Rattle.serve_command.specs.declared.commands.Served.TheVariants as served
 use Rattle.transactions.specs.WellKept.{HasNoTransactions, IsStore}
 use Rattle.wire_frames.specs.Frames.{IsNotYet, IsRefused, is_request_head}
-use Rattle.wire_spelling.specs.Spelling.{SpellsRequest}
+use Rattle.wire_encoding.specs.Spelling.{SpellsRequest}
 use Rattle.journal_command.specs.Keeping.{Asked, entries_of, frames_in, records_of}
 use Rattle.journal_command.specs.Records.{HaveRoom, TriesEntries}
 use Rattle.journal_command.specs.Stopping.{Outside}
@@ -29,7 +29,7 @@ pub record HasKept (start : State) (taken : List ℕ) (old new : Outside) : Type
   pub few : length tried ≤ 1
   pub others : List ℕ
   pub begins : Begins taken (answered ++ tried) others
-  pub put : AddsFront (reply_frames start answered) old.out new.out
+  pub put : AddsPrefix (reply_frames start answered) old.out new.out
   pub kept : TriesEntries old.gate (entries_of (records_of start nothing_held answered)) (entries_of (records_of start nothing_held (answered ++ tried))) old.disk new.disk
   pub room : HaveRoom old.gate (entries_of (records_of start nothing_held answered))
 

@@ -1,6 +1,6 @@
 -- Files that such runs leave, and that are served again.
 use Rattle.std.specs.Prelude.{ℕ, List, Option}
-use Rattle.ae_edge.specs.Devices.{WhereTold}
+use Rattle.ae_edge.specs.Devices.{WhereExposed}
 use Rattle.disk.specs.Moments.{Moments, LeavesNow, Leaves}
 use Rattle.journal_core.specs.Journals.{Records, ReadsAs}
 use Rattle.server_core.specs.Serve.{empty_state}
@@ -21,5 +21,5 @@ StaysServable old new = LeavesNow IsServable old.now → Leaves IsServable old n
 
 -- and no such file is found damaged
 abbrev pub IsntDamaged : Ended → Option Moments → Option Moments → Type 0
-IsntDamaged (ended.Damaged place) disk disk_after = WhereTold (λ old new. LeavesNow IsServable old.now → ⊥) disk disk_after
+IsntDamaged (ended.Damaged place) disk disk_after = WhereExposed (λ old new. LeavesNow IsServable old.now → ⊥) disk disk_after
 IsntDamaged other disk disk_after = Unit {0}

@@ -1,6 +1,6 @@
 -- What stands where a request isn't answered whole: on the disk, and in the output.
 use Rattle.std.specs.Prelude.{◌≡◌, ◌⊎◌, ℕ, ◌+◌, List, [], Option}
-use Rattle.ae_edge.specs.Devices.{AddsFront, Rose}
+use Rattle.ae_edge.specs.Devices.{AddsPrefix, Rose}
 use Rattle.disk.specs.Moments.{Moments}
 use Rattle.journal_core.specs.Journals.{place_behind}
 use Rattle.journal_command.specs.Records.{AddsEntries, TriesEntries, HaveRoom, HasNoRoom}
@@ -29,10 +29,10 @@ pub record MayBeThere (more : List (List ℕ)) (old new : Outside) : Type 0 wher
 
 -- of the frames of a request's replies, and of its records' bytes
 abbrev pub StopsBy : Stop → List ℕ → List (List ℕ) → Outside → Outside → Type 0
-StopsBy stop.WriteFault frames more old new = AreThere more old new × AddsFront frames old.out new.out
+StopsBy stop.WriteFault frames more old new = AreThere more old new × AddsPrefix frames old.out new.out
 StopsBy stop.DiskFault frames more old new = MayBeThere more old new × HaveRoom old.gate more
 StopsBy stop.JournalFull frames more old new = MayBeThere more old new × HasNoRoom old.gate more
-StopsBy stop.OutOfMemory frames more old new = MayBeThere more old new ⊎ (AreThere more old new × AddsFront frames old.out new.out)
+StopsBy stop.OutOfMemory frames more old new = MayBeThere more old new ⊎ (AreThere more old new × AddsPrefix frames old.out new.out)
 
 -- the counts of faults of the disk and of the output
 pub record Faults : Type 0 where

@@ -1,13 +1,13 @@
 -- What is done with the bytes that a feed holds.
 use Rattle.std.specs.Prelude.{◌≡◌, ◌⊎◌, ℕ, ◌<◌, List, [], length, map, false, Option}
 use Rattle.disk.specs.Moments.{Moments}
-use Rattle.wire_spelling.specs.Spelling.{SpellsRequest}
+use Rattle.wire_encoding.specs.Spelling.{SpellsRequest}
 use Rattle.wire_frames.specs.Frames.{Refused, IsNotYet, IsRefused, is_request_head}
 use Rattle.frame_feed.specs.Feeding.{Feeding}
 use Rattle.frame_feed.specs.declared.messages.Message.{Message}
 use Rattle.frame_feed.specs.declared.messages.Message.TheVariants.{Asks, Tells}
 use Rattle.server_core.specs.Serve.{State}
-use Rattle.recording.specs.Recorded.{nothing_held}
+use Rattle.recording_laws.specs.Recorded.{nothing_held}
 use Rattle.serve_command.specs.ServeAll.{answer_frames}
 use Rattle.serve_command.specs.Serving.{AnswersAll}
 use Rattle.serve_command.specs.Turns.{IsNext, Stands}

@@ -1,9 +1,9 @@
 //! The command `serve --journal`.
 
 ghost use Rattle.std.specs.Prelude.{◌≡◌, ◌++◌, ◌<◌, ◌^◌, List, ℕ, length, map, IfSome, false};
-ghost use Rattle.ae_edge.specs.Devices.{Rose, WhereTold};
+ghost use Rattle.ae_edge.specs.Devices.{Rose, WhereExposed};
 ghost use Rattle.journal_core.specs.Appends.{IsMounted};
-ghost use Rattle.recording.specs.Recorded.{nothing_held};
+ghost use Rattle.recording_laws.specs.Recorded.{nothing_held};
 ghost use Rattle.server_core.specs.Serve.{State};
 ghost use Rattle.wire_frames.specs.declared.decoding.Way.TheVariants.{ToServer};
 ghost use Rattle.journal_command.specs.Durable.{IsSound};
@@ -27,7 +27,7 @@ use disk::disks::Disk;
 use frame_feed::FrameFeed;
 use journal_core::journal::Journal;
 use journal_core::mounting::Mounted;
-use recording::laws::fronts_are_accepted;
+use recording_laws::laws::prefixes_are_accepted;
 use server_core::laws::{requests_are_serial_from, requests_may_be_asked};
 use server_core::server::Server;
 use std::alloc::Global;
@@ -214,7 +214,7 @@ pub fn serve_journal<S: Source, W: Sink, D: Disk>(
     ensures exact { ServesExactly result (S.left input.old) (D.told disk.old) (W.held out.old)
         (W.held out.new) }
     // A file whose records are served again stays one, and isn't found damaged.
-    ensures servable { WhereTold StaysServable (D.told disk.old) (D.told disk.new) }
+    ensures servable { WhereExposed StaysServable (D.told disk.old) (D.told disk.new) }
     ensures undamaged { IsntDamaged result (D.told disk.old) (D.told disk.new) }
     // The faults of the outside come only where a count rose.
     ensures same { D.names disk.new ≡ D.names disk.old }
@@ -226,6 +226,6 @@ pub fn serve_journal<S: Source, W: Sink, D: Disk>(
     streams_are_read_once();
     frames_are_read_back();
     requests_may_be_asked();
-    fronts_are_accepted();
+    prefixes_are_accepted();
     serve_mounted(alloc, input, out, disk)
 }

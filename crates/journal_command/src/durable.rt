@@ -1,13 +1,13 @@
 //! A server whose changes are kept in a journal.
 
-ghost use Rattle.recording.specs.Recorded as records;
+ghost use Rattle.recording_laws.specs.Recorded as records;
 ghost use Rattle.std.specs.Prelude.{◌≡◌, ◌||◌, List, ℕ, None, false, map, option_to_list, IfOk, IfSome, OnOk};
 ghost use Rattle.journal_core.specs.Appends.{CountsAppended, IsMounted};
 ghost use Rattle.journal_core.specs.Records.{IsRecord};
-ghost use Rattle.recording.specs.Recorded.{nothing_held};
+ghost use Rattle.recording_laws.specs.Recorded.{nothing_held};
 ghost use Rattle.journal_command.specs.Durable.{AnswersBy, AppendsEntry, CountsAnswer, GoesOn, IsReadOf, IsServed, IsSound, IsStatementOf, PutsBy};
 ghost use Rattle.journal_command.specs.Keeping.{Asked, IsHolding, frames_of};
-ghost use Rattle.wire_spelling.specs.Packing.{packed};
+ghost use Rattle.wire_encoding.specs.Packing.{packed};
 ghost use Rattle.journal_command.specs.Stopping.{faults, outside};
 
 use crate::endings::Stop;

@@ -3,7 +3,7 @@
 
 ghost use Rattle.std.specs.Prelude.{◌≡◌, ◌<◌, ◌-◌, ℕ, List, [], length, map, IfOk, OnErr, OnOk};
 ghost use Rattle.serve_command.specs.Serving.{IsProper};
-ghost use Rattle.recording.specs.Recorded.{held_at, kept_of, kept_where, nothing_held, with_held};
+ghost use Rattle.recording_laws.specs.Recorded.{held_at, kept_of, kept_where, nothing_held, with_held};
 ghost use Rattle.journal_command.specs.Keeping.{Asked, HasRoom, HeldFrames, IsKept, frames_of, kept_frames, no_frames, with_frame};
 
 use ae_base::blobs::Blob;
@@ -12,9 +12,9 @@ use statement_analysis::sorts::Sort;
 use std::alloc::{AllocError, Global};
 use std::marker::Model;
 use std::mem;
+use wire_encoding::encode_request;
 use wire_messages::requests::Request;
 use wire_payloads::versioned::Versioned;
-use wire_spelling::encode_request;
 
 /// The frames that are held of a session, in a row.
 struct Held {

@@ -1,7 +1,7 @@
 //! What replies tell of a request.
 
 ghost use Rattle.std.specs.Prelude.{◌≡◌};
-ghost use Rattle.recording.specs.Recorded as spec;
+ghost use Rattle.recording_laws.specs.Recorded as spec;
 
 use wire_messages::replies::{Done, Reply};
 

@@ -3,7 +3,7 @@
 ghost use Rattle.std.specs.Prelude.{◌≡◌, ◌<◌, ◌≤◌, ◌^◌, IfSome};
 ghost use Rattle.journal_core.specs.Appends.{IsMounted};
 ghost use Rattle.journal_core.specs.Journals.{place_behind};
-ghost use Rattle.journal_command.specs.Restarts.{AnswersFront, CountsRestarted, Restarts, ServesAgain, ServesEntry};
+ghost use Rattle.journal_command.specs.Restarts.{AnswersPrefix, CountsRestarted, Restarts, ServesAgain, ServesEntry};
 
 use crate::replies::is_done;
 use ae_base::blobs::Blob;
@@ -26,7 +26,7 @@ enum Front {
 
 /// Serves the request at the front again; its replies are dropped.
 fn serve_front(alloc: Global, bytes: &[u8], server: &mut Server) -> Front
-    ensures { AnswersFront result bytes.now server.old server.new }
+    ensures { AnswersPrefix result bytes.now server.old server.new }
 {
     match decode_request(alloc, bytes) {
         Decoded::One(asked, used) => match server.serve(alloc, &asked.message) {

@@ -1,6 +1,6 @@
 -- What stands in the new file, by how the command ended.
 use Rattle.std.proofs.Common.{◌≡◌, ℕ, List, Option, ap, ◌∙◌}
-use Rattle.ae_edge.specs.Devices.{WhereTold}
+use Rattle.ae_edge.specs.Devices.{WhereExposed}
 use Rattle.ae_edge.proofs.Interface.{told_then}
 use Rattle.disk.specs.Crashes.{IsImage}
 use Rattle.disk.specs.Durable.{StaysKept}
@@ -24,7 +24,7 @@ compaction entries fewer state led leads = record {
 }
 
 -- the old file's records were read again
-read_still : (entries : List (List ℕ)) (a b c : Option Moments) → IsRead entries a b → WhereTold StaysKept b c → IsRead entries a c
+read_still : (entries : List (List ℕ)) (a b c : Option Moments) → IsRead entries a b → WhereExposed StaysKept b c → IsRead entries a c
 read_still entries =
     told_then (λ old new. IsImage old.now old.now.seen × ReadsAs (Records entries) old.now.seen) StaysKept
     (λ old new. IsImage old.now old.now.seen × ReadsAs (Records entries) old.now.seen) (λ x y z r s. r)
@@ -39,7 +39,7 @@ compacts_from ended.JournalFull entries state a b c d f w =
 compacts_from ended.Refused entries state a b c d f w = (record { entries = entries; state = state; found = f.1; led = f.0 }, w)
 compacts_from ended.OutOfMemory entries state a b c d f w = tt
 
-pub compacts : (result : Compacted) (state : State) (a b c new new_after : Option Moments) → (entries : List (List ℕ)) × LedTo entries state × IsRead entries a b → WhereTold StaysKept b c
+pub compacts : (result : Compacted) (state : State) (a b c new new_after : Option Moments) → (entries : List (List ℕ)) × LedTo entries state × IsRead entries a b → WhereExposed StaysKept b c
     → Writes result state new new_after → Compacts result a c new new_after
 compacts result state a b c new new_after f stays w = compacts_from result f.0 state a c new new_after (f.1, read_still f.0 a b c f.2 stays) w
 

@@ -1,7 +1,7 @@
 -- A journal that was found, by what came of its entries; and what stays when they are read once more.
 use Rattle.std.proofs.Common.{◌≡◌, ℕ, List, Option, Some, None, inl, refl, sym, subst, arith}
 use Rattle.std.specs.Prelude.{IfSome}
-use Rattle.ae_edge.specs.Devices.{WhereTold}
+use Rattle.ae_edge.specs.Devices.{WhereExposed}
 use Rattle.ae_edge.proofs.Interface.{told_map, told_then}
 use Rattle.disk.specs.Crashes.{Stand, IsImage, kept}
 use Rattle.disk.specs.Durable.{StaysKept}
@@ -29,17 +29,17 @@ Stays old new = Leaves (IsSomeImage old.now) old new
 
 -- ---- the disk was mounted, and its entries were served
 
-serves_stays : (result : Found) (journal : JournalState) (b c : Option Moments) → Serves result journal b c → WhereTold StaysKept b c
+serves_stays : (result : Found) (journal : JournalState) (b c : Option Moments) → Serves result journal b c → WhereExposed StaysKept b c
 serves_stays (found.Served held server) journal b c s = still_of (λ entries. entries ≡ entries_of s.1.records) journal.gate b c s.1.all
 serves_stays (found.Damaged place) journal b c s = still_of (λ entries. RefusesAt empty_state entries place) journal.gate b c s
 serves_stays found.DiskFault journal b c s = s
 serves_stays found.OutOfMemory journal b c s = s
 
-pub served_untouched : (result : Found) (journal : JournalState) (a b c : Option Moments) → WhereTold (Mounts (mounted.Ready journal)) a b → Serves result journal b c
-    → WhereTold (λ old new. Leaves (IsSomeImage old.now) old new) a c
+pub served_untouched : (result : Found) (journal : JournalState) (a b c : Option Moments) → WhereExposed (Mounts (mounted.Ready journal)) a b → Serves result journal b c
+    → WhereExposed (λ old new. Leaves (IsSomeImage old.now) old new) a c
 served_untouched result journal a b c w s = told_then (Mounts (mounted.Ready journal)) StaysKept Stays (still_moments journal) a b c w (serves_stays result journal b c s)
 
-pub found_so : (result : Found) (journal : JournalState) (a b c : Option Moments) → WhereTold (Mounts (mounted.Ready journal)) a b → Serves result journal b c → Finds result a c
+pub found_so : (result : Found) (journal : JournalState) (a b c : Option Moments) → WhereExposed (Mounts (mounted.Ready journal)) a b → Serves result journal b c → Finds result a c
 found_so (found.Served held server) journal a b c w s =
     let r = s.1 in (
       entries_of r.records,
@@ -56,20 +56,20 @@ found_so found.OutOfMemory journal a b c w s = tt
 
 -- ---- it was damaged
 
-pub damaged_untouched : (place : ℕ) (a b : Option Moments) → WhereTold (Mounts (mounted.Damaged place)) a b → WhereTold (λ old new. Leaves (IsSomeImage old.now) old new) a b
+pub damaged_untouched : (place : ℕ) (a b : Option Moments) → WhereExposed (Mounts (mounted.Damaged place)) a b → WhereExposed (λ old new. Leaves (IsSomeImage old.now) old new) a b
 damaged_untouched place a b m = told_map (Mounts (mounted.Damaged place)) Stays (λ old new x. x.0) a b m
 
-pub damaged_so : (place : ℕ) (a b : Option Moments) → WhereTold (Mounts (mounted.Damaged place)) a b → IsFoundBad place a b
+pub damaged_so : (place : ℕ) (a b : Option Moments) → WhereExposed (Mounts (mounted.Damaged place)) a b → IsFoundBad place a b
 damaged_so place a b m =
     told_map (Mounts (mounted.Damaged place)) (λ old new. IsImage old.now old.now.seen × IsBad place old new) (λ old new x. (x.2, inl (x.1, x.3))) a b m
 
 -- ---- its entries are read once more
 
-pub still_first : (gate : ℕ) (a : Option Moments) → IfSome a (IsMounted gate) → WhereTold StaysKept a a
+pub still_first : (gate : ℕ) (a : Option Moments) → IfSome a (IsMounted gate) → WhereExposed StaysKept a a
 still_first gate (Some a) m = stays_same a (mounted_kept gate a m)
 still_first gate None m = tt
 
-pub still_on : (found : Entry) (place gate : ℕ) (a b c : Option Moments) → WhereTold StaysKept a b → WhereTold (Continues found place gate) b c → WhereTold StaysKept a c
+pub still_on : (found : Entry) (place gate : ℕ) (a b c : Option Moments) → WhereExposed StaysKept a b → WhereExposed (Continues found place gate) b c → WhereExposed StaysKept a c
 still_on found place gate = told_then StaysKept (Continues found place gate) StaysKept (λ x y z p q. stays_then x y z p q.1)
 
 -- a crash leaves a file that is on the disk
@@ -82,8 +82,8 @@ untouched_on gate x y z l m s =
     let here : IsSomeImage x.now y.now.seen = leaves_last (IsSomeImage x.now) x y l y.now.seen image in
     leaves_then (IsSomeImage x.now) x y z l (leaves_weaker (λ file. file ≡ y.now.seen) (IsSomeImage x.now) y z (λ file e. subst (IsSomeImage x.now) (sym e) here) s.moments)
 
-pub still_untouched : (gate : ℕ) (a b c : Option Moments) → WhereTold (λ old new. Leaves (IsSomeImage old.now) old new) a b → IfSome b (IsMounted gate) → WhereTold StaysKept b c
-    → WhereTold (λ old new. Leaves (IsSomeImage old.now) old new) a c
+pub still_untouched : (gate : ℕ) (a b c : Option Moments) → WhereExposed (λ old new. Leaves (IsSomeImage old.now) old new) a b → IfSome b (IsMounted gate) → WhereExposed StaysKept b c
+    → WhereExposed (λ old new. Leaves (IsSomeImage old.now) old new) a c
 still_untouched gate (Some x) (Some y) (Some z) l m s = untouched_on gate x y z l m s
 still_untouched gate None None None l m s = tt
 still_untouched gate (Some x) None c l m s = absurd l

@@ -5,7 +5,7 @@ use Rattle.std.specs.List.{All}
 use Rattle.std.specs.Prelude.{IfSome}
 use Rattle.std.proofs.lemmas.List.{take_all, drop_all, drop_more, length-take, nil_from_length, take-append-drop, take_more}
 use Rattle.std.proofs.lemmas.List.Elements.{All-nil, All-cons, All-head, All-tail}
-use Rattle.ae_edge.specs.Devices.{WhereTold}
+use Rattle.ae_edge.specs.Devices.{WhereExposed}
 use Rattle.ae_edge.proofs.Interface.{told_map, told_same, told_then}
 use Rattle.disk.specs.Calls.{Cuts, Syncs, Writes, written}
 use Rattle.disk.specs.Crashes.{Stand, kept}
@@ -78,19 +78,19 @@ pub at_end : (at : ℕ) (a : Option Moments) → IfSome a (HasAt at) → IfSome 
 at_end at (Some disk) h = omega (arith, h)
 at_end at None h = tt
 
-pub put_so : (result : Stored) (at : ℕ) (bytes : List ℕ) (a b : Option Moments) → IfSome a (HasAt at) → WhereTold (Writes result at bytes) a b → WhereTold (PutsBehind result bytes) a b
+pub put_so : (result : Stored) (at : ℕ) (bytes : List ℕ) (a b : Option Moments) → IfSome a (HasAt at) → WhereExposed (Writes result at bytes) a b → WhereExposed (PutsBehind result bytes) a b
 put_so stored.Done at bytes a b h w =
     told_from (HasAt at) (Writes stored.Done at bytes) (PutsBehind stored.Done bytes) (λ x y k p. ap (λ (s : Stand). s.seen) p.here ∙ behind_end at x.now.seen bytes k) a b h w
 put_so stored.Failed at bytes a b h w = told_map (Writes stored.Failed at bytes) (PutsBehind stored.Failed bytes) (λ x y p. tt) a b w
 put_so stored.OutOfMemory at bytes a b h w = told_map (Writes stored.OutOfMemory at bytes) (PutsBehind stored.OutOfMemory bytes) (λ x y p. tt) a b w
 
 -- no memory: no call
-pub put_nothing : (bytes : List ℕ) (a : Option Moments) → WhereTold (PutsBehind stored.OutOfMemory bytes) a a
+pub put_nothing : (bytes : List ℕ) (a : Option Moments) → WhereExposed (PutsBehind stored.OutOfMemory bytes) a a
 put_nothing bytes a = told_same (PutsBehind stored.OutOfMemory bytes) (λ x. tt) a
 
 -- and then others
-pub put_then : (result : Stored) (front bytes : List ℕ) (a b c : Option Moments) → WhereTold (PutsBehind stored.Done front) a b → WhereTold (PutsBehind result bytes) b c
-    → WhereTold (PutsBehind result (front ++ bytes)) a c
+pub put_then : (result : Stored) (front bytes : List ℕ) (a b c : Option Moments) → WhereExposed (PutsBehind stored.Done front) a b → WhereExposed (PutsBehind result bytes) b c
+    → WhereExposed (PutsBehind result (front ++ bytes)) a c
 put_then stored.Done front bytes a b c =
     told_then (PutsBehind stored.Done front) (PutsBehind stored.Done bytes) (PutsBehind stored.Done (front ++ bytes))
     (λ x y z p q. q ∙ ap (λ (w : List ℕ). w ++ bytes) p ∙ append_assoc x.now.seen front bytes) a b c
@@ -99,32 +99,32 @@ put_then stored.OutOfMemory front bytes a b c =
     told_then (PutsBehind stored.Done front) (PutsBehind stored.OutOfMemory bytes) (PutsBehind stored.OutOfMemory (front ++ bytes)) (λ x y z p q. tt) a b c
 
 -- or the first ones weren't put
-pub put_failed : (front bytes : List ℕ) (a b : Option Moments) → WhereTold (PutsBehind stored.Failed front) a b → WhereTold (PutsBehind stored.Failed bytes) a b
+pub put_failed : (front bytes : List ℕ) (a b : Option Moments) → WhereExposed (PutsBehind stored.Failed front) a b → WhereExposed (PutsBehind stored.Failed bytes) a b
 put_failed front bytes a b p = told_map (PutsBehind stored.Failed front) (PutsBehind stored.Failed bytes) (λ x y q. tt) a b p
 
-pub put_unmade : (front bytes : List ℕ) (a b : Option Moments) → WhereTold (PutsBehind stored.OutOfMemory front) a b → WhereTold (PutsBehind stored.OutOfMemory bytes) a b
+pub put_unmade : (front bytes : List ℕ) (a b : Option Moments) → WhereExposed (PutsBehind stored.OutOfMemory front) a b → WhereExposed (PutsBehind stored.OutOfMemory bytes) a b
 put_unmade front bytes a b p = told_map (PutsBehind stored.OutOfMemory front) (PutsBehind stored.OutOfMemory bytes) (λ x y q. tt) a b p
 
 -- ---- records one after another
 
-pub none_put : (a : Option Moments) → WhereTold (PutsBehind stored.Done (opened [])) a a
+pub none_put : (a : Option Moments) → WhereExposed (PutsBehind stored.Done (opened [])) a a
 none_put a = told_same (PutsBehind stored.Done (opened [])) (λ x. sym (append-nil x.now.seen)) a
 
-pub one_more_put : (entries : List (List ℕ)) (entry : List ℕ) (a b c : Option Moments) → WhereTold (PutsBehind stored.Done (opened entries)) a b
-    → WhereTold (PutsBehind stored.Done (1 ∷ framed entry)) b c → WhereTold (PutsBehind stored.Done (opened (entries ++ entry ∷ []))) a c
+pub one_more_put : (entries : List (List ℕ)) (entry : List ℕ) (a b c : Option Moments) → WhereExposed (PutsBehind stored.Done (opened entries)) a b
+    → WhereExposed (PutsBehind stored.Done (1 ∷ framed entry)) b c → WhereExposed (PutsBehind stored.Done (opened (entries ++ entry ∷ []))) a c
 one_more_put entries entry a b c p q =
     told_map (PutsBehind stored.Done (opened entries ++ (1 ∷ framed entry))) (PutsBehind stored.Done (opened (entries ++ entry ∷ [])))
     (λ x y e. e ∙ ap (λ (w : List ℕ). x.now.seen ++ w) (sym (opened_more entries entry))) a c (put_then stored.Done (opened entries) (1 ∷ framed entry) a b c p q)
 
 -- the file ends behind them
-pub ends_at : (at : ℕ) (entries : List (List ℕ)) (a b : Option Moments) → at ≡ place_behind entries → IfSome a (HasAt 0) → WhereTold (PutsBehind stored.Done (opened entries)) a b → IfSome b (HasAt at)
+pub ends_at : (at : ℕ) (entries : List (List ℕ)) (a b : Option Moments) → at ≡ place_behind entries → IfSome a (HasAt 0) → WhereExposed (PutsBehind stored.Done (opened entries)) a b → IfSome b (HasAt at)
 ends_at at entries a b e h p =
     told_after (HasAt 0) (PutsBehind stored.Done (opened entries)) (HasAt at)
     (λ x y k q. omega (arith, k, e, ap length q, length-append x.now.seen (opened entries), length_opened entries)) a b h p
 
 -- ---- the whole file
 
-pub emptied : (a b : Option Moments) → WhereTold (Cuts stored.Done 0) a b → IfSome b (HasAt 0)
+pub emptied : (a b : Option Moments) → WhereExposed (Cuts stored.Done 0) a b → IfSome b (HasAt 0)
 emptied (Some x) (Some y) p = omega (arith, ap (λ (s : Stand). length s.seen) p.here, length-take 0 x.now.seen)
 emptied None None p = tt
 emptied (Some x) None p = absurd p
@@ -133,13 +133,13 @@ emptied None (Some y) p = absurd p
 abbrev IsAll : List (List ℕ) → Moments → Moments → Type 0
 IsAll entries old new = new.now.seen ≡ journal_of entries
 
-all_put : (entries : List (List ℕ)) (a b : Option Moments) → IfSome a (HasAt 0) → WhereTold (PutsBehind stored.Done (opened entries ++ 0 ∷ [])) a b → WhereTold (IsAll entries) a b
+all_put : (entries : List (List ℕ)) (a b : Option Moments) → IfSome a (HasAt 0) → WhereExposed (PutsBehind stored.Done (opened entries ++ 0 ∷ [])) a b → WhereExposed (IsAll entries) a b
 all_put entries a b h p =
     told_from (HasAt 0) (PutsBehind stored.Done (opened entries ++ 0 ∷ [])) (IsAll entries)
     (λ x y k q. q ∙ ap (λ (w : List ℕ). w ++ (opened entries ++ 0 ∷ [])) (nil_from_length x.now.seen k) ∙ sym (journal_is entries)) a b h p
 
 pub journal_put : JournalsAreReadBack → (result : Stored) (entries : List (List ℕ)) (a b c : Option Moments) → All IsEntry entries → IfSome a (HasAt 0)
-    → WhereTold (PutsBehind stored.Done (opened entries ++ 0 ∷ [])) a b → WhereTold (Syncs result) b c → WhereTold (WritesJournal result entries) a c
+    → WhereExposed (PutsBehind stored.Done (opened entries ++ 0 ∷ [])) a b → WhereExposed (Syncs result) b c → WhereExposed (WritesJournal result entries) a c
 journal_put law stored.Done entries a b c all h p s =
     told_then (IsAll entries) (Syncs stored.Done) (WritesJournal stored.Done entries)
     (λ x y z e t.
@@ -152,21 +152,21 @@ journal_put law stored.OutOfMemory entries a b c all h p s =
     told_then (IsAll entries) (Syncs stored.OutOfMemory) (WritesJournal stored.OutOfMemory entries) (λ x y z e t. tt) a b c (all_put entries a b h p) s
 
 -- what was there before is cut off
-pub cut_then : (result : Stored) (entries : List (List ℕ)) (a b c : Option Moments) → WhereTold (Cuts stored.Done 0) a b
-    → WhereTold (WritesJournal result entries) b c → WhereTold (WritesJournal result entries) a c
+pub cut_then : (result : Stored) (entries : List (List ℕ)) (a b c : Option Moments) → WhereExposed (Cuts stored.Done 0) a b
+    → WhereExposed (WritesJournal result entries) b c → WhereExposed (WritesJournal result entries) a c
 cut_then stored.Done entries a b c = told_then (Cuts stored.Done 0) (WritesJournal stored.Done entries) (WritesJournal stored.Done entries) (λ x y z p q. q) a b c
 cut_then stored.Failed entries a b c = told_then (Cuts stored.Done 0) (WritesJournal stored.Failed entries) (WritesJournal stored.Failed entries) (λ x y z p q. tt) a b c
 cut_then stored.OutOfMemory entries a b c = told_then (Cuts stored.Done 0) (WritesJournal stored.OutOfMemory entries) (WritesJournal stored.OutOfMemory entries) (λ x y z p q. tt) a b c
 
 -- or a call before the sync failed, or had no memory
-pub cut_failed : (entries : List (List ℕ)) (a b : Option Moments) → WhereTold (Cuts stored.Failed 0) a b → WhereTold (WritesJournal stored.Failed entries) a b
+pub cut_failed : (entries : List (List ℕ)) (a b : Option Moments) → WhereExposed (Cuts stored.Failed 0) a b → WhereExposed (WritesJournal stored.Failed entries) a b
 cut_failed entries a b p = told_map (Cuts stored.Failed 0) (WritesJournal stored.Failed entries) (λ x y q. tt) a b p
 
-pub cut_unmade : (entries : List (List ℕ)) (a b : Option Moments) → WhereTold (Cuts stored.OutOfMemory 0) a b → WhereTold (WritesJournal stored.OutOfMemory entries) a b
+pub cut_unmade : (entries : List (List ℕ)) (a b : Option Moments) → WhereExposed (Cuts stored.OutOfMemory 0) a b → WhereExposed (WritesJournal stored.OutOfMemory entries) a b
 cut_unmade entries a b p = told_map (Cuts stored.OutOfMemory 0) (WritesJournal stored.OutOfMemory entries) (λ x y q. tt) a b p
 
-pub unput : (entries : List (List ℕ)) (bytes : List ℕ) (a b : Option Moments) → WhereTold (PutsBehind stored.Failed bytes) a b → WhereTold (WritesJournal stored.Failed entries) a b
+pub unput : (entries : List (List ℕ)) (bytes : List ℕ) (a b : Option Moments) → WhereExposed (PutsBehind stored.Failed bytes) a b → WhereExposed (WritesJournal stored.Failed entries) a b
 unput entries bytes a b p = told_map (PutsBehind stored.Failed bytes) (WritesJournal stored.Failed entries) (λ x y q. tt) a b p
 
-pub unmade : (entries : List (List ℕ)) (bytes : List ℕ) (a b : Option Moments) → WhereTold (PutsBehind stored.OutOfMemory bytes) a b → WhereTold (WritesJournal stored.OutOfMemory entries) a b
+pub unmade : (entries : List (List ℕ)) (bytes : List ℕ) (a b : Option Moments) → WhereExposed (PutsBehind stored.OutOfMemory bytes) a b → WhereExposed (WritesJournal stored.OutOfMemory entries) a b
 unmade entries bytes a b p = told_map (PutsBehind stored.OutOfMemory bytes) (WritesJournal stored.OutOfMemory entries) (λ x y q. tt) a b p

@@ -5,7 +5,7 @@ use Rattle.std.proofs.lemmas.List.Elements.{All-head, All-tail}
 use Rattle.serve_command.specs.Serving.{IsProper}
 use Rattle.server_core.specs.Serve.{State, empty_state}
 use Rattle.wire_frames.specs.Laws.{HasOneReading}
-use Rattle.wire_spelling.specs.Spelling.{SpellsRequest}
+use Rattle.wire_encoding.specs.Spelling.{SpellsRequest}
 use Rattle.journal_command.specs.Keeping.{Asked, entries_of, frames_in}
 use Rattle.journal_command.specs.Restarts.{AreServedRecords, RefusesAt, state_behind}
 use Rattle.journal_command.proofs.Interface.{refused_not, same_requests}

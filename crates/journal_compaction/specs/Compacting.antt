@@ -1,6 +1,6 @@
 -- The command `compact`: what stands in the new file, by how it ended.
 use Rattle.std.specs.Prelude.{◌≡◌, ◌<◌, ◌+◌, ℕ, List, length, Option, Result, Ok, Err}
-use Rattle.ae_edge.specs.Devices.{Rose, WhereTold}
+use Rattle.ae_edge.specs.Devices.{Rose, WhereExposed}
 use Rattle.disk.specs.Moments.{Moments}
 use Rattle.journal_core.specs.Appends.{most_bytes}
 use Rattle.journal_core.specs.Journals.{place_behind}
@@ -22,7 +22,7 @@ pub record IsCompacted (disk disk_after new new_after : Option Moments) : Type 0
   pub fewer : List (List ℕ)
   pub found : IsRead entries disk disk_after
   pub compaction : IsCompaction entries fewer
-  pub there : WhereTold (λ old now. HasJournal fewer now) new new_after
+  pub there : WhereExposed (λ old now. HasJournal fewer now) new new_after
 
 -- the old file stood for entries, of which a compaction was tried
 pub record IsTried (disk disk_after : Option Moments) : Type 0 where
@@ -57,7 +57,7 @@ Compacts ended.OutOfMemory disk disk_after new new_after = Unit {0}
 
 -- what is written in place of them
 abbrev pub Writes : Compacted → State → Option Moments → Option Moments → Type 0
-Writes ended.Done state new new_after = (fewer : List (List ℕ)) × LeadsTo fewer state × WhereTold (λ old now. HasJournal fewer now) new new_after
+Writes ended.Done state new new_after = (fewer : List (List ℕ)) × LeadsTo fewer state × WhereExposed (λ old now. HasJournal fewer now) new new_after
 Writes (ended.Damaged place) state new new_after = ⊥
 Writes ended.DiskFault state new new_after = new_after ≡ new
 Writes ended.NewDiskFault state new new_after = (fewer : List (List ℕ)) × LeadsTo fewer state

@@ -1,6 +1,6 @@
 -- A journal is found on a disk, and served again.
 use Rattle.std.specs.Prelude.{◌≡◌, ◌⊎◌, ℕ, List, Option, IfSome}
-use Rattle.ae_edge.specs.Devices.{Rose, WhereTold}
+use Rattle.ae_edge.specs.Devices.{Rose, WhereExposed}
 use Rattle.disk.specs.Crashes.{IsImage}
 use Rattle.disk.specs.Durable.{StaysKept}
 use Rattle.disk.specs.Moments.{Moments}
@@ -22,11 +22,11 @@ pub record LedTo (entries : List (List ℕ)) (state : State) : Type 0 where
 
 -- what reads gave was one of the images that a crash could leave, and stood for these entries
 abbrev pub IsRead : List (List ℕ) → Option Moments → Option Moments → Type 0
-IsRead entries = WhereTold (λ old new. IsImage old.now old.now.seen × ReadsAs (Records entries) old.now.seen)
+IsRead entries = WhereExposed (λ old new. IsImage old.now old.now.seen × ReadsAs (Records entries) old.now.seen)
 
 -- it was damaged, or has a record that isn't served again
 abbrev pub IsFoundBad : ℕ → Option Moments → Option Moments → Type 0
-IsFoundBad place = WhereTold (λ old new. IsImage old.now old.now.seen × IsBad place old new)
+IsFoundBad place = WhereExposed (λ old new. IsImage old.now old.now.seen × IsBad place old new)
 
 abbrev pub Finds : Found → Option Moments → Option Moments → Type 0
 Finds (found.Served journal server) old new = (entries : List (List ℕ)) × LedTo entries server × IsRead entries old new
@@ -45,8 +45,8 @@ IsReadable found.OutOfMemory disk = Unit {0}
 abbrev pub Serves : Found → JournalState → Option Moments → Option Moments → Type 0
 Serves (found.Served held server) journal old new = (held ≡ journal) × AreRestarted journal.gate empty_state server old new
 Serves (found.Damaged place) journal old new = OfEntries (λ entries. RefusesAt empty_state entries place) journal.gate old new
-Serves found.DiskFault journal old new = WhereTold StaysKept old new
-Serves found.OutOfMemory journal old new = WhereTold StaysKept old new
+Serves found.DiskFault journal old new = WhereExposed StaysKept old new
+Serves found.OutOfMemory journal old new = WhereExposed StaysKept old new
 
 -- the count of faults stays, but where a call failed
 abbrev pub CountsFound : Found → ℕ → ℕ → Type 0

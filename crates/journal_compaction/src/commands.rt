@@ -2,7 +2,7 @@
 
 ghost use Rattle.std.specs.Prelude.{◌≡◌, ◌<◌, ◌^◌, IfOk, IfSome, IsTrue};
 ghost use Rattle.std.specs.List.{All};
-ghost use Rattle.ae_edge.specs.Devices.{WhereTold};
+ghost use Rattle.ae_edge.specs.Devices.{WhereExposed};
 ghost use Rattle.disk.specs.Durable.{StaysKept};
 ghost use Rattle.disk.specs.Moments.{Leaves};
 ghost use Rattle.journal_core.specs.Appends.{IsMounted};
@@ -117,7 +117,7 @@ fn replace<D: Disk, E: Disk>(
 ) -> Compacted
     requires mounted { IfSome (D.told disk.old) (IsMounted journal.now.gate) }
     ensures writes { Writes result server.now (E.told new.old) (E.told new.new) }
-    ensures stays { WhereTold StaysKept (D.told disk.old) (D.told disk.new) }
+    ensures stays { WhereExposed StaysKept (D.told disk.old) (D.told disk.new) }
     ensures same { D.names disk.new ≡ D.names disk.old }
     ensures same_new { E.names new.new ≡ E.names new.old }
     ensures counts { CountsCompacted result (D.faults disk.old) (D.faults disk.new)
@@ -141,7 +141,7 @@ pub fn compact<D: Disk, E: Disk>(alloc: Global, disk: &mut D, new: &mut E) -> Co
         (E.told new.old) (E.told new.new) }
     // However it ends, and at each moment, a crash leaves the records of an image of the old file
     // that the disk had at the start.
-    ensures untouched { WhereTold (λ old new. Leaves (IsSomeImage old.now) old new)
+    ensures untouched { WhereExposed (λ old new. Leaves (IsSomeImage old.now) old new)
         (D.told disk.old) (D.told disk.new) }
     // The faults of the disks come only where a count rose.
     ensures same { D.names disk.new ≡ D.names disk.old }

@@ -1,7 +1,7 @@
 //! The definitions among the requests of records.
 
 ghost use Rattle.std.specs.Prelude.{◌≡◌, IfSome};
-ghost use Rattle.ae_edge.specs.Devices.{WhereTold};
+ghost use Rattle.ae_edge.specs.Devices.{WhereExposed};
 ghost use Rattle.disk.specs.Durable.{StaysKept};
 ghost use Rattle.journal_core.specs.Appends.{IsMounted};
 ghost use Rattle.journal_compaction.specs.Compacting.{CountsMade};
@@ -72,7 +72,7 @@ pub(crate) fn push_definitions<D: Disk>(
     records: &mut Seq<Blob>,
 ) -> Result<(), Unmade>
     requires mounted { IfSome (D.told disk.old) (IsMounted journal.now.gate) }
-    ensures stays { WhereTold StaysKept (D.told disk.old) (D.told disk.new) }
+    ensures stays { WhereExposed StaysKept (D.told disk.old) (D.told disk.new) }
     ensures same { D.names disk.new ≡ D.names disk.old }
     ensures counts { CountsMade result (D.faults disk.old) (D.faults disk.new) }
 {

@@ -1,7 +1,7 @@
 //! A journal is found on a disk, and served again.
 
 ghost use Rattle.std.specs.Prelude.{◌≡◌, ◌≤◌, IfSome};
-ghost use Rattle.ae_edge.specs.Devices.{WhereTold};
+ghost use Rattle.ae_edge.specs.Devices.{WhereExposed};
 ghost use Rattle.disk.specs.Moments.{Leaves};
 ghost use Rattle.journal_core.specs.Appends.{IsMounted};
 ghost use Rattle.journal_core.specs.Mounts.{IsSomeImage};
@@ -47,7 +47,7 @@ fn serve_found<D: Disk>(alloc: Global, disk: &mut D, journal: Journal) -> Found
 pub(crate) fn find<D: Disk>(alloc: Global, disk: &mut D) -> Found
     ensures content { Finds result (D.told disk.old) (D.told disk.new) }
     ensures readable { IsReadable result (D.told disk.new) }
-    ensures untouched { WhereTold (λ old new. Leaves (IsSomeImage old.now) old new)
+    ensures untouched { WhereExposed (λ old new. Leaves (IsSomeImage old.now) old new)
         (D.told disk.old) (D.told disk.new) }
     ensures same { D.names disk.new ≡ D.names disk.old }
     ensures counts { CountsFound result (D.faults disk.old) (D.faults disk.new) }

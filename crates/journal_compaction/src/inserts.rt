@@ -13,12 +13,12 @@ use ae_base::tables::{ColumnDef, TableDef};
 use ae_base::texts::Txt;
 use ae_base::values::Datum;
 use std::alloc::Global;
+use wire_encoding::encode_request;
 use wire_messages::params::{SentParam, SentParams};
 use wire_messages::requests::Request;
 use wire_parts::atoms::AtomPart;
 use wire_parts::parts::{BlobPart, CellPart, TxtPart};
 use wire_parts::texts::{ParamNamePart, StatementPart};
-use wire_spelling::encode_request;
 
 /// What is sent for an atom, borrowed, where it is short enough to be sent.
 fn lent_atom(atom: &Atom<Cell>) -> Option<AtomPart<'_>> {

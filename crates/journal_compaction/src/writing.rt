@@ -2,7 +2,7 @@
 
 ghost use Rattle.std.specs.Prelude.{◌≡◌, ◌<◌, ◌≤◌, ◌+◌, ◌^◌, ◌++◌, ◌∷◌, [], IfOk, IfSome, MatchOption, length};
 ghost use Rattle.std.specs.List.{All};
-ghost use Rattle.ae_edge.specs.Devices.{WhereTold};
+ghost use Rattle.ae_edge.specs.Devices.{WhereExposed};
 ghost use Rattle.disk.specs.Calls.{CountsStored};
 ghost use Rattle.journal_core.specs.Appends.{most_bytes};
 ghost use Rattle.journal_core.specs.Journals.{framed, place_behind};
@@ -51,7 +51,7 @@ fn opened_record(alloc: Global, entry: &[u8]) -> Result<Vec<u8>, AllocError>
 fn put_behind<E: Disk>(disk: &mut E, at: u64, bytes: &[u8]) -> Stored
     requires end { IfSome (E.told disk.old) (HasAt at) }
     requires room { at + length bytes.now < 2 ^ 64 }
-    ensures content { WhereTold (PutsBehind result bytes.now) (E.told disk.old) (E.told disk.new) }
+    ensures content { WhereExposed (PutsBehind result bytes.now) (E.told disk.old) (E.told disk.new) }
     ensures same { E.names disk.new ≡ E.names disk.old }
     ensures counts { CountsStored result (E.faults disk.old) (E.faults disk.new) }
 {
@@ -62,7 +62,7 @@ fn put_behind<E: Disk>(disk: &mut E, at: u64, bytes: &[u8]) -> Stored
 fn put_record<E: Disk>(alloc: Global, disk: &mut E, at: u64, entry: &[u8]) -> Stored
     requires end { IfSome (E.told disk.old) (HasAt at) }
     requires room { at + 10 + length entry.now < 2 ^ 64 }
-    ensures content { WhereTold (PutsBehind result (1 ∷ framed entry.now))
+    ensures content { WhereExposed (PutsBehind result (1 ∷ framed entry.now))
         (E.told disk.old) (E.told disk.new) }
     ensures same { E.names disk.new ≡ E.names disk.old }
     ensures counts { CountsStored result (E.faults disk.old) (E.faults disk.new) }
@@ -77,7 +77,7 @@ fn put_record<E: Disk>(alloc: Global, disk: &mut E, at: u64, entry: &[u8]) -> St
 fn put_records<E: Disk>(alloc: Global, disk: &mut E, records: &[Blob]) -> Stored
     requires empty { IfSome (E.told disk.old) (HasAt 0) }
     requires room { place_behind records.now + 1 ≤ most_bytes }
-    ensures content { WhereTold (PutsBehind result (opened records.now))
+    ensures content { WhereExposed (PutsBehind result (opened records.now))
         (E.told disk.old) (E.told disk.new) }
     ensures same { E.names disk.new ≡ E.names disk.old }
     ensures counts { CountsStored result (E.faults disk.old) (E.faults disk.new) }
@@ -98,7 +98,7 @@ fn put_journal<E: Disk>(alloc: Global, disk: &mut E, records: &[Blob], gate: u64
     requires empty { IfSome (E.told disk.old) (HasAt 0) }
     requires gate { gate ≡ place_behind records.now }
     requires room { gate + 1 ≤ most_bytes }
-    ensures content { WhereTold (PutsBehind result (opened records.now ++ 0 ∷ []))
+    ensures content { WhereExposed (PutsBehind result (opened records.now ++ 0 ∷ []))
         (E.told disk.old) (E.told disk.new) }
     ensures same { E.names disk.new ≡ E.names disk.old }
     ensures counts { CountsStored result (E.faults disk.old) (E.faults disk.new) }
@@ -116,7 +116,7 @@ fn write_empty<E: Disk>(alloc: Global, disk: &mut E, records: &[Blob], gate: u64
     requires empty { IfSome (E.told disk.old) (HasAt 0) }
     requires gate { gate ≡ place_behind records.now }
     requires room { gate + 1 ≤ most_bytes }
-    ensures content { WhereTold (WritesJournal result records.now)
+    ensures content { WhereExposed (WritesJournal result records.now)
         (E.told disk.old) (E.told disk.new) }
     ensures same { E.names disk.new ≡ E.names disk.old }
     ensures counts { CountsStored result (E.faults disk.old) (E.faults disk.new) }
@@ -139,7 +139,7 @@ pub(crate) fn write_journal<E: Disk>(
     requires records { All IsRecord records.now }
     requires gate { gate ≡ place_behind records.now }
     requires room { gate + 1 ≤ most_bytes }
-    ensures content { WhereTold (WritesJournal result records.now)
+    ensures content { WhereExposed (WritesJournal result records.now)
         (E.told disk.old) (E.told disk.new) }
     ensures same { E.names disk.new ≡ E.names disk.old }
     ensures counts { CountsStored result (E.faults disk.old) (E.faults disk.new) }

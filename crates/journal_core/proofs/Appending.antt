@@ -2,7 +2,7 @@
 use Rattle.std.proofs.Common.{◌≡◌, inl, ℕ, ◌+◌, ◌≤◌, List, [], ◌∷◌, ◌++◌, length, Option, Some, None, sym, ap, ◌∙◌, subst, arith, length-append, take}
 use Rattle.std.specs.Prelude.{IfSome}
 use Rattle.std.proofs.lemmas.List.{take_at}
-use Rattle.ae_edge.specs.Devices.{WhereTold}
+use Rattle.ae_edge.specs.Devices.{WhereExposed}
 use Rattle.disk.specs.Calls.{written}
 use Rattle.disk.specs.Crashes.{Range, Stand, IsImage, kept}
 use Rattle.disk.specs.Moments.{Moments, LeavesNow, Leaves}
@@ -106,15 +106,15 @@ module _ (gate : ℕ) (entry : List ℕ) (is : IsEntry entry) where
   entry_written stored.OutOfMemory a b c m w v = λ entries e. both gate entry is entries a b c e w v
 
   pub entry_stopped_told : (a b : Option Moments) → IfSome a (IsMounted gate)
-      → WhereTold (WritesThrough stored.Failed (gate + 1) (framed entry ++ 0 ∷ [])) a b → WhereTold (WritesEntry stored.Failed gate entry) a b
+      → WhereExposed (WritesThrough stored.Failed (gate + 1) (framed entry ++ 0 ∷ [])) a b → WhereExposed (WritesEntry stored.Failed gate entry) a b
   entry_stopped_told = told_from (IsMounted gate) (WritesThrough stored.Failed (gate + 1) (framed entry ++ 0 ∷ [])) (WritesEntry stored.Failed gate entry) entry_stopped
 
   pub entry_unwritten_told : (a b : Option Moments) → IfSome a (IsMounted gate)
-      → WhereTold (WritesThrough stored.OutOfMemory (gate + 1) (framed entry ++ 0 ∷ [])) a b → WhereTold (WritesEntry stored.OutOfMemory gate entry) a b
+      → WhereExposed (WritesThrough stored.OutOfMemory (gate + 1) (framed entry ++ 0 ∷ [])) a b → WhereExposed (WritesEntry stored.OutOfMemory gate entry) a b
   entry_unwritten_told = told_from (IsMounted gate) (WritesThrough stored.OutOfMemory (gate + 1) (framed entry ++ 0 ∷ [])) (WritesEntry stored.OutOfMemory gate entry) entry_unwritten
 
   pub entry_written_told : (result : Stored) (a b c : Option Moments) → IfSome a (IsMounted gate)
-      → WhereTold (WritesThrough stored.Done (gate + 1) (framed entry ++ 0 ∷ [])) a b → WhereTold (WritesThrough result gate (1 ∷ [])) b c → WhereTold (WritesEntry result gate entry) a c
+      → WhereExposed (WritesThrough stored.Done (gate + 1) (framed entry ++ 0 ∷ [])) a b → WhereExposed (WritesThrough result gate (1 ∷ [])) b c → WhereExposed (WritesEntry result gate entry) a c
   entry_written_told result = told_from_then (IsMounted gate) (WritesThrough stored.Done (gate + 1) (framed entry ++ 0 ∷ []))
       (WritesThrough result gate (1 ∷ [])) (WritesEntry result gate entry) (entry_written result)
 
@@ -125,7 +125,7 @@ added_mounted gate entry a b m w =
     (m.0 ++ entry ∷ [], subst (λ (n : ℕ). EndsAt n (m.0 ++ entry ∷ []) b) next (w m.0 m.1).ends)
 
 pub added_mounted_told : (gate : ℕ) (entry : List ℕ) (a b : Option Moments) → IfSome a (IsMounted gate)
-    → WhereTold (WritesEntry stored.Done gate entry) a b → IfSome b (IsMounted (gate + (9 + length entry)))
+    → WhereExposed (WritesEntry stored.Done gate entry) a b → IfSome b (IsMounted (gate + (9 + length entry)))
 added_mounted_told gate entry = told_after (IsMounted gate) (WritesEntry stored.Done gate entry) (IsMounted (gate + (9 + length entry))) (added_mounted gate entry)
 
 -- ---- before the calls
@@ -143,11 +143,11 @@ staged_inside gate entry a b is m w =
     (now ∙ ap (λ (s : Stand). kept s.seen) (sym now), omega (arith, e.gate_is, ap (λ (s : Stand). length s.seen) now, length-append e.front (0 ∷ (framed entry ++ 0 ∷ []))))
 
 pub staged_kept_told : (gate : ℕ) (entry : List ℕ) (is : IsEntry entry) (a b : Option Moments) → IfSome a (IsMounted gate)
-    → WhereTold (WritesThrough stored.Done (gate + 1) (framed entry ++ 0 ∷ [])) a b → IfSome b IsKept
+    → WhereExposed (WritesThrough stored.Done (gate + 1) (framed entry ++ 0 ∷ [])) a b → IfSome b IsKept
 staged_kept_told gate entry is = told_after (IsMounted gate) (WritesThrough stored.Done (gate + 1) (framed entry ++ 0 ∷ [])) IsKept (λ a b m w. (staged_inside gate entry a b is m w).0)
 
 pub staged_inside_told : (gate : ℕ) (entry : List ℕ) (is : IsEntry entry) (a b : Option Moments)
-    → IfSome a (IsMounted gate) → WhereTold (WritesThrough stored.Done (gate + 1) (framed entry ++ 0 ∷ [])) a b → IfSome b (λ d. gate ≤ length d.now.seen)
+    → IfSome a (IsMounted gate) → WhereExposed (WritesThrough stored.Done (gate + 1) (framed entry ++ 0 ∷ [])) a b → IfSome b (λ d. gate ≤ length d.now.seen)
 staged_inside_told gate entry is = told_after (IsMounted gate) (WritesThrough stored.Done (gate + 1) (framed entry ++ 0 ∷ []))
     (λ d. gate ≤ length d.now.seen) (λ a b m w. (staged_inside gate entry a b is m w).1)
 
@@ -157,6 +157,6 @@ mounted_kept_told gate = if_some_then (IsMounted gate) IsKept (mounted_kept gate
 pub mounted_inside_told : (gate : ℕ) (a : Option Moments) → IfSome a (IsMounted gate) → IfSome a (λ d. gate + 1 ≤ length d.now.seen)
 mounted_inside_told gate = if_some_then (IsMounted gate) (λ d. gate + 1 ≤ length d.now.seen) (mounted_inside gate)
 
-pub unwritten_told : (at : ℕ) (bytes : List ℕ) (a : Option Moments) → IfSome a IsKept → WhereTold (WritesThrough stored.OutOfMemory at bytes) a a
+pub unwritten_told : (at : ℕ) (bytes : List ℕ) (a : Option Moments) → IfSome a IsKept → WhereExposed (WritesThrough stored.OutOfMemory at bytes) a a
 unwritten_told at bytes (Some a) k = unwritten at bytes a k
 unwritten_told at bytes None k = tt

@@ -2,7 +2,7 @@
 use Rattle.std.proofs.Common.{◌≡◌, inl, inr, ℕ, ◌-◌, ◌≤◌, ◌<◌, List, [], ◌∷◌, ◌++◌, length, take, Option, refl, sym, ap, ◌∙◌, subst, arith, length-append}
 use Rattle.std.specs.Prelude.{IfSome}
 use Rattle.std.proofs.lemmas.List.{take_all}
-use Rattle.ae_edge.specs.Devices.{WhereTold}
+use Rattle.ae_edge.specs.Devices.{WhereExposed}
 use Rattle.ae_edge.proofs.Interface.{told_map, told_then}
 use Rattle.disk.specs.Calls.{Syncs}
 use Rattle.disk.specs.Crashes.{Stand, kept}
@@ -88,7 +88,7 @@ stays_settled found a b c s w = read_settled found a b c s (subst (λ (x : Stand
 stays_alike : (a b : Moments) → StaysKept a b → Leaves (ReadsAlike a.now.seen) a b
 stays_alike a b s = leaves_weaker (λ image. image ≡ a.now.seen) (ReadsAlike a.now.seen) a b (λ image e. subst (ReadsAlike a.now.seen) (sym e) (alike_same a.now.seen)) s.moments
 
-pub stays_alike_told : (a b : Option Moments) → WhereTold StaysKept a b → WhereTold (λ x y. Leaves (ReadsAlike x.now.seen) x y) a b
+pub stays_alike_told : (a b : Option Moments) → WhereExposed StaysKept a b → WhereExposed (λ x y. Leaves (ReadsAlike x.now.seen) x y) a b
 stays_alike_told = told_map StaysKept (λ x y. Leaves (ReadsAlike x.now.seen) x y) stays_alike
 
 -- ---- a file of at most one byte
@@ -105,10 +105,10 @@ short_settled result file a b c k r w =
     (settled_by result 0 a.now.seen [] (short_parsed a.now.seen k.short) b c (subst (λ (f : List ℕ). Repairs result 0 f b c) (short_file file a b k r) w))
 
 pub short_settled_told : (result : Stored) (file : List ℕ) (a b c : Option Moments) → IfSome a IsShort
-    → WhereTold (ReadsPart (given.Bytes file) 0 1) a b → WhereTold (Repairs result 0 file) b c → WhereTold (SettlesFile (mended_by result 0)) a c
+    → WhereExposed (ReadsPart (given.Bytes file) 0 1) a b → WhereExposed (Repairs result 0 file) b c → WhereExposed (SettlesFile (mended_by result 0)) a c
 short_settled_told result file = told_from_then IsShort (ReadsPart (given.Bytes file) 0 1) (Repairs result 0 file) (SettlesFile (mended_by result 0)) (short_settled result file)
 
-pub short_kept_told : (file : List ℕ) (a b : Option Moments) → IfSome a IsShort → WhereTold (ReadsPart (given.Bytes file) 0 1) a b → IfSome b (λ d. d.now ≡ kept file)
+pub short_kept_told : (file : List ℕ) (a b : Option Moments) → IfSome a IsShort → WhereExposed (ReadsPart (given.Bytes file) 0 1) a b → IfSome b (λ d. d.now ≡ kept file)
 short_kept_told file =
     told_after IsShort (ReadsPart (given.Bytes file) 0 1) (λ d. d.now ≡ kept file) (λ a b k r. r.1.now ∙ k.kept ∙ ap kept (sym (short_file file a b k r)))
 
@@ -119,20 +119,20 @@ whole_settled gate result a b c s w =
     read_settled (mended_by result gate) a b c s.1
     (settled_by result gate a.now.seen s.0.0 s.0.1 b c (subst (λ (x : Stand). Repairs result gate x.seen b c) s.1.now w))
 
-pub whole_settled_told : (gate : ℕ) (result : Stored) (a b c : Option Moments) → WhereTold (Scans (scanned.Whole gate)) a b
-    → WhereTold (RepairsSeen result gate) b c → WhereTold (SettlesFile (mended_by result gate)) a c
+pub whole_settled_told : (gate : ℕ) (result : Stored) (a b c : Option Moments) → WhereExposed (Scans (scanned.Whole gate)) a b
+    → WhereExposed (RepairsSeen result gate) b c → WhereExposed (SettlesFile (mended_by result gate)) a c
 whole_settled_told gate result = told_then (Scans (scanned.Whole gate)) (RepairsSeen result gate) (SettlesFile (mended_by result gate)) (whole_settled gate result)
 
 damaged : (last place : ℕ) (a b : Moments) → IsKeptTo last a → Scans (scanned.Broken place) a b → SettlesFile (mounted.Damaged place) a b
 damaged last place a b k s = (stays_alike a b s.1, s.0, record { calls = s.1.calls; now = s.1.now ∙ k.kept })
 
-pub damaged_told : (last place : ℕ) (a b : Option Moments) → IfSome a (IsKeptTo last) → WhereTold (Scans (scanned.Broken place)) a b → WhereTold (SettlesFile (mounted.Damaged place)) a b
+pub damaged_told : (last place : ℕ) (a b : Option Moments) → IfSome a (IsKeptTo last) → WhereExposed (Scans (scanned.Broken place)) a b → WhereExposed (SettlesFile (mounted.Damaged place)) a b
 damaged_told last place = told_from (IsKeptTo last) (Scans (scanned.Broken place)) (SettlesFile (mounted.Damaged place)) (damaged last place)
 
-pub unscanned_told : (found : Scanned) (a b : Option Moments) → WhereTold (Scans found) a b → WhereTold (λ x y. Leaves (ReadsAlike x.now.seen) x y) a b
+pub unscanned_told : (found : Scanned) (a b : Option Moments) → WhereExposed (Scans found) a b → WhereExposed (λ x y. Leaves (ReadsAlike x.now.seen) x y) a b
 unscanned_told found = told_map (Scans found) (λ x y. Leaves (ReadsAlike x.now.seen) x y) (λ a b s. stays_alike a b s.1)
 
-pub scanned_kept_told : (last gate : ℕ) (a b : Option Moments) → IfSome a (IsKeptTo last) → WhereTold (Scans (scanned.Whole gate)) a b → IfSome b (IsKeptTo last)
+pub scanned_kept_told : (last gate : ℕ) (a b : Option Moments) → IfSome a (IsKeptTo last) → WhereExposed (Scans (scanned.Whole gate)) a b → IfSome b (IsKeptTo last)
 scanned_kept_told last gate =
     told_after (IsKeptTo last) (Scans (scanned.Whole gate)) (IsKeptTo last)
     (λ a b k s. record { kept = kept_then a b k.kept s.1; reaches = ap (λ (x : Stand). length x.seen) s.1.now ∙ k.reaches })
@@ -142,14 +142,14 @@ scanned_kept_told last gate =
 abbrev IsMeasured : ℕ → Moments → Moments → Type 0
 IsMeasured size a b = StaysKept a b × (size ≡ length b.now.seen)
 
-pub sized_settled_told : (size : ℕ) (found : Mounted) (a b c : Option Moments) → WhereTold (IsMeasured size) a b → WhereTold (SettlesFile found) b c → WhereTold (SettlesFile found) a c
+pub sized_settled_told : (size : ℕ) (found : Mounted) (a b c : Option Moments) → WhereExposed (IsMeasured size) a b → WhereExposed (SettlesFile found) b c → WhereExposed (SettlesFile found) a c
 sized_settled_told size found = told_then (IsMeasured size) (SettlesFile found) (SettlesFile found) (λ a b c m w. stays_settled found a b c m.0 w)
 
-pub sized_short_told : (size : ℕ) → size ≤ 1 → (a b : Option Moments) → IfSome a IsKept → WhereTold (IsMeasured size) a b → IfSome b IsShort
+pub sized_short_told : (size : ℕ) → size ≤ 1 → (a b : Option Moments) → IfSome a IsKept → WhereExposed (IsMeasured size) a b → IfSome b IsShort
 sized_short_told size short =
     told_after IsKept (IsMeasured size) IsShort (λ a b k m. record { kept = kept_then a b k m.0; short = omega (arith, short, m.1) })
 
-pub sized_long_told : (size : ℕ) → 1 < size → (a b : Option Moments) → IfSome a IsKept → WhereTold (IsMeasured size) a b → IfSome b (IsKeptTo (size - 1))
+pub sized_long_told : (size : ℕ) → 1 < size → (a b : Option Moments) → IfSome a IsKept → WhereExposed (IsMeasured size) a b → IfSome b (IsKeptTo (size - 1))
 sized_long_told size long =
     told_after IsKept (IsMeasured size) (IsKeptTo (size - 1)) (λ a b k m. record { kept = kept_then a b k m.0; reaches = omega (arith, long, m.1) })
 
@@ -193,5 +193,5 @@ mounted_read (mounted.Damaged place) a b c y w = (
 mounted_read mounted.DiskFault a b c y w = seen_images a b c y w
 mounted_read mounted.OutOfMemory a b c y w = seen_images a b c y w
 
-pub mounted_read_told : (found : Mounted) (a b c : Option Moments) → WhereTold (Syncs stored.Done) a b → WhereTold (SettlesFile found) b c → WhereTold (Mounts found) a c
+pub mounted_read_told : (found : Mounted) (a b c : Option Moments) → WhereExposed (Syncs stored.Done) a b → WhereExposed (SettlesFile found) b c → WhereExposed (Mounts found) a c
 mounted_read_told found = told_then (Syncs stored.Done) (SettlesFile found) (Mounts found) (mounted_read found)

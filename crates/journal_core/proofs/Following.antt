@@ -2,7 +2,7 @@
 use Rattle.std.proofs.Common.{◌≡◌, ◌≢◌, ℕ, ◌+◌, ◌<◌, ◌^◌, List, [], ◌∷◌, ◌++◌, length, drop, get_or, Option, Some, None, refl, sym, ap, subst, ◌∙◌, append_assoc, arith, length-append}
 use Rattle.std.specs.Prelude.{IfSome}
 use Rattle.std.proofs.lemmas.List.{drop_at, drop_more}
-use Rattle.ae_edge.specs.Devices.{WhereTold}
+use Rattle.ae_edge.specs.Devices.{WhereExposed}
 use Rattle.disk.specs.Crashes.{Stand}
 use Rattle.disk.specs.Durable.{StaysKept}
 use Rattle.disk.specs.Moments.{Moments}
@@ -32,7 +32,7 @@ mounted_to gate disk m = let e = m.1 in record {
 pub ends_still : (gate : ℕ) (entries : List (List ℕ)) (a b : Moments) → EndsAt gate entries a → StaysKept a b → EndsAt gate entries b
 ends_still gate entries a b e s = record { front = e.front; opens = e.opens; gate_is = e.gate_is; now = s.now ∙ e.now }
 
-pub still_mounted_told : (gate : ℕ) (a b : Option Moments) → IfSome a (IsMounted gate) → WhereTold StaysKept a b → IfSome b (IsMounted gate)
+pub still_mounted_told : (gate : ℕ) (a b : Option Moments) → IfSome a (IsMounted gate) → WhereExposed StaysKept a b → IfSome b (IsMounted gate)
 still_mounted_told gate = told_after (IsMounted gate) StaysKept (IsMounted gate) (λ a b m s. (m.0, ends_still gate m.0 a b m.1 s))
 
 -- ---- the entries before a place, and those from it on
@@ -128,28 +128,28 @@ module _ (gate place : ℕ) (entries : List (List ℕ)) (a : Moments) (ends : En
 
 -- ---- by what was read
 
-pub end_told : (place gate : ℕ) → place ≡ gate → (a : Option Moments) → IfSome a (IsMounted gate) → WhereTold (Continues entry.End place gate) a a
+pub end_told : (place gate : ℕ) → place ≡ gate → (a : Option Moments) → IfSome a (IsMounted gate) → WhereExposed (Continues entry.End place gate) a a
 end_told place gate e (Some a) m = ((λ entries others ends from. none_left gate place entries a ends others from e), stays_same a (mounted_kept gate a m))
 end_told place gate e None m = tt
 
 module _ (place gate : ℕ) (less : place < gate) where
-  pub next_told : (found : List ℕ) (a b : Option Moments) → WhereTold (Stands (stood.Open found) place) a b → WhereTold (Continues (entry.Next found) place gate) a b
+  pub next_told : (found : List ℕ) (a b : Option Moments) → WhereExposed (Stands (stood.Open found) place) a b → WhereExposed (Continues (entry.Next found) place gate) a b
   next_told found = told_map (Stands (stood.Open found) place) (Continues (entry.Next found) place gate)
       (λ a b s. ((λ entries others ends from. same_entry gate place entries a ends found s.0 others less from), s.1))
 
-  pub closed_other_told : (a b : Option Moments) → WhereTold (Stands stood.Closed place) a b → WhereTold (Continues entry.Other place gate) a b
+  pub closed_other_told : (a b : Option Moments) → WhereExposed (Stands stood.Closed place) a b → WhereExposed (Continues entry.Other place gate) a b
   closed_other_told = told_map (Stands stood.Closed place) (Continues entry.Other place gate)
       (λ a b s. ((λ entries others ends from. isnt_closed gate place entries a ends s.0 others less from), s.1))
 
-  pub broken_other_told : (a b : Option Moments) → WhereTold (Stands stood.Broken place) a b → WhereTold (Continues entry.Other place gate) a b
+  pub broken_other_told : (a b : Option Moments) → WhereExposed (Stands stood.Broken place) a b → WhereExposed (Continues entry.Other place gate) a b
   broken_other_told = told_map (Stands stood.Broken place) (Continues entry.Other place gate)
       (λ a b s. ((λ entries others ends from. isnt_broken gate place entries a ends s.0.1 others less from), s.1))
 
-  pub failed_entry_told : (a b : Option Moments) → WhereTold (Stands stood.Failed place) a b → WhereTold (Continues entry.Failed place gate) a b
+  pub failed_entry_told : (a b : Option Moments) → WhereExposed (Stands stood.Failed place) a b → WhereExposed (Continues entry.Failed place gate) a b
   failed_entry_told = told_map (Stands stood.Failed place) (Continues entry.Failed place gate) (λ a b s. ((λ entries others ends from. tt), s.1))
 
-  pub unheld_entry_told : (a b : Option Moments) → WhereTold (Stands stood.OutOfMemory place) a b → WhereTold (Continues entry.OutOfMemory place gate) a b
+  pub unheld_entry_told : (a b : Option Moments) → WhereExposed (Stands stood.OutOfMemory place) a b → WhereExposed (Continues entry.OutOfMemory place gate) a b
   unheld_entry_told = told_map (Stands stood.OutOfMemory place) (Continues entry.OutOfMemory place gate) (λ a b s. ((λ entries others ends from. tt), s.1))
 
-pub stands_told : (found : Stood) (place : ℕ) (a b : Option Moments) → WhereTold (Stands found place) a b → WhereTold StaysKept a b
+pub stands_told : (found : Stood) (place : ℕ) (a b : Option Moments) → WhereExposed (Stands found place) a b → WhereExposed StaysKept a b
 stands_told found place = told_map (Stands found place) StaysKept (λ a b s. s.1)

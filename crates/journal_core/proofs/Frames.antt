@@ -9,14 +9,14 @@ use Rattle.wire_frames.specs.Laws.{HasOneReading}
 use Rattle.wire_frames.specs.declared.decoding.Decoded.TheVariants as decoded
 use Rattle.wire_messages.specs.declared.requests.Request.{Request}
 use Rattle.wire_payloads.specs.declared.versioned.Versioned.{Versioned}
-use Rattle.wire_spelling.specs.Spelling.{SpellsRequest}
-use Rattle.journal_core.specs.Records.{IsExecute, IsExecuteFrame, IsRecord, Fronts}
+use Rattle.wire_encoding.specs.Spelling.{SpellsRequest}
+use Rattle.journal_core.specs.Records.{IsExecute, IsExecuteFrame, IsRecord, Prefixes}
 use Rattle.journal_core.specs.declared.records.Front.TheVariants as front
 
 -- ---- one frame
 
 -- a request that was read is the one that the front spells
-pub other_read : (asked : Versioned Request) (used : ℕ) (bytes : List ℕ) → (IsExecute asked.message → ⊥) → ReadsEach SpellsRequest (decoded.One asked used) bytes → Fronts front.Other bytes
+pub other_read : (asked : Versioned Request) (used : ℕ) (bytes : List ℕ) → (IsExecute asked.message → ⊥) → ReadsEach SpellsRequest (decoded.One asked used) bytes → Prefixes front.Other bytes
 other_read asked used bytes other only = λ frame rest f e. other (subst (λ (a : Versioned Request). IsExecute a.message) (sym (only f.asked frame rest f.spelled e).0) f.is)
 
 frame_long : (frame : List ℕ) → IsExecuteFrame frame → 0 < length frame
@@ -60,7 +60,7 @@ same_front law (x ∷ ones) (y ∷ frames) rest p q e =
     let tails : concat ones ++ rest ≡ concat frames = append_cancel_left x (concat ones ++ rest) (concat frames) (whole ∙ ap (λ (w : List ℕ). w ++ concat frames) (sym same)) in
     same_front law ones frames rest (All-tail IsExecuteFrame x ones p) (All-tail IsExecuteFrame y frames q) tails
 
-pub none_other : HasOneReading SpellsRequest → (bytes rest : List ℕ) → HasRead bytes rest → rest ≢ [] → Fronts front.Other rest → IsRecord bytes → ⊥
+pub none_other : HasOneReading SpellsRequest → (bytes rest : List ℕ) → HasRead bytes rest → rest ≢ [] → Prefixes front.Other rest → IsRecord bytes → ⊥
 none_other law bytes rest h some other r =
     let m = same_front law h.done r.frames rest h.each r.each (sym h.whole ∙ r.whole) in
     first m.0 m.1 m.2

@@ -36,7 +36,7 @@ use Rattle.std.specs.Int.{w64, to_be_bytes, from_be_bytes}
 use Rattle.std.specs.Prelude.{IfSome}
 use Rattle.std.proofs.lemmas.Bool.{cases_lt}
 use Rattle.std.proofs.lemmas.List.{drop-drop, drop_more, length-drop, length-take-le, take_all}
-use Rattle.ae_edge.specs.Devices.{WhereTold}
+use Rattle.ae_edge.specs.Devices.{WhereExposed}
 use Rattle.ae_edge.proofs.Interface.{told_map}
 use Rattle.disk.specs.Crashes.{Stand}
 use Rattle.disk.specs.Durable.{StaysKept}
@@ -142,17 +142,17 @@ module _ (gate last count : ℕ) (before : gate ≤ last) (n : count ≡ min (la
   told a b k r = head_bytes a.now.seen gate last k.reaches before count bytes n r.0
 
   pub closed_told : (behind : ℕ) → IsHead head.Closed bytes behind → (a b : Option Moments) → IfSome a (IsKeptTo last)
-      → WhereTold (ReadsPart (given.Bytes bytes) gate count) a b → WhereTold (Stands stood.Closed gate) a b
+      → WhereExposed (ReadsPart (given.Bytes bytes) gate count) a b → WhereExposed (Stands stood.Closed gate) a b
   closed_told behind h = told_from (IsKeptTo last) (ReadsPart (given.Bytes bytes) gate count) (Stands stood.Closed gate)
       (λ a b k r. (is_closed a.now.seen gate last k.reaches before bytes (told a b k r) behind h, r.1))
 
   pub broken_told : IsHead head.Broken bytes (last - gate) → (a b : Option Moments) → IfSome a (IsKeptTo last)
-      → WhereTold (ReadsPart (given.Bytes bytes) gate count) a b → WhereTold (Stands stood.Broken gate) a b
+      → WhereExposed (ReadsPart (given.Bytes bytes) gate count) a b → WhereExposed (Stands stood.Broken gate) a b
   broken_told h = told_from (IsKeptTo last) (ReadsPart (given.Bytes bytes) gate count) (Stands stood.Broken gate)
       (λ a b k r. (is_broken a.now.seen gate last k.reaches before bytes (told a b k r) h, r.1))
 
   pub open_told : (len : ℕ) → IsHead (head.Open len) bytes (last - gate) → len < 2 ^ 64 → (result : Stood) (a b c : Option Moments) → IfSome a (IsKeptTo last)
-      → WhereTold (ReadsPart (given.Bytes bytes) gate count) a b → WhereTold (ReadsRecord result (gate + 9) len) b c → WhereTold (Stands result gate) a c
+      → WhereExposed (ReadsPart (given.Bytes bytes) gate count) a b → WhereExposed (ReadsRecord result (gate + 9) len) b c → WhereExposed (Stands result gate) a c
   open_told len h fits result = told_from_then (IsKeptTo last) (ReadsPart (given.Bytes bytes) gate count) (ReadsRecord result (gate + 9) len) (Stands result gate)
       (λ a b c k r q. (
         at_gate a.now.seen gate last k.reaches before bytes (told a b k r) len h fits result (subst (λ (s : Stand). IsRecordAt result (gate + 9) len s.seen) r.1.now q.0),
@@ -160,31 +160,31 @@ module _ (gate last count : ℕ) (before : gate ≤ last) (n : count ≡ min (la
       ))
 
 -- the disk is as it was before a part was read
-pub part_kept_told : (last at len : ℕ) (bytes : List ℕ) (a b : Option Moments) → IfSome a (IsKeptTo last) → WhereTold (ReadsPart (given.Bytes bytes) at len) a b → IfSome b (IsKeptTo last)
+pub part_kept_told : (last at len : ℕ) (bytes : List ℕ) (a b : Option Moments) → IfSome a (IsKeptTo last) → WhereExposed (ReadsPart (given.Bytes bytes) at len) a b → IfSome b (IsKeptTo last)
 part_kept_told last at len bytes = told_after (IsKeptTo last) (ReadsPart (given.Bytes bytes) at len) (IsKeptTo last)
     (λ a b k r. record { kept = kept_then a b k.kept r.1; reaches = ap (λ (s : Stand). length s.seen) r.1.now ∙ k.reaches })
 
 -- ---- a part that may be a record
 
-pub is_told : (at len : ℕ) (entry : List ℕ) (a b : Option Moments) → IsRecord entry → WhereTold (ReadsPart (given.Bytes entry) at len) a b → WhereTold (ReadsRecord (stood.Open entry) at len) a b
+pub is_told : (at len : ℕ) (entry : List ℕ) (a b : Option Moments) → IsRecord entry → WhereExposed (ReadsPart (given.Bytes entry) at len) a b → WhereExposed (ReadsRecord (stood.Open entry) at len) a b
 is_told at len entry a b is = told_map (ReadsPart (given.Bytes entry) at len) (ReadsRecord (stood.Open entry) at len) (λ x y r. ((is, r.0), r.1)) a b
 
-pub isnt_told : (at len : ℕ) (entry : List ℕ) (a b : Option Moments) → (IsRecord entry → ⊥) → WhereTold (ReadsPart (given.Bytes entry) at len) a b → WhereTold (ReadsRecord stood.Broken at len) a b
+pub isnt_told : (at len : ℕ) (entry : List ℕ) (a b : Option Moments) → (IsRecord entry → ⊥) → WhereExposed (ReadsPart (given.Bytes entry) at len) a b → WhereExposed (ReadsRecord stood.Broken at len) a b
 isnt_told at len entry a b other = told_map (ReadsPart (given.Bytes entry) at len) (ReadsRecord stood.Broken at len) (λ x y r. ((λ p. other (subst IsRecord (sym r.0) p)), r.1)) a b
 
-pub unheld_told : (at len : ℕ) (entry : List ℕ) (a b : Option Moments) → WhereTold (ReadsPart (given.Bytes entry) at len) a b → WhereTold (ReadsRecord stood.OutOfMemory at len) a b
+pub unheld_told : (at len : ℕ) (entry : List ℕ) (a b : Option Moments) → WhereExposed (ReadsPart (given.Bytes entry) at len) a b → WhereExposed (ReadsRecord stood.OutOfMemory at len) a b
 unheld_told at len entry = told_map (ReadsPart (given.Bytes entry) at len) (ReadsRecord stood.OutOfMemory at len) (λ x y r. (tt, r.1))
 
-pub lost_told : (at len : ℕ) (a b : Option Moments) → WhereTold (ReadsPart given.Failed at len) a b → WhereTold (ReadsRecord stood.Failed at len) a b
+pub lost_told : (at len : ℕ) (a b : Option Moments) → WhereExposed (ReadsPart given.Failed at len) a b → WhereExposed (ReadsRecord stood.Failed at len) a b
 lost_told at len = told_map (ReadsPart given.Failed at len) (ReadsRecord stood.Failed at len) (λ x y r. (tt, r))
 
-pub unread_told : (at len : ℕ) (a b : Option Moments) → WhereTold (ReadsPart given.OutOfMemory at len) a b → WhereTold (ReadsRecord stood.OutOfMemory at len) a b
+pub unread_told : (at len : ℕ) (a b : Option Moments) → WhereExposed (ReadsPart given.OutOfMemory at len) a b → WhereExposed (ReadsRecord stood.OutOfMemory at len) a b
 unread_told at len = told_map (ReadsPart given.OutOfMemory at len) (ReadsRecord stood.OutOfMemory at len) (λ x y r. (tt, r))
 
 -- ---- a gate that couldn't be read
 
-pub gate_lost_told : (gate len : ℕ) (a b : Option Moments) → WhereTold (ReadsPart given.Failed gate len) a b → WhereTold (Stands stood.Failed gate) a b
+pub gate_lost_told : (gate len : ℕ) (a b : Option Moments) → WhereExposed (ReadsPart given.Failed gate len) a b → WhereExposed (Stands stood.Failed gate) a b
 gate_lost_told gate len = told_map (ReadsPart given.Failed gate len) (Stands stood.Failed gate) (λ x y r. (tt, r))
 
-pub gate_unread_told : (gate len : ℕ) (a b : Option Moments) → WhereTold (ReadsPart given.OutOfMemory gate len) a b → WhereTold (Stands stood.OutOfMemory gate) a b
+pub gate_unread_told : (gate len : ℕ) (a b : Option Moments) → WhereExposed (ReadsPart given.OutOfMemory gate len) a b → WhereExposed (Stands stood.OutOfMemory gate) a b
 gate_unread_told gate len = told_map (ReadsPart given.OutOfMemory gate len) (Stands stood.OutOfMemory gate) (λ x y r. (tt, r))

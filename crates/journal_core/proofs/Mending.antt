@@ -3,7 +3,7 @@ use Rattle.std.proofs.Common.{◌≡◌, ◌≢◌, inl, inr, ℕ, ◌+◌, ◌�
 use Rattle.std.specs.Prelude.{IfSome}
 use Rattle.std.proofs.lemmas.Bool.{cases_eq}
 use Rattle.std.proofs.lemmas.List.{take_at, drop_all}
-use Rattle.ae_edge.specs.Devices.{WhereTold}
+use Rattle.ae_edge.specs.Devices.{WhereExposed}
 use Rattle.disk.specs.Calls.{written, Syncs}
 use Rattle.disk.specs.Crashes.{Range, Length, Stand, kept}
 use Rattle.disk.specs.Moments.{Moments, Leaves}
@@ -68,7 +68,7 @@ module _ (file : List ℕ) (gate : ℕ) (short : length file ≤ 1) (lacks : fil
   mend_short stored.Failed a b k w = λ entries p. short_moments entries a b k p w
   mend_short stored.OutOfMemory a b k w = λ entries p. short_moments entries a b k p w
 
-  pub mend_short_told : (result : Stored) (a b : Option Moments) → IfSome a (λ d. d.now ≡ kept file) → WhereTold (WritesThrough result 0 (0 ∷ [])) a b → WhereTold (Repairs result gate file) a b
+  pub mend_short_told : (result : Stored) (a b : Option Moments) → IfSome a (λ d. d.now ≡ kept file) → WhereExposed (WritesThrough result 0 (0 ∷ [])) a b → WhereExposed (Repairs result gate file) a b
   mend_short_told result = told_from (λ d. d.now ≡ kept file) (WritesThrough result 0 (0 ∷ [])) (Repairs result gate file) (mend_short result)
 
 -- more bytes behind the gate
@@ -109,7 +109,7 @@ module _ (file : List ℕ) (gate : ℕ) (more : gate + 1 < length file) where
   mend_long stored.OutOfMemory a b k w = λ entries p. cut_moments entries a b k p w
 
 pub mend_long_told : (last gate : ℕ) → gate < last → (result : Stored) (a b : Option Moments) → IfSome a (IsKeptTo last)
-    → WhereTold (CutsThrough result (gate + 1)) a b → WhereTold (RepairsSeen result gate) a b
+    → WhereExposed (CutsThrough result (gate + 1)) a b → WhereExposed (RepairsSeen result gate) a b
 mend_long_told last gate more result = told_from (IsKeptTo last) (CutsThrough result (gate + 1)) (RepairsSeen result gate)
     (λ a b k w. mend_long a.now.seen gate (omega (arith, more, k.reaches)) result a b k.kept w)
 
@@ -159,10 +159,10 @@ module _ (file : List ℕ) (gate : ℕ) (has : (length file ≤ 1) × (file ≢ 
       let s = sync_kept stored.OutOfMemory a b (k ∙ ap (λ (w : Stand). kept w.seen) (sym k)) y in
       λ entries p. end_moments entries a b k p s
 
-  pub mend_end_told : (result : Stored) (a b : Option Moments) → IfSome a (λ d. d.now ≡ kept file) → WhereTold (Syncs result) a b → WhereTold (Repairs result gate file) a b
+  pub mend_end_told : (result : Stored) (a b : Option Moments) → IfSome a (λ d. d.now ≡ kept file) → WhereExposed (Syncs result) a b → WhereExposed (Repairs result gate file) a b
   mend_end_told result = told_from (λ d. d.now ≡ kept file) (Syncs result) (Repairs result gate file) (mend_end result)
 
 pub mend_last_told : (last gate : ℕ) → last ≤ gate → 1 ≤ last → (result : Stored) (a b : Option Moments)
-    → IfSome a (IsKeptTo last) → WhereTold (Syncs result) a b → WhereTold (RepairsSeen result gate) a b
+    → IfSome a (IsKeptTo last) → WhereExposed (Syncs result) a b → WhereExposed (RepairsSeen result gate) a b
 mend_last_told last gate none long result = told_from (IsKeptTo last) (Syncs result) (RepairsSeen result gate)
     (λ a b k y. mend_end a.now.seen gate (λ has. absurd (omega (arith, has.0, long, k.reaches))) (omega (arith, none, k.reaches)) result a b k.kept y)

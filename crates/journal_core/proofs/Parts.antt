@@ -3,7 +3,7 @@ use Rattle.std.proofs.Common.{◌≡◌, inl, ℕ, ◌+◌, ◌-◌, ◌≤◌, 
 use Rattle.std.specs.Prelude.{IfSome}
 use Rattle.std.proofs.lemmas.List.{take_all, drop-drop, length-drop}
 use Rattle.std.proofs.Math.Seq.{take-add}
-use Rattle.ae_edge.specs.Devices.{WhereTold}
+use Rattle.ae_edge.specs.Devices.{WhereExposed}
 use Rattle.ae_edge.proofs.Interface.{told_then}
 use Rattle.disk.specs.Calls.{Gives, IsPart, Measures}
 use Rattle.disk.specs.Crashes.{Stand, kept}
@@ -88,38 +88,38 @@ read_failed at len bytes a b c h r = stays_then a b c h.stays (sync_kept stored.
 
 -- ---- where it is told
 
-pub read_none_told : (at : ℕ) (a : Option Moments) → IfSome a IsKept → WhereTold (HasPart at []) a a
+pub read_none_told : (at : ℕ) (a : Option Moments) → IfSome a IsKept → WhereExposed (HasPart at []) a a
 read_none_told at (Some a) k = record { front = refl; kept = k; stays = stays_same a k }
 read_none_told at None k = tt
 
-pub read_on_told : (at : ℕ) (part bytes : List ℕ) (a b c : Option Moments) → WhereTold (HasPart at bytes) a b
-    → WhereTold (Gives (at + length bytes) (given.Bytes part)) b c → WhereTold (HasPart at (bytes ++ part)) a c
+pub read_on_told : (at : ℕ) (part bytes : List ℕ) (a b c : Option Moments) → WhereExposed (HasPart at bytes) a b
+    → WhereExposed (Gives (at + length bytes) (given.Bytes part)) b c → WhereExposed (HasPart at (bytes ++ part)) a c
 read_on_told at part bytes = told_then (HasPart at bytes) (Gives (at + length bytes) (given.Bytes part)) (HasPart at (bytes ++ part)) (read_on at part bytes)
 
-pub read_whole_told : (at len : ℕ) (bytes : List ℕ) (a b : Option Moments) → length bytes ≡ len → WhereTold (HasPart at bytes) a b → WhereTold (ReadsPart (given.Bytes bytes) at len) a b
+pub read_whole_told : (at len : ℕ) (bytes : List ℕ) (a b : Option Moments) → length bytes ≡ len → WhereExposed (HasPart at bytes) a b → WhereExposed (ReadsPart (given.Bytes bytes) at len) a b
 read_whole_told at len bytes (Some a) (Some b) e h = read_whole at len bytes a b e h
 read_whole_told at len bytes None None e h = tt
 read_whole_told at len bytes (Some a) None e h = absurd h
 read_whole_told at len bytes None (Some b) e h = absurd h
 
 pub read_end_told : (at len : ℕ) (part bytes : List ℕ) (a b c : Option Moments) → length bytes ≤ len → length part ≡ 0
-    → WhereTold (HasPart at bytes) a b → WhereTold (Gives (at + length bytes) (given.Bytes part)) b c
-    → WhereTold (ReadsPart (given.Bytes bytes) at len) a c
+    → WhereExposed (HasPart at bytes) a b → WhereExposed (Gives (at + length bytes) (given.Bytes part)) b c
+    → WhereExposed (ReadsPart (given.Bytes bytes) at len) a c
 read_end_told at len part bytes a b c few none h r =
     told_then (HasPart at bytes) (Gives (at + length bytes) (given.Bytes part)) (ReadsPart (given.Bytes bytes) at len) (λ x y z p q. read_end at len part bytes x y z few none p q) a b c h r
 
-pub read_failed_told : (at len : ℕ) (bytes : List ℕ) (a b c : Option Moments) → WhereTold (HasPart at bytes) a b
-    → WhereTold (Gives (at + length bytes) given.Failed) b c → WhereTold (ReadsPart given.Failed at len) a c
+pub read_failed_told : (at len : ℕ) (bytes : List ℕ) (a b c : Option Moments) → WhereExposed (HasPart at bytes) a b
+    → WhereExposed (Gives (at + length bytes) given.Failed) b c → WhereExposed (ReadsPart given.Failed at len) a c
 read_failed_told at len bytes = told_then (HasPart at bytes) (Gives (at + length bytes) given.Failed) (ReadsPart given.Failed at len) (read_failed at len bytes)
 
 -- without memory, before a call or for what came
-pub read_stopped_told : (at len : ℕ) (part bytes : List ℕ) (a b c : Option Moments) → WhereTold (HasPart at bytes) a b → WhereTold (Gives (at + length bytes) (given.Bytes part)) b c
-    → WhereTold (ReadsPart given.OutOfMemory at len) a c
+pub read_stopped_told : (at len : ℕ) (part bytes : List ℕ) (a b c : Option Moments) → WhereExposed (HasPart at bytes) a b → WhereExposed (Gives (at + length bytes) (given.Bytes part)) b c
+    → WhereExposed (ReadsPart given.OutOfMemory at len) a c
 read_stopped_told at len part bytes =
     told_then (HasPart at bytes) (Gives (at + length bytes) (given.Bytes part)) (ReadsPart given.OutOfMemory at len) (λ x y z h r. (read_on at part bytes x y z h r).stays)
 
-pub read_unasked_told : (at len : ℕ) (bytes : List ℕ) (a b c : Option Moments) → WhereTold (HasPart at bytes) a b
-    → WhereTold (Gives (at + length bytes) given.OutOfMemory) b c → WhereTold (ReadsPart given.OutOfMemory at len) a c
+pub read_unasked_told : (at len : ℕ) (bytes : List ℕ) (a b c : Option Moments) → WhereExposed (HasPart at bytes) a b
+    → WhereExposed (Gives (at + length bytes) given.OutOfMemory) b c → WhereExposed (ReadsPart given.OutOfMemory at len) a c
 read_unasked_told at len bytes =
     told_then (HasPart at bytes) (Gives (at + length bytes) given.OutOfMemory) (ReadsPart given.OutOfMemory at len) (λ x y z h r. subst (StaysKept x) (sym r) h.stays)
 
@@ -129,11 +129,11 @@ sized : (count : ℕ) (a b : Moments) → IsKept a → Measures (measured.Bytes 
 sized count a b k m =
     (stays_pass (λ before after. (after ≡ before) × (count ≡ length before.seen)) a b k m m.here.0, m.here.1 ∙ ap (λ (s : Stand). length s.seen) (sym m.here.0))
 
-pub measured_told : (count : ℕ) (a b : Option Moments) → IfSome a IsKept → WhereTold (Measures (measured.Bytes count)) a b → WhereTold (λ x y. StaysKept x y × (count ≡ length y.now.seen)) a b
+pub measured_told : (count : ℕ) (a b : Option Moments) → IfSome a IsKept → WhereExposed (Measures (measured.Bytes count)) a b → WhereExposed (λ x y. StaysKept x y × (count ≡ length y.now.seen)) a b
 measured_told count = told_from IsKept (Measures (measured.Bytes count)) (λ x y. StaysKept x y × (count ≡ length y.now.seen)) (sized count)
 
-pub unmeasured_told : (a b : Option Moments) → IfSome a IsKept → WhereTold (Measures measured.Failed) a b → WhereTold StaysKept a b
+pub unmeasured_told : (a b : Option Moments) → IfSome a IsKept → WhereExposed (Measures measured.Failed) a b → WhereExposed StaysKept a b
 unmeasured_told = told_from IsKept (Measures measured.Failed) StaysKept (λ a b k m. sync_kept stored.Failed a b k m)
 
-pub unsized_told : (a b : Option Moments) → IfSome a IsKept → WhereTold (Measures measured.OutOfMemory) a b → WhereTold StaysKept a b
+pub unsized_told : (a b : Option Moments) → IfSome a IsKept → WhereExposed (Measures measured.OutOfMemory) a b → WhereExposed StaysKept a b
 unsized_told = told_from IsKept (Measures measured.OutOfMemory) StaysKept (λ a b k m. subst (StaysKept a) (sym m) (stays_same a k))

@@ -1,7 +1,7 @@
 -- A file is read from gate to gate, on a disk that stands as it stood.
 use Rattle.std.proofs.Common.{◌≡◌, ℕ, ◌+◌, ◌≤◌, List, [], ◌∷◌, ◌++◌, length, Option, Some, None, refl, ap, subst, ◌∙◌, arith}
 use Rattle.std.specs.Prelude.{IfSome}
-use Rattle.ae_edge.specs.Devices.{WhereTold}
+use Rattle.ae_edge.specs.Devices.{WhereExposed}
 use Rattle.ae_edge.proofs.Interface.{told_then}
 use Rattle.disk.specs.Crashes.{Stand}
 use Rattle.disk.specs.Durable.{StaysKept}
@@ -21,11 +21,11 @@ pub record HasScanned (last gate : ℕ) (old now : Moments) : Type 0 where
   pub kept : IsKeptTo last old
   pub stays : StaysKept old now
 
-pub scan_first : (last : ℕ) (a : Option Moments) → IfSome a (IsKeptTo last) → WhereTold (HasScanned last 0) a a
+pub scan_first : (last : ℕ) (a : Option Moments) → IfSome a (IsKeptTo last) → WhereExposed (HasScanned last 0) a a
 scan_first last (Some a) k = record { entries = []; reads = record { opens = refl; inside = omega (arith, k.reaches) }; kept = k; stays = stays_same a k.kept }
 scan_first last None k = tt
 
-pub scan_kept : (last gate : ℕ) (a b : Option Moments) → WhereTold (HasScanned last gate) a b → IfSome b (IsKeptTo last)
+pub scan_kept : (last gate : ℕ) (a b : Option Moments) → WhereExposed (HasScanned last gate) a b → IfSome b (IsKeptTo last)
 scan_kept last gate (Some a) (Some b) h = record { kept = kept_then a b h.kept.kept h.stays; reaches = ap (λ (s : Stand). length s.seen) h.stays.now ∙ h.kept.reaches }
 scan_kept last gate None None h = tt
 scan_kept last gate (Some a) None h = absurd h
@@ -46,22 +46,22 @@ module _ (last gate : ℕ) where
         stays = stays_then a b c h.stays s.1;
       }
 
-  pub scan_more : (entry : List ℕ) (a b c : Option Moments) → WhereTold (HasScanned last gate) a b
-      → WhereTold (Stands (stood.Open entry) gate) b c → WhereTold (HasScanned last (gate + (9 + length entry))) a c
+  pub scan_more : (entry : List ℕ) (a b c : Option Moments) → WhereExposed (HasScanned last gate) a b
+      → WhereExposed (Stands (stood.Open entry) gate) b c → WhereExposed (HasScanned last (gate + (9 + length entry))) a c
   scan_more entry = told_then (HasScanned last gate) (Stands (stood.Open entry) gate) (HasScanned last (gate + (9 + length entry))) (more entry)
 
-  pub scan_closed : (a b c : Option Moments) → WhereTold (HasScanned last gate) a b → WhereTold (Stands stood.Closed gate) b c → WhereTold (Scans (scanned.Whole gate)) a c
+  pub scan_closed : (a b c : Option Moments) → WhereExposed (HasScanned last gate) a b → WhereExposed (Stands stood.Closed gate) b c → WhereExposed (Scans (scanned.Whole gate)) a c
   scan_closed = told_then (HasScanned last gate) (Stands stood.Closed gate) (Scans (scanned.Whole gate))
       (λ a b c h s. ((h.entries, closed_gate h.entries gate a.now.seen h.reads (at_first stood.Closed a b c h s)), stays_then a b c h.stays s.1))
 
-  pub scan_broken : 1 ≤ last → (a b c : Option Moments) → WhereTold (HasScanned last gate) a b → WhereTold (Stands stood.Broken gate) b c → WhereTold (Scans (scanned.Broken gate)) a c
+  pub scan_broken : 1 ≤ last → (a b c : Option Moments) → WhereExposed (HasScanned last gate) a b → WhereExposed (Stands stood.Broken gate) b c → WhereExposed (Scans (scanned.Broken gate)) a c
   scan_broken long = told_then (HasScanned last gate) (Stands stood.Broken gate) (Scans (scanned.Broken gate))
       (λ a b c h s.
       let at = at_first stood.Broken a b c h s in
       (broken_gate h.entries gate a.now.seen (omega (arith, long, h.kept.reaches)) h.reads at.0 at.1, stays_then a b c h.stays s.1))
 
-  pub scan_failed : (a b c : Option Moments) → WhereTold (HasScanned last gate) a b → WhereTold (Stands stood.Failed gate) b c → WhereTold (Scans scanned.Failed) a c
+  pub scan_failed : (a b c : Option Moments) → WhereExposed (HasScanned last gate) a b → WhereExposed (Stands stood.Failed gate) b c → WhereExposed (Scans scanned.Failed) a c
   scan_failed = told_then (HasScanned last gate) (Stands stood.Failed gate) (Scans scanned.Failed) (λ a b c h s. (tt, stays_then a b c h.stays s.1))
 
-  pub scan_unheld : (a b c : Option Moments) → WhereTold (HasScanned last gate) a b → WhereTold (Stands stood.OutOfMemory gate) b c → WhereTold (Scans scanned.OutOfMemory) a c
+  pub scan_unheld : (a b c : Option Moments) → WhereExposed (HasScanned last gate) a b → WhereExposed (Stands stood.OutOfMemory gate) b c → WhereExposed (Scans scanned.OutOfMemory) a c
   scan_unheld = told_then (HasScanned last gate) (Stands stood.OutOfMemory gate) (Scans scanned.OutOfMemory) (λ a b c h s. (tt, stays_then a b c h.stays s.1))

@@ -4,7 +4,7 @@ use lib.Utf8.{encode}
 use Rattle.ae_base.specs.declared.frames.FrameVersion.TheVariants.{V1, V2}
 use Rattle.wire_messages.specs.declared.requests.Request.{Request}
 use Rattle.wire_messages.specs.declared.requests.Request.TheVariants.{Execute}
-use Rattle.wire_spelling.specs.Spelling.{request_frame}
+use Rattle.wire_encoding.specs.Spelling.{request_frame}
 use Rattle.journal_core.specs.Journals.{framed, journal_of}
 
 pub empty : journal_of [] ≡ 0x00 ∷ []

@@ -4,7 +4,7 @@ use Rattle.std.specs.List.{All, concat}
 use Rattle.wire_messages.specs.declared.requests.Request.{Request}
 use Rattle.wire_messages.specs.declared.requests.Request.TheVariants.{Describe, Execute}
 use Rattle.wire_payloads.specs.declared.versioned.Versioned.{Versioned}
-use Rattle.wire_spelling.specs.Spelling.{SpellsRequest}
+use Rattle.wire_encoding.specs.Spelling.{SpellsRequest}
 use Rattle.journal_core.specs.declared.records.Front.{Front}
 use Rattle.journal_core.specs.declared.records.Front.TheVariants as front
 
@@ -26,7 +26,7 @@ pub record IsRecord (bytes : List ℕ) : Type 0 where
   pub whole : bytes ≡ concat frames
 
 -- such a frame stands at the front, and is this long, or none does
-abbrev pub Fronts : Front → List ℕ → Type 0
-Fronts (front.Execute used) bytes = (used ≤ length bytes) × IsExecuteFrame (take used bytes)
-Fronts front.Other bytes = (frame rest : List ℕ) → IsExecuteFrame frame → bytes ≢ frame ++ rest
-Fronts front.OutOfMemory bytes = Unit {0}
+abbrev pub Prefixes : Front → List ℕ → Type 0
+Prefixes (front.Execute used) bytes = (used ≤ length bytes) × IsExecuteFrame (take used bytes)
+Prefixes front.Other bytes = (frame rest : List ℕ) → IsExecuteFrame frame → bytes ≢ frame ++ rest
+Prefixes front.OutOfMemory bytes = Unit {0}

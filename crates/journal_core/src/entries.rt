@@ -1,7 +1,7 @@
 //! The records of a journal are read from its disk, one after another.
 
 ghost use Rattle.std.specs.Prelude.{◌≡◌, ◌<◌, ◌≤◌, ◌^◌, IfSome};
-ghost use Rattle.ae_edge.specs.Devices.{WhereTold};
+ghost use Rattle.ae_edge.specs.Devices.{WhereExposed};
 ghost use Rattle.journal_core.specs.Appends.{IsMounted};
 ghost use Rattle.journal_core.specs.Entries.{Continues, CountsEntry, IsNotPast};
 
@@ -31,7 +31,7 @@ impl Journal {
     pub fn entry_at<D: Disk>(&self, alloc: Global, disk: &mut D, place: u64) -> Entry
         requires mounted { IfSome (D.told disk.old) (IsMounted self.now.gate) }
         requires before { place ≤ self.now.gate }
-        ensures content { WhereTold (Continues result place self.now.gate)
+        ensures content { WhereExposed (Continues result place self.now.gate)
             (D.told disk.old) (D.told disk.new) }
         ensures mounted { IfSome (D.told disk.new) (IsMounted self.now.gate) }
         ensures inside { IsNotPast result place self.now.gate }

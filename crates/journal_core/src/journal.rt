@@ -1,7 +1,7 @@
 //! A journal, to which records are added.
 
 ghost use Rattle.std.specs.Prelude.{◌≡◌, ◌<◌, ◌≤◌, ◌+◌, ◌++◌, ◌∷◌, [], ◌^◌, ◌↔◌, IfOk, IfSome, IsTrue, false, length};
-ghost use Rattle.ae_edge.specs.Devices.{WhereTold};
+ghost use Rattle.ae_edge.specs.Devices.{WhereExposed};
 ghost use Rattle.disk.specs.Calls.{CountsStored};
 ghost use Rattle.disk.specs.Durable.{IsKept, WritesThrough};
 ghost use Rattle.journal_core.specs.Appends.{Appends, CountsAppended, IsMounted, StaysMounted, WritesEntry, fails, gate_after, most_bytes};
@@ -83,7 +83,7 @@ impl Journal {
         requires ready { self.old.failed ≡ false }
         requires mounted { IfSome (D.told disk.old) (IsMounted self.old.gate) }
         requires proper { IsRecord entry.now }
-        ensures content { WhereTold (Appends result self.old.gate entry.now)
+        ensures content { WhereExposed (Appends result self.old.gate entry.now)
             (D.told disk.old) (D.told disk.new) }
         ensures gate { self.new.gate ≡ gate_after result self.old.gate entry.now }
         ensures failed { self.new.failed ≡ fails result }
@@ -131,7 +131,7 @@ fn stage<D: Disk>(alloc: Global, disk: &mut D, gate: u64, entry: &[u8]) -> Store
     requires kept { IfSome (D.told disk.old) IsKept }
     requires inside { IfSome (D.told disk.old) (λ d. gate + 1 ≤ length d.now.seen) }
     requires room { gate + 10 + length entry.now ≤ most_bytes }
-    ensures content { WhereTold (WritesThrough result (gate + 1) (framed entry.now ++ 0 ∷ []))
+    ensures content { WhereExposed (WritesThrough result (gate + 1) (framed entry.now ++ 0 ∷ []))
         (D.told disk.old) (D.told disk.new) }
     ensures same { D.names disk.new ≡ D.names disk.old }
     ensures count { D.faults disk.old ≤ D.faults disk.new }
@@ -149,7 +149,7 @@ fn write_entry<D: Disk>(alloc: Global, disk: &mut D, gate: u64, entry: &[u8]) ->
     requires mounted { IfSome (D.told disk.old) (IsMounted gate) }
     requires proper { IsRecord entry.now }
     requires room { gate + 10 + length entry.now ≤ most_bytes }
-    ensures content { WhereTold (WritesEntry result gate entry.now)
+    ensures content { WhereExposed (WritesEntry result gate entry.now)
         (D.told disk.old) (D.told disk.new) }
     ensures same { D.names disk.new ≡ D.names disk.old }
     ensures count { D.faults disk.old ≤ D.faults disk.new }

@@ -1,7 +1,7 @@
 //! A journal is found on a disk, and the end of its file put in order.
 
 ghost use Rattle.std.specs.Prelude.{◌≡◌, ◌≢◌, ◌≤◌, ◌+◌, ◌∷◌, ◌↔◌, [], ℕ, IfSome, IsTrue, length};
-ghost use Rattle.ae_edge.specs.Devices.{WhereTold};
+ghost use Rattle.ae_edge.specs.Devices.{WhereExposed};
 ghost use Rattle.disk.specs.Calls.{CountsStored};
 ghost use Rattle.disk.specs.Crashes.{kept};
 ghost use Rattle.disk.specs.Durable.{IsKept};
@@ -56,7 +56,7 @@ fn lacks_gate(file: &[u8]) -> bool
 fn repair_short<D: Disk>(disk: &mut D, file: &[u8]) -> Stored
     requires kept { IfSome (D.told disk.old) (λ d. d.now ≡ kept file.now) }
     requires short { length file.now ≤ 1 }
-    ensures content { WhereTold (Repairs result 0 file.now) (D.told disk.old) (D.told disk.new) }
+    ensures content { WhereExposed (Repairs result 0 file.now) (D.told disk.old) (D.told disk.new) }
     ensures same { D.names disk.new ≡ D.names disk.old }
     ensures count { D.faults disk.old ≤ D.faults disk.new }
     ensures counts { CountsStored result (D.faults disk.old) (D.faults disk.new) }
@@ -71,7 +71,7 @@ fn repair_short<D: Disk>(disk: &mut D, file: &[u8]) -> Stored
 /// Finds the journal of a file of at most one byte that is on the disk: it has no record.
 fn settle_short<D: Disk>(alloc: Global, disk: &mut D) -> Mounted
     requires kept { IfSome (D.told disk.old) IsShort }
-    ensures content { WhereTold (SettlesFile result) (D.told disk.old) (D.told disk.new) }
+    ensures content { WhereExposed (SettlesFile result) (D.told disk.old) (D.told disk.new) }
     ensures whole { IsWhole result }
     ensures same { D.names disk.new ≡ D.names disk.old }
     ensures count { D.faults disk.old ≤ D.faults disk.new }
@@ -89,7 +89,7 @@ fn settle_short<D: Disk>(alloc: Global, disk: &mut D) -> Mounted
 fn repair_long<D: Disk>(disk: &mut D, gate: u64, last: u64) -> Stored
     requires kept { IfSome (D.told disk.old) (IsKeptTo last) }
     requires long { 1 ≤ last }
-    ensures content { WhereTold (RepairsSeen result gate) (D.told disk.old) (D.told disk.new) }
+    ensures content { WhereExposed (RepairsSeen result gate) (D.told disk.old) (D.told disk.new) }
     ensures same { D.names disk.new ≡ D.names disk.old }
     ensures count { D.faults disk.old ≤ D.faults disk.new }
     ensures counts { CountsStored result (D.faults disk.old) (D.faults disk.new) }
@@ -106,7 +106,7 @@ fn repair_long<D: Disk>(disk: &mut D, gate: u64, last: u64) -> Stored
 fn settle_long<D: Disk>(alloc: Global, disk: &mut D, last: u64) -> Mounted
     requires kept { IfSome (D.told disk.old) (IsKeptTo last) }
     requires long { 1 ≤ last }
-    ensures content { WhereTold (SettlesFile result) (D.told disk.old) (D.told disk.new) }
+    ensures content { WhereExposed (SettlesFile result) (D.told disk.old) (D.told disk.new) }
     ensures whole { IsWhole result }
     ensures same { D.names disk.new ≡ D.names disk.old }
     ensures count { D.faults disk.old ≤ D.faults disk.new }
@@ -123,7 +123,7 @@ fn settle_long<D: Disk>(alloc: Global, disk: &mut D, last: u64) -> Mounted
 /// Reads a file that is on the disk as a journal, and puts its end in order.
 fn settle_file<D: Disk>(alloc: Global, disk: &mut D) -> Mounted
     requires kept { IfSome (D.told disk.old) IsKept }
-    ensures content { WhereTold (SettlesFile result) (D.told disk.old) (D.told disk.new) }
+    ensures content { WhereExposed (SettlesFile result) (D.told disk.old) (D.told disk.new) }
     ensures whole { IsWhole result }
     ensures same { D.names disk.new ≡ D.names disk.old }
     ensures count { D.faults disk.old ≤ D.faults disk.new }
@@ -147,7 +147,7 @@ impl Journal {
     /// what it reads is on the disk, and then reads each record; one at a time is in memory. While
     /// the call is under way a crash leaves the records of some image that it could leave before.
     pub fn mount<D: Disk>(alloc: Global, disk: &mut D) -> Mounted
-        ensures content { WhereTold (Mounts result) (D.told disk.old) (D.told disk.new) }
+        ensures content { WhereExposed (Mounts result) (D.told disk.old) (D.told disk.new) }
         ensures whole { IsWhole result }
         ensures mounted { IsReady result (D.told disk.new) }
         ensures same { D.names disk.new ≡ D.names disk.old }

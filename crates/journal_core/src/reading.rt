@@ -1,7 +1,7 @@
 //! Parts of a file that is on the disk, and what stands at a gate there.
 
 ghost use Rattle.std.specs.Prelude.{◌≡◌, ◌≤◌, ◌<◌, ◌+◌, ◌^◌, IfSome, MatchOption, length};
-ghost use Rattle.ae_edge.specs.Devices.{WhereTold};
+ghost use Rattle.ae_edge.specs.Devices.{WhereExposed};
 ghost use Rattle.disk.specs.Calls.{CountsGiven, IsWithin};
 ghost use Rattle.disk.specs.Durable.{IsKept};
 ghost use Rattle.journal_core.specs.Reading.{CountsStood, HasLength, IsHead, IsInside, IsKeptTo, LacksLength, ReadsPart, ReadsRecord, Stands};
@@ -19,7 +19,7 @@ pub(crate) fn read_part<D: Disk>(alloc: Global, disk: &mut D, at: u64, len: usiz
     requires kept { IfSome (D.told disk.old) IsKept }
     requires end { at + len ≤ 2 ^ 64 }
     ensures piece { IsWithin len result }
-    ensures content { WhereTold (ReadsPart result at len) (D.told disk.old) (D.told disk.new) }
+    ensures content { WhereExposed (ReadsPart result at len) (D.told disk.old) (D.told disk.new) }
     ensures same { D.names disk.new ≡ D.names disk.old }
     ensures count { D.faults disk.old ≤ D.faults disk.new }
     ensures counts { CountsGiven result (D.faults disk.old) (D.faults disk.new) }
@@ -101,7 +101,7 @@ pub(crate) enum Stood {
 fn record_at<D: Disk>(alloc: Global, disk: &mut D, at: u64, len: u64) -> Stood
     requires kept { IfSome (D.told disk.old) IsKept }
     requires end { at + len ≤ 2 ^ 64 }
-    ensures content { WhereTold (ReadsRecord result at len) (D.told disk.old) (D.told disk.new) }
+    ensures content { WhereExposed (ReadsRecord result at len) (D.told disk.old) (D.told disk.new) }
     ensures inside { IsInside result at (at + len) }
     ensures same { D.names disk.new ≡ D.names disk.old }
     ensures count { D.faults disk.old ≤ D.faults disk.new }
@@ -122,7 +122,7 @@ fn record_at<D: Disk>(alloc: Global, disk: &mut D, at: u64, len: u64) -> Stood
 pub(crate) fn stood_at<D: Disk>(alloc: Global, disk: &mut D, gate: u64, last: u64) -> Stood
     requires kept { IfSome (D.told disk.old) (IsKeptTo last) }
     requires before { gate ≤ last }
-    ensures content { WhereTold (Stands result gate) (D.told disk.old) (D.told disk.new) }
+    ensures content { WhereExposed (Stands result gate) (D.told disk.old) (D.told disk.new) }
     ensures inside { IsInside result (gate + 9) last }
     ensures same { D.names disk.new ≡ D.names disk.old }
     ensures count { D.faults disk.old ≤ D.faults disk.new }

@@ -1,7 +1,7 @@
 //! Records: one or more whole frames of requests to execute a statement, each in its own version.
 
 ghost use Rattle.std.specs.Prelude.{◌≡◌, ◌↔◌, IfOk, IsTrue};
-ghost use Rattle.journal_core.specs.Records.{Fronts, IsExecute, IsRecord};
+ghost use Rattle.journal_core.specs.Records.{Prefixes, IsExecute, IsRecord};
 
 use std::alloc::{AllocError, Global};
 use wire_frames::{Decoded, decode_request, one_reading};
@@ -28,7 +28,7 @@ fn is_execute(request: &Request<'_>) -> bool
 
 /// Reads the frame at the front.
 fn front_of(alloc: Global, bytes: &[u8]) -> Front
-    ensures { Fronts result bytes.now }
+    ensures { Prefixes result bytes.now }
 {
     match decode_request(alloc, bytes) {
         Decoded::One(asked, used) => {

@@ -1,7 +1,7 @@
 //! A file is read as a journal, from gate to gate.
 
 ghost use Rattle.std.specs.Prelude.{◌≡◌, ◌≤◌, IfSome};
-ghost use Rattle.ae_edge.specs.Devices.{WhereTold};
+ghost use Rattle.ae_edge.specs.Devices.{WhereExposed};
 ghost use Rattle.journal_core.specs.Reading.{IsKeptTo};
 ghost use Rattle.journal_core.specs.Scanning.{CountsScanned, Scans};
 
@@ -26,7 +26,7 @@ pub(crate) enum Scanned {
 pub(crate) fn scan<D: Disk>(alloc: Global, disk: &mut D, last: u64) -> Scanned
     requires kept { IfSome (D.told disk.old) (IsKeptTo last) }
     requires long { 1 ≤ last }
-    ensures content { WhereTold (Scans result) (D.told disk.old) (D.told disk.new) }
+    ensures content { WhereExposed (Scans result) (D.told disk.old) (D.told disk.new) }
     ensures same { D.names disk.new ≡ D.names disk.old }
     ensures count { D.faults disk.old ≤ D.faults disk.new }
     ensures counts { CountsScanned result (D.faults disk.old) (D.faults disk.new) }

@@ -6,7 +6,7 @@ use Rattle.std.proofs.lemmas.List.Elements.{Contains-append_left, Contains-appen
 use Rattle.ae_base.specs.Atoms.{Atom}
 use Rattle.ae_base.specs.declared.atoms.AtomOf.TheVariants.{Null, Plain, Sealed}
 use Rattle.ae_base.specs.declared.types.Ty.{Ty}
-use Rattle.blind_laws.specs.Renaming.{AreCells, IsRenaming}
+use Rattle.renaming_laws.specs.Renaming.{AreCells, IsRenaming}
 use Rattle.first_seen.specs.Parts.{Part, SpotsPaired, PartsCorrespond, AreRenamed, IsCellRenaming}
 use Rattle.first_seen.specs.Laws.{Pair, Pairs, pairs_in, TellsApart}
 use Rattle.first_seen.proofs.Interface.{listed_alike, told_alike}

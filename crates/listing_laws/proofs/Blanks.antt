@@ -6,7 +6,7 @@ use Rattle.ae_base.specs.declared.atoms.AtomOf.TheVariants.{Null, Plain, Sealed}
 use Rattle.ae_base.specs.declared.frames.FrameVersion.{FrameVersion}
 use Rattle.ae_base.specs.declared.types.Ty.{Ty}
 use Rattle.ae_base.specs.declared.types.Enc.{Enc}
-use Rattle.blind_laws.specs.Renaming.{PairsCells}
+use Rattle.renaming_laws.specs.Renaming.{PairsCells}
 use Rattle.first_seen.specs.Parts.{Spot, SpotsPaired, Renames, AreRenamed}
 use Rattle.scalar.specs.Classes.{Class, Open, Det, Rnd, Pairing, class_of}
 use Rattle.server_core.specs.Correspond.{CellsPaired, SentAtomsCorrespond, ParamsCorrespond, RequestsCorrespond}

@@ -5,7 +5,7 @@ use Rattle.std.proofs.lemmas.List.Elements.{All-head, All-tail}
 use Rattle.ae_base.specs.Atoms.{Atom}
 use Rattle.ae_base.specs.declared.atoms.AtomOf.TheVariants.{Null, Plain, Sealed}
 use Rattle.ae_base.specs.declared.frames.FrameVersion.{FrameVersion}
-use Rattle.blind_laws.specs.Renaming.{PairsCells, IsRenaming}
+use Rattle.renaming_laws.specs.Renaming.{PairsCells, IsRenaming}
 use Rattle.frame_laws.specs.Correspond.{PayloadCorresponds, PayloadsCorrespond, classes_past}
 use Rattle.scalar.specs.Classes.{Class, Open, Det, Rnd, Pairing, Entry, Listing, NullOr, Correspond, RowsCorrespond}
 use Rattle.server_core.specs.Correspond.{CellsPaired, SentAtomsCorrespond, ReplyCorresponds}
@@ -14,7 +14,7 @@ use Rattle.wire_messages.specs.declared.replies.Reply.{Reply}
 use Rattle.wire_messages.specs.declared.replies.Reply.TheVariants.{Described, Columns, Row, Ended, Refused}
 use Rattle.wire_payloads.specs.declared.payloads.Payload.{Payload}
 use Rattle.wire_payloads.specs.declared.payloads.Payload.TheVariants.{One, Rows}
-use Rattle.wire_spelling.specs.Packing.{payloads_of}
+use Rattle.wire_encoding.specs.Packing.{payloads_of}
 use Rattle.tap_listing.specs.Frames.{classes_behind, entries_of}
 use Rattle.tap_listing.specs.declared.frames.Frame.{Frame}
 use Rattle.listing_laws.specs.Recorded.{told_in, recorded, ExchangesCarriedAlike, FitsClass, RowFits, ReplyFits, PayloadFits}

@@ -6,8 +6,8 @@ use Rattle.scalar.specs.Classes.{Pairing, Listing}
 use Rattle.server_core.specs.Correspond.{ExchangesCorrespond}
 use Rattle.listing_laws.specs.Laws.{ExchangesListedAlike}
 use Rattle.listing_laws.specs.Recorded.{ExchangesCarriedAlike}
-use Rattle.twin_scripts.specs.Laws.{TwinsAlike, AreCarriedAlike, passed_over}
-use Rattle.twin_scripts.specs.Pairs.{pairs_in}
+use Rattle.twin_laws.specs.Laws.{TwinsAlike, AreCarriedAlike, passed_over}
+use Rattle.twin_laws.specs.Pairs.{pairs_in}
 use Rattle.listing_laws.specs.Laws.{TwinsAreListedAlike}
 use Rattle.wire_messages.specs.Exchanges.{Exchange}
 

@@ -5,20 +5,20 @@ use Rattle.ae_base.specs.declared.atoms.AtomOf.TheVariants.{Sealed}
 use Rattle.ae_base.specs.declared.frames.FrameVersion.{FrameVersion}
 use Rattle.ae_edge.specs.Vaults.{KeyMap}
 use Rattle.aes_block.specs.Bytes.{AreBytes}
-use Rattle.blind_laws.specs.Renaming.{IsRenaming}
+use Rattle.renaming_laws.specs.Renaming.{IsRenaming}
 use Rattle.frame_laws.specs.Correspond.{PayloadCorresponds}
 use Rattle.listing_laws.specs.Recorded.{recorded, ExchangesCarriedAlike, PayloadFits}
 use Rattle.listing_laws.specs.Renamed.{FramesRenamed, PayloadRenamed, pairs_between}
-use Rattle.plain_meaning.specs.Alike.{Alike}
-use Rattle.plain_meaning.specs.Reference.{nothing_held}
+use Rattle.plaintext_laws.specs.Alike.{Alike}
+use Rattle.plaintext_laws.specs.Reference.{nothing_held}
 use Rattle.scalar.specs.Classes.{Class, Open, Entry, Listing}
 use Rattle.script_lang.specs.Limits.{IsProperStep, IsWithinLimits}
 use Rattle.script_lang.specs.declared.steps.Step.{Step}
 use Rattle.server_core.specs.Serve.{empty_state}
 use Rattle.tap_listing.specs.Frames.{entries_of}
 use Rattle.tap_listing.specs.declared.frames.Frame.{Frame}
-use Rattle.twin_scripts.specs.Laws.{IsNotDry, passed_over}
-use Rattle.twin_scripts.specs.Twins.{AreTwinLiterals, AreTwins}
+use Rattle.twin_laws.specs.Laws.{IsNotDry, passed_over}
+use Rattle.twin_laws.specs.Twins.{AreTwinLiterals, AreTwins}
 use Rattle.wire_messages.specs.Exchanges.{Exchange}
 use Rattle.wire_messages.specs.declared.replies.Reply.TheVariants.{Row}
 use Rattle.wire_payloads.specs.declared.payloads.Payload.TheVariants.{One}

@@ -12,7 +12,7 @@ use Rattle.wire_messages.specs.declared.replies.Reply.{Reply}
 use Rattle.wire_messages.specs.declared.replies.Reply.TheVariants.{Described, Columns, Row, Ended, Refused}
 use Rattle.wire_payloads.specs.declared.payloads.Payload.{Payload}
 use Rattle.wire_payloads.specs.declared.payloads.Payload.TheVariants.{One, Rows}
-use Rattle.wire_spelling.specs.Packing.{payloads_of}
+use Rattle.wire_encoding.specs.Packing.{payloads_of}
 use Rattle.tap_listing.specs.declared.frames.Frame.{Frame}
 use Rattle.tap_listing.specs.declared.frames.Frame.TheVariants.{Asked, Told}
 

@@ -10,7 +10,7 @@ ghost use Rattle.listing_laws.specs.Laws.{
   TwinsAreListedAlike,
 };
 
-use twin_scripts::laws::twins_alike;
+use twin_laws::laws::twins_alike;
 
 /// Recordings of which one is the other under a renaming have one listing.
 pub fn listings_hide_renamings()

@@ -80,7 +80,7 @@ use Rattle.lookups.specs.Lookups.{
 use Rattle.lookups.specs.Conjuncts.{conjuncts}
 use Rattle.lookups.specs.Reach.{is_safe}
 use Rattle.lookups.proofs.Reaching.{and_both}
-use Rattle.lookups.proofs.Holding.{ok_bool, held, holds, asks_safe, holds_conjuncts, OnFront, kept, atom_front}
+use Rattle.lookups.proofs.Holding.{ok_bool, held, holds, asks_safe, holds_conjuncts, OnPrefix, kept, atom_front}
 use Rattle.lookups.proofs.Equal.{equal_atoms, atom_eq_back}
 
 -- ---- what a look-up is given by
@@ -396,7 +396,7 @@ same_key (place ∷ places) n row next le e =
     ∙ ap (λ k. atom_at row place ∷ k) (same_key places n row next le both.1)
 
 -- a look-up reads the first columns alone
-pub found_front : (params : List Atom) (n : ℕ) (lookup : Lookup) → list_all (λ place. nat_lt place n) lookup.places ≡ true → OnFront n (is_found params lookup [])
+pub found_front : (params : List Atom) (n : ℕ) (lookup : Lookup) → list_all (λ place. nat_lt place n) lookup.places ≡ true → OnPrefix n (is_found params lookup [])
 found_front params n lookup e = λ row next le.
     ap (λ k. list_any (λ values. pointwise atom_eq (key_at params [] values) k) lookup.keys) (same_key lookup.places n row next le e)
 

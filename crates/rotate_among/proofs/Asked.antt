@@ -1,14 +1,14 @@
 -- A request that is asked behind those of others, whole or in part; and what is heard of the replies to it.
 use Rattle.std.proofs.Common.{◌≡◌, ℕ, List, [], ◌∷◌, ◌++◌, Option, None, refl, sym, ◌∙◌, ap, subst, append-nil, arith, inr}
 use Rattle.std.specs.Borrow.{GName}
-use Rattle.ae_edge.specs.Devices.{WhereTold, Adds, AddsFront}
+use Rattle.ae_edge.specs.Devices.{WhereExposed, Adds, AddsPrefix}
 use Rattle.ae_edge.proofs.Interface.{adds_front_none}
 use Rattle.wire_frames.specs.Frames.{Placed}
 use Rattle.wire_messages.specs.Exchanges.{Exchange}
 use Rattle.wire_messages.specs.declared.replies.Reply.{Reply}
 use Rattle.wire_messages.specs.declared.requests.Request.{Request}
-use Rattle.wire_spelling.specs.Packing.{packed}
-use Rattle.wire_spelling.specs.Spelling.{request_frame}
+use Rattle.wire_encoding.specs.Packing.{packed}
+use Rattle.wire_encoding.specs.Spelling.{request_frame}
 use Rattle.conversation.specs.Paths.{Asked}
 use Rattle.run_effects.specs.Shares.{Queue, Wire, AreServed, queue_of}
 use Rattle.run_effects.specs.Ways.{AsksInPart, IsSilent}
@@ -23,7 +23,7 @@ abbrev queue : List (Placed Reply) → ℕ → Queue
 queue waiting behind = record { waiting = waiting; behind = behind }
 
 module _ (request : Request) (replies : List Reply) (old : Wire) (unlogged : old.log ≡ None) (unread : old.stream ≡ None) (state : Option Beside)
-    (served : WhereTold (AreServed (Asked request replies ∷ [])) old.state state) (names : List (List GName)) (same : names ≡ old.names) where
+    (served : WhereExposed (AreServed (Asked request replies ∷ [])) old.state state) (names : List (List GName)) (same : names ≡ old.names) where
   abbrev Passed : List ℕ
   Passed = request_frame old.version request ++ packed old.version replies
 
@@ -63,7 +63,7 @@ module _ (request : Request) (replies : List Reply) (old : Wire) (unlogged : old
       inr (
         replies,
         silent,
-        record { names = same; version = refl; tap = subst (λ w. AddsFront w old.tap tap) (sym (append-nil Passed)) h.0; log = logged; state = served; count = h.1; closed = refl },
+        record { names = same; version = refl; tap = subst (λ w. AddsPrefix w old.tap tap) (sym (append-nil Passed)) h.0; log = logged; state = served; count = h.1; closed = refl },
       ),
     ),
     h.2,
@@ -73,7 +73,7 @@ module _ (request : Request) (replies : List Reply) (old : Wire) (unlogged : old
     inr (
       replies,
       silent,
-      record { names = same; version = refl; tap = subst (λ w. AddsFront w old.tap tap) (sym (append-nil Passed)) h.0; log = logged; state = served; count = h.1; closed = refl },
+      record { names = same; version = refl; tap = subst (λ w. AddsPrefix w old.tap tap) (sym (append-nil Passed)) h.0; log = logged; state = served; count = h.1; closed = refl },
     ),
   )
 

@@ -2,7 +2,7 @@
 use Rattle.std.proofs.Common.{◌≡◌, ℕ, zero, suc, ◌+◌, ◌<◌, ◌≤◌, List, [], ◌∷◌, Option, Some, None, Bool, true, false, refl, sym, ◌∙◌, ap, subst, take, drop, drop-cons, get_or, length, arith, add-one}
 use Rattle.std.proofs.Math.ListN.{drop_of_length-le}
 use Rattle.std.specs.Prelude.{is_some}
-use Rattle.ae_edge.specs.Devices.{WhereTold}
+use Rattle.ae_edge.specs.Devices.{WhereExposed}
 use Rattle.wire_messages.specs.Exchanges.{Served}
 use Rattle.wire_messages.specs.declared.replies.Reply.{Reply}
 use Rattle.wire_messages.specs.declared.requests.Request.{Request}
@@ -29,8 +29,8 @@ one_more_of (suc i) (request ∷ requests) d s lt = one_more_of i requests d (se
 
 -- one more is asked of a peer
 pub one_more : (i : ℕ) (requests : List Request) (d request : Request) (replies : List Reply) (a b c : Option State) → i < length requests → request ≡ get_or requests i d
-    → WhereTold (λ old new. new ≡ (serve_all old (take i requests)).1) a b → WhereTold (λ old new. serve old request ≡ record { replies = replies; after = new }) b c
-    → WhereTold (λ old new. new ≡ (serve_all old (take (i + 1) requests)).1) a c
+    → WhereExposed (λ old new. new ≡ (serve_all old (take i requests)).1) a b → WhereExposed (λ old new. serve old request ≡ record { replies = replies; after = new }) b c
+    → WhereExposed (λ old new. new ≡ (serve_all old (take (i + 1) requests)).1) a c
 one_more i requests d request replies (Some x) (Some y) (Some z) lt e h g =
     let n : (serve y request).after ≡ z = ap (λ (s : Served State). s.after) g in
     rw add-one (sym n ∙ ap (λ w. (serve w request).after) h ∙ ap (λ w. (serve (serve_all x (take i requests)).1 w).after) e ∙ sym (one_more_of i requests d x lt))
@@ -40,14 +40,14 @@ one_more i requests d request replies (Some x) None c lt e h g = absurd h
 one_more i requests d request replies None (Some y) c lt e h g = absurd h
 one_more i requests d request replies None None (Some z) lt e h g = absurd g
 
-pub none_asked : (requests : List Request) (a : Option State) → WhereTold (λ old new. new ≡ (serve_all old (take 0 requests)).1) a a
+pub none_asked : (requests : List Request) (a : Option State) → WhereExposed (λ old new. new ≡ (serve_all old (take 0 requests)).1) a a
 none_asked requests (Some x) = refl
 none_asked requests None = tt
 
 -- all were asked, and then one more
 pub asked_behind : (others : List Request) (request : Request) (replies : List Reply) (a b c : Option State)
-    → WhereTold (λ old new. new ≡ (serve_all old others).1) a b → WhereTold (λ old new. serve old request ≡ record { replies = replies; after = new }) b c
-    → WhereTold (λ old new. serve (serve_all old others).1 request ≡ record { replies = replies; after = new }) a c
+    → WhereExposed (λ old new. new ≡ (serve_all old others).1) a b → WhereExposed (λ old new. serve old request ≡ record { replies = replies; after = new }) b c
+    → WhereExposed (λ old new. serve (serve_all old others).1 request ≡ record { replies = replies; after = new }) a c
 asked_behind others request replies (Some x) (Some y) (Some z) h g = ap (λ w. serve w request) (sym h) ∙ g
 asked_behind others request replies None None None h g = tt
 asked_behind others request replies (Some x) (Some y) None h g = absurd g
@@ -66,8 +66,8 @@ none_lacks None e = refl
 none_lacks (Some u) e = absurd cc
 
 module _ (between : List (List Request)) (request : Request) where
-  served_told : (replies : List Reply) (a b : Option State) → WhereTold (λ old new. serve (serve_all old (first_of between)).1 request ≡ record { replies = replies; after = new }) a b
-      → WhereTold (AreServed (Asked request replies ∷ [])) (told_beside between None a) (told_beside (rest_of between) None b)
+  served_told : (replies : List Reply) (a b : Option State) → WhereExposed (λ old new. serve (serve_all old (first_of between)).1 request ≡ record { replies = replies; after = new }) a b
+      → WhereExposed (AreServed (Asked request replies ∷ [])) (told_beside between None a) (told_beside (rest_of between) None b)
   served_told replies (Some x) (Some y) e =
       (beside (rest_of between) y, ap (λ (s : Served State). record { replies = s.replies; after = beside (rest_of between) s.after }) e, refl)
   served_told replies None None e = tt
@@ -76,15 +76,15 @@ module _ (between : List (List Request)) (request : Request) where
 
   -- it was served behind those of the others
   pub served_so : (first : List Request) (rest : List (List Request)) → first ≡ first_of between → rest ≡ rest_of between → (u : Option Unasked) → is_some u ≡ false
-      → (replies : List Reply) (a b : Option State) → WhereTold (λ old new. serve (serve_all old first).1 request ≡ record { replies = replies; after = new }) a b
-      → WhereTold (AreServed (Asked request replies ∷ [])) (told_beside between u a) (told_beside rest u b)
+      → (replies : List Reply) (a b : Option State) → WhereExposed (λ old new. serve (serve_all old first).1 request ≡ record { replies = replies; after = new }) a b
+      → WhereExposed (AreServed (Asked request replies ∷ [])) (told_beside between u a) (told_beside rest u b)
   served_so first rest e f u n replies a b h =
-      let g = served_told replies a b (subst (λ w. WhereTold (λ old new. serve (serve_all old w).1 request ≡ record { replies = replies; after = new }) a b) e h) in
-      subst (λ w. WhereTold (AreServed (Asked request replies ∷ [])) (told_beside between w a) (told_beside rest w b)) (sym (none_lacks u n))
-      (subst (λ w. WhereTold (AreServed (Asked request replies ∷ [])) (told_beside between None a) (told_beside w None b)) (sym f) g)
+      let g = served_told replies a b (subst (λ w. WhereExposed (λ old new. serve (serve_all old w).1 request ≡ record { replies = replies; after = new }) a b) e h) in
+      subst (λ w. WhereExposed (AreServed (Asked request replies ∷ [])) (told_beside between w a) (told_beside rest w b)) (sym (none_lacks u n))
+      (subst (λ w. WhereExposed (AreServed (Asked request replies ∷ [])) (told_beside between None a) (told_beside w None b)) (sym f) g)
 
-  lacks_told : (asked : ℕ) (a b : Option State) → WhereTold (λ old new. new ≡ (serve_all old (take asked (first_of between))).1) a b
-      → (replies : List Reply) × WhereTold (AreServed (Asked request replies ∷ [])) (told_beside between None a) (told_beside between (Some (record { request = request; others = asked })) b)
+  lacks_told : (asked : ℕ) (a b : Option State) → WhereExposed (λ old new. new ≡ (serve_all old (take asked (first_of between))).1) a b
+      → (replies : List Reply) × WhereExposed (AreServed (Asked request replies ∷ [])) (told_beside between None a) (told_beside between (Some (record { request = request; others = asked })) b)
   lacks_told asked (Some x) (Some y) e =
       let s = serve (serve_all x (first_of between)).1 request in
       let all : (serve_all y (drop asked (first_of between))).1 ≡ (serve_all x (first_of between)).1 =
@@ -96,13 +96,13 @@ module _ (between : List (List Request)) (request : Request) where
 
   -- it wasn't asked
   pub lacks_so : (first : List Request) → first ≡ first_of between → (u : Option Unasked) → is_some u ≡ false → (own : Request) → own ≡ request
-      → (asked : ℕ) (a b : Option State) → WhereTold (λ old new. new ≡ (serve_all old (take asked first)).1) a b
-      → (replies : List Reply) × WhereTold (AreServed (Asked request replies ∷ [])) (told_beside between u a) (told_beside between (Some (record { request = own; others = asked })) b)
+      → (asked : ℕ) (a b : Option State) → WhereExposed (λ old new. new ≡ (serve_all old (take asked first)).1) a b
+      → (replies : List Reply) × WhereExposed (AreServed (Asked request replies ∷ [])) (told_beside between u a) (told_beside between (Some (record { request = own; others = asked })) b)
   lacks_so first e u n own f asked a b h =
-      let g = lacks_told asked a b (subst (λ w. WhereTold (λ old new. new ≡ (serve_all old (take asked w)).1) a b) e h) in (
+      let g = lacks_told asked a b (subst (λ w. WhereExposed (λ old new. new ≡ (serve_all old (take asked w)).1) a b) e h) in (
         g.0,
-        subst (λ w. WhereTold (AreServed (Asked request g.0 ∷ [])) (told_beside between w a) (told_beside between (Some (record { request = own; others = asked })) b)) (sym (none_lacks u n))
-            (subst (λ w. WhereTold (AreServed (Asked request g.0 ∷ [])) (told_beside between None a) (told_beside between (Some (record { request = w; others = asked })) b)) (sym f) g.1),
+        subst (λ w. WhereExposed (AreServed (Asked request g.0 ∷ [])) (told_beside between w a) (told_beside between (Some (record { request = own; others = asked })) b)) (sym (none_lacks u n))
+            (subst (λ w. WhereExposed (AreServed (Asked request g.0 ∷ [])) (told_beside between None a) (told_beside between (Some (record { request = w; others = asked })) b)) (sym f) g.1),
       )
 
 -- ---- what others ask before the next request

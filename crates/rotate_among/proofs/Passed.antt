@@ -24,7 +24,7 @@ use Rattle.column_rotate.specs.Rotating as rotating_as
 use Rattle.column_rotate.specs.Rotating.{fault_as, rotating}
 use Rattle.driver.specs.declared.outcomes.Fault.{Fault}
 use Rattle.driver.specs.declared.outcomes.Fault.TheVariants.{OfServer, OfDriver}
-use Rattle.proper_values.specs.Proper.{IsIdentifier}
+use Rattle.proper_value_laws.specs.Proper.{IsIdentifier}
 use Rattle.run_effects.specs.Shares.{Outside, exchanges_of, frames_of, messages_of}
 use Rattle.run_effects.specs.Events.{stop_events}
 use Rattle.run_effects.specs.Ways.{Proceeds, IsStuck, StopsBy}
@@ -35,8 +35,8 @@ use Rattle.run_command.specs.Transcript.{exchange_frames}
 use Rattle.script_run.specs.Rotations.{rotated_as}
 use Rattle.server_core.specs.Beside.{Beside, serve_beside}
 use Rattle.server_core.specs.Serve.{State, empty_state}
-use Rattle.served_rotations.specs.Beside.{all_asked, others_asked, rotated_beside, rotation, session_of}
-use Rattle.served_rotations.specs.Laws.{AskingLeavesNoTrace, FinishedIsWhole, IsFinished, RotationsTellOneOutcome, UnfinishedLeavesNoTrace, behind}
+use Rattle.served_rotation_laws.specs.Beside.{all_asked, others_asked, rotated_beside, rotation, session_of}
+use Rattle.served_rotation_laws.specs.Laws.{AskingLeavesNoTrace, FinishedIsWhole, IsFinished, RotationsTellOneOutcome, UnfinishedLeavesNoTrace, behind}
 use Rattle.rotate_among.specs.Beside.{beside, told_beside}
 use Rattle.rotate_among.specs.Coming.{Comes, Kept, Lent, Names, outside, untouched}
 use Rattle.rotate_among.specs.Moving as moving

@@ -12,8 +12,8 @@ use Rattle.conversation.specs.Talk.{Talk, Ends, Stops, Asks, Hears, Notes, Draws
 use Rattle.run_effects.specs.Shares.{AreServed, exchanges_of}
 use Rattle.server_core.specs.Beside.{Beside, first_of, rest_of, serve_beside}
 use Rattle.server_core.specs.Serve.{State, serve, serve_all}
-use Rattle.served_rotations.specs.Beside.{all_asked}
-use Rattle.served_rotations.specs.Laws.{behind}
+use Rattle.served_rotation_laws.specs.Beside.{all_asked}
+use Rattle.served_rotation_laws.specs.Laws.{behind}
 
 behind_more : (s : State) (xs ys : List Request) → behind s (xs ++ ys) ≡ behind (behind s xs) ys
 behind_more s [] ys = refl

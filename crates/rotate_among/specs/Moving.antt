@@ -9,8 +9,8 @@ use Rattle.driver.specs.declared.outcomes.Fault.{Fault}
 use Rattle.run_command.specs.Transcript.{exchange_frames}
 use Rattle.server_core.specs.Beside.{Beside}
 use Rattle.server_core.specs.Serve.{State}
-use Rattle.served_rotations.specs.Beside.{all_asked, others_asked, rotated_beside, session_of}
-use Rattle.served_rotations.specs.Laws.{FitMeanwhile, IsWhole, behind}
+use Rattle.served_rotation_laws.specs.Beside.{all_asked, others_asked, rotated_beside, session_of}
+use Rattle.served_rotation_laws.specs.Laws.{FitMeanwhile, IsWhole, behind}
 use Rattle.rotate_among.specs.declared.rotating.Rotated.{Rotated}
 use Rattle.rotate_among.specs.declared.rotating.Rotated.TheVariants as came
 

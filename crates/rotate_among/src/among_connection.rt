@@ -1,7 +1,7 @@
 //! A peer that other sessions ask too.
 
 ghost use Rattle.std.specs.Prelude.{◌≡◌, ◌∷◌, [], None, false, MatchResult, drop, take};
-ghost use Rattle.ae_edge.specs.Devices.{WhereTold};
+ghost use Rattle.ae_edge.specs.Devices.{WhereExposed};
 ghost use Rattle.run_effects.specs.Shares.{Wire};
 ghost use Rattle.run_command.specs.Queues.{all_placed};
 ghost use Rattle.server_core.specs.Beside.{first_of, rest_of};
@@ -80,9 +80,9 @@ fn next_at(between: &[Seq<Request<'static>>], at: usize) -> usize
 fn ask_all<P: Peer>(alloc: Global, peer: &mut P, requests: &[Request<'static>]) -> Result<(), usize>
     ensures same { P.names peer.new ≡ P.names peer.old }
     ensures state { MatchResult result
-        (λ _. WhereTold (λ old new. new ≡ (serve_all old requests.now).1)
+        (λ _. WhereExposed (λ old new. new ≡ (serve_all old requests.now).1)
         (P.state peer.old) (P.state peer.new))
-        (λ asked. WhereTold (λ old new. new ≡ (serve_all old (take asked requests.now)).1)
+        (λ asked. WhereExposed (λ old new. new ≡ (serve_all old (take asked requests.now)).1)
         (P.state peer.old) (P.state peer.new)) }
 {
     let mut asked = 0;
@@ -105,11 +105,11 @@ fn ask_behind<P: Peer>(
 ) -> Result<Seq<Reply<'static>>, usize>
     ensures same { P.names peer.new ≡ P.names peer.old }
     ensures state { MatchResult result
-        (λ replies. WhereTold (λ old new. serve (serve_all old others.now).1 request.now ≡ record {
+        (λ replies. WhereExposed (λ old new. serve (serve_all old others.now).1 request.now ≡ record {
           replies = replies;
           after = new;
         }) (P.state peer.old) (P.state peer.new))
-        (λ asked. WhereTold (λ old new. new ≡ (serve_all old (take asked others.now)).1)
+        (λ asked. WhereExposed (λ old new. new ≡ (serve_all old (take asked others.now)).1)
         (P.state peer.old) (P.state peer.new)) }
 {
     match ask_all(alloc, peer, others) {

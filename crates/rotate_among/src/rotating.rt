@@ -9,7 +9,7 @@ ghost use Rattle.column_rotate.specs.Rotating as rotating_as;
 ghost use Rattle.conversation.specs.declared.sessions.Session.TheVariants.{Idle};
 ghost use Rattle.driver.specs.Clients.{IsOfVault, session_of};
 ghost use Rattle.server_core.specs.Serve.{empty_state};
-ghost use Rattle.served_rotations.specs.Laws.{behind};
+ghost use Rattle.served_rotation_laws.specs.Laws.{behind};
 ghost use Rattle.script_run.specs.Onward as onward;
 ghost use Rattle.rotate_among.specs.Beside.{beside};
 ghost use Rattle.rotate_among.specs.Coming.{Comes, IfEnded, IsBy};
@@ -29,7 +29,7 @@ use run_command::peer_connection::Waiting;
 use run_effects::stops::Stop;
 use script_run::env::Env;
 use script_run::runs::rotate_lent;
-use served_rotations::laws::{
+use served_rotation_laws::laws::{
     asking_rotations_leave_no_trace, finished_rotations_are_whole, rotations_tell_one_outcome,
     unfinished_rotations_leave_no_trace,
 };

@@ -29,7 +29,7 @@ use Rattle.transactions.specs.Serial.{Deed}
 use Rattle.transactions.specs.Stores.{Executes, ask_by}
 use Rattle.server_core.specs.Serve.{ask_of}
 use Rattle.column_rotate.specs.Texts.{puts, reads_all, replaces}
-use Rattle.proper_values.specs.Proper.{IsIdentifier}
+use Rattle.proper_value_laws.specs.Proper.{IsIdentifier}
 use Rattle.rotation_laws.specs.Laws.{AreColumnsOf, IsPut, IsReadWhole, IsReplaced, declared}
 use Rattle.rotation_laws.specs.Deeds.{AreControls, AreDeedsOf, AreRowsPut, HasBoth, IsDeedOf, IsRead, IsRowPut, IsSwap, RotationTextsMean, asked_by}
 use Rattle.rotation_laws.proofs.Columns.{are_declared, declared-length}

@@ -46,7 +46,7 @@ use Rattle.sql_tree.specs.declared.lexemes.Lexeme.{Lexeme}
 use Rattle.sql_tree.specs.declared.lexemes.Lexeme.TheVariants as lexeme
 use Rattle.sql_tree.specs.Tokens.{front, is_word_byte, is_name, named}
 use Rattle.column_rotate.specs.Texts.{in_brackets, insert_text, more_names, more_placeholders, names, param_name, placeholders}
-use Rattle.proper_values.specs.Proper.{IsIdentifier}
+use Rattle.proper_value_laws.specs.Proper.{IsIdentifier}
 use Rattle.rotation_laws.specs.Laws.{AreIdentifiers}
 use Rattle.rotation_laws.proofs.Lexing.{Lexed, lexed_nil, lexed_blank, lexed_token, lexed_name, between, between_short, bracketed, opens_closing}
 

@@ -9,7 +9,7 @@ use Rattle.catalog.specs.Catalogs.{Catalog, table_named}
 use Rattle.resolve.specs.Bind.{bind}
 use Rattle.statement_analysis.specs.Describing.{binding_of}
 use Rattle.column_rotate.specs.Texts.{reads_all, replaces}
-use Rattle.proper_values.specs.Proper.{IsIdentifier}
+use Rattle.proper_value_laws.specs.Proper.{IsIdentifier}
 use Rattle.rotation_laws.specs.Laws.{IsReplaced, ReadingIsWhole, ReplacingIsReplacement}
 use Rattle.rotation_laws.proofs.Parsing.{select_parsed, replace_parsed}
 use Rattle.rotation_laws.proofs.Binding.{meant, nothing_inferred, select_bound, select_rules, select_whole, select_shown, select_of, query_of, replace_bound, replace_rules, replace_of}

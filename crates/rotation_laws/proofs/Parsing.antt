@@ -11,7 +11,7 @@ use Rattle.sql_tree.specs.Statements.{Statement}
 use Rattle.sql_tree.specs.Statements as tree
 use Rattle.sql_grammar.specs.Texts.{statement_in, parsed_tokens, tree_of}
 use Rattle.column_rotate.specs.Texts.{reads_all, replaces, in_brackets}
-use Rattle.proper_values.specs.Proper.{IsIdentifier}
+use Rattle.proper_value_laws.specs.Proper.{IsIdentifier}
 use Rattle.rotation_laws.specs.Laws.{parsed, star_query}
 use Rattle.rotation_laws.proofs.Lexing.{Lexed, tokens_with, lexed_nil, lexed_blank, lexed_token, lexed_name, between, between_short, bracketed, bracketed_last}
 

@@ -6,7 +6,7 @@ use Rattle.resolve.specs.Bind.{bind}
 use Rattle.ae_base.specs.declared.values.Value.{Value}
 use Rattle.sql_tree.specs.Statements.{Operand}
 use Rattle.wire_messages.specs.declared.columns.SentColumn.{SentColumn}
-use Rattle.proper_values.specs.Proper.{IsIdentifier}
+use Rattle.proper_value_laws.specs.Proper.{IsIdentifier}
 use Rattle.column_rotate.specs.Texts.{insert_text, puts}
 use Rattle.rotation_laws.specs.Laws.{AreIdentifiers, PuttingIsAnInsert, TextsParse, declared, insert_tree, parsed}
 use Rattle.rotation_laws.proofs.Binding.{meant}

@@ -18,7 +18,7 @@ use Rattle.transactions.specs.Serial.{Deed}
 use Rattle.transactions.specs.Stores.{Ask, Begins, Commits, Executes, RollsBack}
 use Rattle.server_core.specs.Serve.{ask_of, prepared}
 use Rattle.column_rotate.specs.Texts.{begins, commits, rolls_back, puts, reads_all, replaces}
-use Rattle.proper_values.specs.Proper.{IsIdentifier}
+use Rattle.proper_value_laws.specs.Proper.{IsIdentifier}
 use Rattle.rotation_laws.specs.Laws.{AreColumnsOf, AreIdentifiers, declared}
 
 -- what a session asks by a batch, over a catalog and at its version

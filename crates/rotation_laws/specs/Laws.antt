@@ -22,7 +22,7 @@ use Rattle.engine.specs.Columns.{result_column}
 use Rattle.engine.specs.declared.answers.ResultColumn.{ResultColumn}
 use Rattle.statement_analysis.specs.Describing.{Meant, understood}
 use Rattle.transactions.specs.Rotating.{IsWholeQuery, IsRowInsert}
-use Rattle.proper_values.specs.Proper.{IsIdentifier}
+use Rattle.proper_value_laws.specs.Proper.{IsIdentifier}
 use Rattle.column_rotate.specs.Texts.{begins, commits, rolls_back, param_name, puts, reads_all, replaces}
 
 -- what the text of a batch parses to

@@ -10,8 +10,8 @@ use Rattle.operators.specs.Alike.{key_of, are_alike}
 use Rattle.operators.proofs.Interface.{drop_there}
 use Rattle.sql_tree.specs.Bound.{BoundOperand}
 use Rattle.indexed_tables.specs.Tables.{places_from}
-use Rattle.keyed_joins.specs.Keyed.{no_nulls}
-use Rattle.keyed_joins.proofs.Interface.{alike_same_keys, null_same_keys}
+use Rattle.hash_joins.specs.Keyed.{no_nulls}
+use Rattle.hash_joins.proofs.Interface.{alike_same_keys, null_same_keys}
 use Rattle.lookups.specs.Lookups.{Lookup, is_found, key_at, rows_found}
 use Rattle.row_lookups.specs.Finding.{has_key, places_of_each, places_where, places_with}
 use Rattle.row_lookups.proofs.Sorted.{Rises, same_rising}

@@ -4,7 +4,7 @@ ghost use Rattle.std.specs.Prelude.{◌≡◌, length, not, IfOk};
 ghost use Rattle.std.specs.List.{All, list_any};
 ghost use Rattle.sql_tree.specs.Operands.{operand_of};
 ghost use Rattle.sql_tree.specs.Placed.{IsPlaced};
-ghost use Rattle.keyed_joins.specs.Keyed.{is_null, no_nulls};
+ghost use Rattle.hash_joins.specs.Keyed.{is_null, no_nulls};
 ghost use Rattle.lookups.specs.Lent.{operands_lent};
 ghost use Rattle.lookups.specs.Lookups.{key_at, worth};
 

@@ -3,7 +3,7 @@ use Rattle.std.proofs.Common.{◌≡◌, ◌≤◌, inl, inr, ℕ, ◌+◌, List
 use Rattle.std.specs.Prelude.{flat_map, IfSome}
 use Rattle.std.proofs.lemmas.Grind.{flat_map-append}
 use Rattle.ae_base.specs.declared.frames.FrameVersion.{FrameVersion}
-use Rattle.ae_edge.specs.Devices.{Adds, AddsFront, IsFront}
+use Rattle.ae_edge.specs.Devices.{Adds, AddsPrefix, IsPrefix}
 use Rattle.ae_edge.specs.Vaults.{KeyMap}
 use Rattle.ae_edge.proofs.Interface.{adds_front_then}
 use Rattle.wire_messages.specs.declared.replies.Reply.{Reply}
@@ -28,7 +28,7 @@ use Rattle.script_run.specs.declared.runs.Ran.TheVariants as ran
 use Rattle.script_run.proofs.Interface.{one_script, text_is}
 use Rattle.script_source.specs.Scripts.{IsScript}
 use Rattle.script_talk.specs.Steps.{talk}
-use Rattle.run_command.specs.Driven.{DrivesFront, DrivesOver, DrivesWhole, IsBad, driven}
+use Rattle.run_command.specs.Driven.{DrivesPrefix, DrivesOver, DrivesWhole, IsBad, driven}
 use Rattle.run_command.specs.Ends.{CameTo, RunDevices, RunsScript, outside}
 use Rattle.run_command.specs.Events.{run_exchanges}
 use Rattle.run_command.specs.Transcript.{IsDone}
@@ -209,16 +209,16 @@ module _ (law : PathIsDriven) (keys : KeyMap) (steps : List Step) (old new : Run
               );
         }
 
-    fronts : (events : List Event) → DrivesOn law keys whole_talk events → HasLeft events first last → DrivesFront old.version keys steps (flat_map exchanges_of events) old new
+    fronts : (events : List Event) → DrivesOn law keys whole_talk events → HasLeft events first last → DrivesPrefix old.version keys steps (flat_map exchanges_of events) old new
     fronts events d left = record {
       drawn = flat_map drawn_in events;
       share = left.drawn;
-      tap = subst (λ xs. AddsFront xs old.tap new.tap) (frames_are old.version events) left.tap;
+      tap = subst (λ xs. AddsPrefix xs old.tap new.tap) (frames_are old.version events) left.tap;
       front = λ more.
           let r = d.rest more in
-          let text : IsFront (flat_map text_of events) (print (flat_map outcome_in events ++ r.outcomes)) =
+          let text : IsPrefix (flat_map text_of events) (print (flat_map outcome_in events ++ r.outcomes)) =
           record { rest = print r.outcomes; is = flat_map-append printed_outcome (flat_map outcome_in events) r.outcomes ∙ ap (λ w. w ++ print r.outcomes) (sym (text_is events)) } in
-          subst (λ (d : Driven). IsFront (requests_in (flat_map exchanges_of events)) d.requests × AddsFront (print d.outcomes) old.out new.out) (sym (d.is more)) (
+          subst (λ (d : Driven). IsPrefix (requests_in (flat_map exchanges_of events)) d.requests × AddsPrefix (print d.outcomes) old.out new.out) (sym (d.is more)) (
             record { rest = r.requests; is = ap (λ w. w ++ r.requests) (sym (asked_are events)) },
             adds_front_then (flat_map text_of events) (print (flat_map outcome_in events ++ r.outcomes)) old.out new.out left.text text,
           );

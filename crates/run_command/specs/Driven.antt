@@ -1,7 +1,7 @@
 -- What a run is over any peer: its driver, driven over the replies that came.
 use Rattle.std.specs.Prelude.{◌≡◌, ℕ, List, [], ◌++◌, flat_map}
 use Rattle.ae_base.specs.declared.frames.FrameVersion.{FrameVersion}
-use Rattle.ae_edge.specs.Devices.{Adds, AddsFront, IsFront}
+use Rattle.ae_edge.specs.Devices.{Adds, AddsPrefix, IsPrefix}
 use Rattle.ae_edge.specs.Vaults.{KeyMap}
 use Rattle.wire_messages.specs.Exchanges.{Exchange}
 use Rattle.conversation.specs.Drive.{Driven, End, Done, Dry, BadReply, drive, replies_in, requests_in}
@@ -36,12 +36,12 @@ pub record DrivesWhole (version : FrameVersion) (IsEnd : End → Type 0) (keys :
       (requests_in came ≡ d.requests) × Adds (print d.outcomes) old.out new.out × (d.entropy ≡ more) × IsEnd d.end
 
 -- where it stopped they are fronts
-pub record DrivesFront (version : FrameVersion) (keys : KeyMap) (steps : List Step) (came : List Exchange) (old new : RunDevices) : Type 0 where
+pub record DrivesPrefix (version : FrameVersion) (keys : KeyMap) (steps : List Step) (came : List Exchange) (old new : RunDevices) : Type 0 where
   pub drawn : List ℕ
   pub share : Drew drawn old.entropy new.entropy
-  pub tap : AddsFront (flat_map (exchange_frames version) came) old.tap new.tap
+  pub tap : AddsPrefix (flat_map (exchange_frames version) came) old.tap new.tap
   pub front : (more : List ℕ) → let d = driven keys steps (drawn ++ more) came in
-      IsFront (requests_in came) d.requests × AddsFront (print d.outcomes) old.out new.out
+      IsPrefix (requests_in came) d.requests × AddsPrefix (print d.outcomes) old.out new.out
 
 -- to the end, up to a reply that isn't awaited, or up to where a device failed or memory ended
 abbrev pub DrivesOver : FrameVersion → Ran → KeyMap → List Step → List Exchange → RunDevices → RunDevices → Type 0
@@ -50,8 +50,8 @@ DrivesOver version ran.Refusals keys steps came old new = DrivesWhole version Is
 DrivesOver version (ran.Stopped (stop.BadReply place)) keys steps came old new = DrivesWhole version IsBad keys steps came old new
 DrivesOver version (ran.Stopped stop.ReadFault) keys steps came old new = ⊥
 DrivesOver version (ran.Stopped stop.TooLong) keys steps came old new = ⊥
-DrivesOver version (ran.Stopped stop.EntropyFault) keys steps came old new = DrivesFront version keys steps came old new
-DrivesOver version (ran.Stopped stop.VaultFault) keys steps came old new = DrivesFront version keys steps came old new
-DrivesOver version (ran.Stopped stop.WriteFault) keys steps came old new = DrivesFront version keys steps came old new
-DrivesOver version (ran.Stopped stop.OutOfMemory) keys steps came old new = DrivesFront version keys steps came old new
+DrivesOver version (ran.Stopped stop.EntropyFault) keys steps came old new = DrivesPrefix version keys steps came old new
+DrivesOver version (ran.Stopped stop.VaultFault) keys steps came old new = DrivesPrefix version keys steps came old new
+DrivesOver version (ran.Stopped stop.WriteFault) keys steps came old new = DrivesPrefix version keys steps came old new
+DrivesOver version (ran.Stopped stop.OutOfMemory) keys steps came old new = DrivesPrefix version keys steps came old new
 DrivesOver version (ran.Unread why) keys steps came old new = new ≡ old

@@ -4,7 +4,7 @@ use Rattle.std.specs.Prelude.{flat_map, IfSome}
 use Rattle.std.specs.Borrow.{GName}
 use Rattle.ae_base.specs.declared.frames.FrameVersion.{FrameVersion}
 use Rattle.ae_base.specs.declared.keys.KeyMeta.{KeyMeta}
-use Rattle.ae_edge.specs.Devices.{Adds, AddsFront}
+use Rattle.ae_edge.specs.Devices.{Adds, AddsPrefix}
 use Rattle.ae_edge.specs.Vaults.{KeyMap}
 use Rattle.ae_edge.proofs.Interface.{told_same, adds_none, removes_none}
 use Rattle.wire_messages.specs.declared.requests.Request.{Request}
@@ -193,12 +193,12 @@ module _ (comes : Outcome) (d : ClientSide) (out : Option (List ℕ)) (faults : 
     vault_count = omega arith;
   }
 
-  pub client_cut : AddsFront (printed_outcome comes) d.out out → ClientPut AddsFront (Printed comes ∷ []) d (record d { out_names = names; out = out; out_faults = faults })
+  pub client_cut : AddsPrefix (printed_outcome comes) d.out out → ClientPut AddsPrefix (Printed comes ∷ []) d (record d { out_names = names; out = out; out_faults = faults })
   client_cut h = record {
     out_same = same;
     entropy_same = refl;
     vault_same = refl;
-    out = subst (λ w. AddsFront w d.out out) (sym (twice_nil (printed_outcome comes))) h;
+    out = subst (λ w. AddsPrefix w d.out out) (sym (twice_nil (printed_outcome comes))) h;
     entropy = removes_none d.entropy;
     keys = refl;
     opened = keys_printed comes d.keys;
@@ -225,7 +225,7 @@ module _ (comes : Outcome) (t u : Talk) (follows : Follows t (Printed comes ∷ 
     limit = λ h. h;
   }
 
-  pub printed_breaks : AddsFront (printed_outcome comes) old.client.out out
+  pub printed_breaks : AddsPrefix (printed_outcome comes) old.client.out out
       → Breaks t old (record old { client = record old.client { out_names = names; out = out; out_faults = faults } })
   printed_breaks h = record {
     between = t;

@@ -3,7 +3,7 @@ use Rattle.std.proofs.Common.{◌≡◌, ℕ, ◌+◌, ◌≤◌, List, [], ◌�
 use Rattle.std.specs.Prelude.{flat_map, IfSome}
 use Rattle.std.proofs.lemmas.Grind.{flat_map-append}
 use Rattle.ae_base.specs.declared.frames.FrameVersion.{FrameVersion}
-use Rattle.ae_edge.specs.Devices.{Rose, WhereTold, Adds, AddsFront}
+use Rattle.ae_edge.specs.Devices.{Rose, WhereExposed, Adds, AddsPrefix}
 use Rattle.ae_edge.specs.Vaults.{KeyMap}
 use Rattle.ae_edge.proofs.Interface.{told_then, told_same, adds_none, adds_then, removes_none, removes_then, front_of, front_same, rose_before}
 use Rattle.server_core.specs.Beside.{Beside}
@@ -89,10 +89,10 @@ opened_then xs ys (Some keys) b e p q = let r : IfSome (Some keys) (OpensAll ys)
 pub puts_then : {A : Type 0} (f : Event → List A) (xs ys : List Event) (a b c : Option (List A)) → Adds (flat_map f xs) a b → Adds (flat_map f ys) b c → Adds (flat_map f (xs ++ ys)) a c
 puts_then f xs ys a b c p q = subst (λ w. Adds w a c) (sym (flat_map-append f xs ys)) (adds_then (flat_map f xs) (flat_map f ys) a b c p q)
 
-drawn_then : (xs ys : List Event) (a b c : Option (List ℕ)) → WhereTold (λ x y. x ≡ flat_map drawn_in xs ++ y) a b → WhereTold (λ x y. x ≡ flat_map drawn_in ys ++ y) b c
-    → WhereTold (λ x y. x ≡ flat_map drawn_in (xs ++ ys) ++ y) a c
+drawn_then : (xs ys : List Event) (a b c : Option (List ℕ)) → WhereExposed (λ x y. x ≡ flat_map drawn_in xs ++ y) a b → WhereExposed (λ x y. x ≡ flat_map drawn_in ys ++ y) b c
+    → WhereExposed (λ x y. x ≡ flat_map drawn_in (xs ++ ys) ++ y) a c
 drawn_then xs ys a b c p q =
-    subst (λ w. WhereTold (λ x y. x ≡ w ++ y) a c) (sym (flat_map-append drawn_in xs ys)) (removes_then (flat_map drawn_in xs) (flat_map drawn_in ys) a b c p q)
+    subst (λ w. WhereExposed (λ x y. x ≡ w ++ y) a c) (sym (flat_map-append drawn_in xs ys)) (removes_then (flat_map drawn_in xs) (flat_map drawn_in ys) a b c p q)
 
 client_then : (xs ys : List Event) (a b c : ClientSide) → ClientPut Adds xs a b → ClientPut Adds ys b c → ClientPut Adds (xs ++ ys) a c
 client_then xs ys a b c p q = record {
@@ -152,7 +152,7 @@ pub no_keys : (keys : Option KeyMap) → IfSome keys (OpensAll [])
 no_keys None = tt
 no_keys (Some keys) = tt
 
-pub same_state : (a : Option Beside) → WhereTold (AreServed []) a a
+pub same_state : (a : Option Beside) → WhereExposed (AreServed []) a a
 same_state = told_same (AreServed []) (λ x. refl)
 
 pub client_still : (a : ClientSide) → ClientPut Adds [] a a
@@ -192,7 +192,7 @@ stay t a = record { events = []; follows = stays t; put = nothing_put a; read = 
 
 -- ---- what was put whole is a front of it
 
-pub client_front : (xs : List Event) (a b : ClientSide) → ClientPut Adds xs a b → ClientPut AddsFront xs a b
+pub client_front : (xs : List Event) (a b : ClientSide) → ClientPut Adds xs a b → ClientPut AddsPrefix xs a b
 client_front xs a b p = record {
   out_same = p.out_same;
   entropy_same = p.entropy_same;
@@ -206,7 +206,7 @@ client_front xs a b p = record {
   vault_count = p.vault_count;
 }
 
-pub wire_front : (xs : List Event) (a b : Wire) → WirePut Adds xs a b → WirePut AddsFront xs a b
+pub wire_front : (xs : List Event) (a b : Wire) → WirePut Adds xs a b → WirePut AddsPrefix xs a b
 wire_front xs a b p = record {
   names = p.names;
   version = p.version;

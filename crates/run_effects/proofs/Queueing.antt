@@ -5,8 +5,8 @@ use Rattle.ae_base.specs.declared.frames.FrameVersion.{FrameVersion}
 use Rattle.wire_messages.specs.declared.replies.Reply.{Reply}
 use Rattle.wire_payloads.specs.Payloads.{replies_of}
 use Rattle.wire_payloads.specs.declared.payloads.Payload.{Payload}
-use Rattle.wire_spelling.specs.Packing.{payload_frame, payloads_of}
-use Rattle.wire_spelling.proofs.Interface.{packed_replies}
+use Rattle.wire_encoding.specs.Packing.{payload_frame, payloads_of}
+use Rattle.wire_encoding.proofs.Interface.{packed_replies}
 use Rattle.wire_frames.specs.Frames.{Placed, placed_from, placed_answer, spread}
 use Rattle.conversation.specs.Paths.{Event, Asked, Took, Strayed, Drew, Opened, Printed, Waits}
 use Rattle.run_effects.specs.Shares.{Queue, Queues, messages_of, with_answer}

@@ -4,7 +4,7 @@ use Rattle.std.specs.Prelude.{flat_map, IfSome}
 use Rattle.std.proofs.lemmas.Grind.{flat_map-append}
 use Rattle.std.proofs.lemmas.List.Elements.{All-append}
 use Rattle.aes_block.specs.Bytes.{AreBytes}
-use Rattle.ae_edge.specs.Devices.{WhereTold}
+use Rattle.ae_edge.specs.Devices.{WhereExposed}
 use Rattle.ae_edge.specs.Vaults.{KeyMap}
 use Rattle.wire_messages.specs.Exchanges.{Served}
 use Rattle.wire_messages.specs.declared.replies.Reply.{Reply}
@@ -50,12 +50,12 @@ alone_serves (Printed comes ∷ events) s b h = alone_serves events s b h
 
 -- where it is told, so is the state behind some events
 pub served_so : {S : Type 0} (told : S → Beside) (serving : S → Request → Served S) → ServesAs told serving
-    → (events : List Event) (a b : Option Beside) (s : S) → a ≡ Some (told s) → WhereTold (AreServed events) a b
+    → (events : List Event) (a b : Option Beside) (s : S) → a ≡ Some (told s) → WhereExposed (AreServed events) a b
     → (v : S) × (b ≡ Some (told v)) × AreServedBy serving events s v
 served_so told serving serves events a (Some v) s e h =
-    let w = serves events s v (subst (λ x. WhereTold (AreServed events) x (Some v)) e h) in
+    let w = serves events s v (subst (λ x. WhereExposed (AreServed events) x (Some v)) e h) in
     (w.0, ap (λ (x : Beside). Some x) w.1, w.2)
-served_so told serving serves events a None s e h = let g : ⊥ = subst (λ x. WhereTold (AreServed events) x None) e h in absurd g
+served_so told serving serves events a None s e h = let g : ⊥ = subst (λ x. WhereExposed (AreServed events) x None) e h in absurd g
 
 -- ---- what passes
 
@@ -124,7 +124,7 @@ module _ {S : Type 0} (told : S → Beside) (serving : S → Request → Served 
       abbrev still : (last : List Event) → List ℕ → Passed S
       still last more = over serving keys u reached.taken (flat_map drawn_in last ++ more) state_there.0 left
 
-      next : (last : List Event) (after : Option Beside) → length last ≤ 1 → Follows u last v → WhereTold (AreServed last) new.wire.state after → (rest : List ℕ → Passed S) × IsNext last rest
+      next : (last : List Event) (after : Option Beside) → length last ≤ 1 → Follows u last v → WhereExposed (AreServed last) new.wire.state after → (rest : List ℕ → Passed S) × IsNext last rest
       next [] after one f h = (still [], λ more. refl)
       next (Asked request replies ∷ []) after one f h =
           let r = state_there in
@@ -142,7 +142,7 @@ module _ {S : Type 0} (told : S → Beside) (serving : S → Request → Served 
       next (Opened meta key ∷ []) after one f h = (still (Opened meta key ∷ []), λ more. refl)
       next (e ∷ d ∷ es) after one f h = absurd (omega arith)
 
-      last_begins : (last : List Event) (after : Option Beside) → length last ≤ 1 → Follows u last v → WhereTold (AreServed last) new.wire.state after → Begins serving keys t from (g.events ++ last)
+      last_begins : (last : List Event) (after : Option Beside) → length last ≤ 1 → Follows u last v → WhereExposed (AreServed last) new.wire.state after → Begins serving keys t from (g.events ++ last)
       last_begins last after one f h =
           let n = next last after one f h in
           let drawn = flat_map-append drawn_in g.events last in

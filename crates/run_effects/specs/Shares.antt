@@ -2,15 +2,15 @@
 use Rattle.std.specs.Prelude.{◌≡◌, ℕ, ◌+◌, ◌≤◌, List, [], ◌∷◌, ◌++◌, length, map, flat_map, drop, Option, Some, None, IfSome, Bool}
 use Rattle.std.specs.Borrow.{GName}
 use Rattle.ae_base.specs.declared.frames.FrameVersion.{FrameVersion}
-use Rattle.ae_edge.specs.Devices.{WhereTold, Adds, IsFront}
+use Rattle.ae_edge.specs.Devices.{WhereExposed, Adds, IsPrefix}
 use Rattle.ae_edge.specs.Vaults.{KeyMap}
 use Rattle.wire_messages.specs.Exchanges.{Exchange, Served}
 use Rattle.wire_messages.specs.declared.requests.Request.{Request}
 use Rattle.wire_messages.specs.declared.replies.Reply.{Reply}
 use Rattle.wire_payloads.specs.Payloads.{replies_of}
 use Rattle.wire_payloads.specs.declared.payloads.Payload.{Payload}
-use Rattle.wire_spelling.specs.Packing.{HasFrame, packed, payload_frame}
-use Rattle.wire_spelling.specs.Spelling.{request_frame}
+use Rattle.wire_encoding.specs.Packing.{HasFrame, packed, payload_frame}
+use Rattle.wire_encoding.specs.Spelling.{request_frame}
 use Rattle.wire_frames.specs.Frames.{Placed, placed_answer}
 use Rattle.server_core.specs.Beside.{Beside, serve_beside}
 use Rattle.conversation.specs.Devices.{Devices}
@@ -122,7 +122,7 @@ pub record ClientPut (P : Puts) (events : List Event) (old new : ClientSide) : T
   pub entropy_same : new.entropy_names ≡ old.entropy_names
   pub vault_same : new.vault_names ≡ old.vault_names
   pub out : P (flat_map text_of events) old.out new.out
-  pub entropy : WhereTold (λ before after. before ≡ flat_map drawn_in events ++ after) old.entropy new.entropy
+  pub entropy : WhereExposed (λ before after. before ≡ flat_map drawn_in events ++ after) old.entropy new.entropy
   pub keys : new.keys ≡ old.keys
   pub opened : IfSome old.keys (OpensAll events)
   pub out_count : old.out_faults ≤ new.out_faults
@@ -134,7 +134,7 @@ pub record WirePut (P : Puts) (events : List Event) (old new : Wire) : Type 0 wh
   pub version : new.version ≡ old.version
   pub tap : P (flat_map (frames_of old.version) events) old.tap new.tap
   pub log : Adds (flat_map exchanges_of events) old.log new.log
-  pub state : WhereTold (AreServed events) old.state new.state
+  pub state : WhereExposed (AreServed events) old.state new.state
   pub count : old.faults ≤ new.faults
   pub closed : new.closed ≡ old.closed
 
@@ -206,8 +206,8 @@ IsNext version None skipped bytes = (reply : Reply) → ¬ Begins version reply 
 
 -- behind the last reply of a frame the next frame stands first
 abbrev pub Passes : List ℕ → List Reply → Standing → Standing → Type 0
-Passes frame [] old new = (new.at ≡ old.at + length frame) × (new.skipped ≡ 0) × WhereTold (λ before after. before ≡ frame ++ after) old.bytes new.bytes
-Passes frame (reply ∷ more) old new = (new.at ≡ old.at) × (new.skipped ≡ old.skipped + 1) × WhereTold (λ before after. (after ≡ before) × IsFront frame before) old.bytes new.bytes
+Passes frame [] old new = (new.at ≡ old.at + length frame) × (new.skipped ≡ 0) × WhereExposed (λ before after. before ≡ frame ++ after) old.bytes new.bytes
+Passes frame (reply ∷ more) old new = (new.at ≡ old.at) × (new.skipped ≡ old.skipped + 1) × WhereExposed (λ before after. (after ≡ before) × IsPrefix frame before) old.bytes new.bytes
 
 -- the next reply of the frame that stands first was taken
 pub record Takes (version : FrameVersion) (reply : Reply) (old new : Standing) : Type 0 where

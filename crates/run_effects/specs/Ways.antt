@@ -1,7 +1,7 @@
 -- How far a conversation was followed, what all that a run touches has of it, and why it was followed no further.
 use Rattle.std.specs.Prelude.{◌≡◌, ◌⊎◌, ℕ, ◌+◌, ◌≤◌, List, [], ◌∷◌, ◌++◌, length, map, flat_map, Option, Some, None, IfSome, Result, Ok, Err}
 use Rattle.ae_base.specs.declared.frames.FrameVersion.{FrameVersion}
-use Rattle.ae_edge.specs.Devices.{Rose, Adds, AddsFront, Removes}
+use Rattle.ae_edge.specs.Devices.{Rose, Adds, AddsPrefix, Removes}
 use Rattle.wire_messages.specs.declared.replies.Reply.{Reply}
 use Rattle.wire_messages.specs.declared.requests.Request.{Request}
 use Rattle.wire_frames.specs.Frames.{Placed, IsNotYet, is_reply_head}
@@ -73,11 +73,11 @@ pub record Lacks (t : Talk) (old new : Outside) : Type 0 where
 -- ---- where it broke off
 
 -- of the bytes from the frame that stands first on, a front was taken, of those within the limit and one more at most
-abbrev pub ReadsFront : Option Stream → Option Stream → Type 0
-ReadsFront (Some s) (Some t) = IsWithin (Some s) → (front : List ℕ) × Removes front (coming s) t.left × (s.at + length front ≤ most_stream_bytes + 1)
-ReadsFront (Some s) None = ⊥
-ReadsFront None (Some t) = ⊥
-ReadsFront None None = Unit {0}
+abbrev pub ReadsPrefix : Option Stream → Option Stream → Type 0
+ReadsPrefix (Some s) (Some t) = IsWithin (Some s) → (front : List ℕ) × Removes front (coming s) t.left × (s.at + length front ≤ most_stream_bytes + 1)
+ReadsPrefix (Some s) None = ⊥
+ReadsPrefix None (Some t) = ⊥
+ReadsPrefix None None = Unit {0}
 
 -- where the replies come as bytes, none comes with a request
 abbrev pub IsSilent : Option Stream → List Event → Type 0
@@ -97,8 +97,8 @@ pub record Breaks (t : Talk) (old new : Outside) : Type 0 where
   pub goes : Proceeds t between old mid
   pub one : length last ≤ 1
   pub follows : GoesOn between last rest mid.wire
-  pub put : HasPut AddsFront last mid new
-  pub reads : ReadsFront mid.wire.stream new.wire.stream
+  pub put : HasPut AddsPrefix last mid new
+  pub reads : ReadsPrefix mid.wire.stream new.wire.stream
 
 -- it can't be followed further: a reply isn't awaited, or none came, or something is left at the end
 abbrev pub IsStuck : {A : Type 0} → Talk → List A → Type 0
@@ -176,7 +176,7 @@ Advances (Err s) t onward old new = StopsBy s t old new
 -- of the request, with what came back, a front was put; or it wasn't asked; and no stream was read
 abbrev pub AsksInPart : Request → Wire → Wire → Type 0
 AsksInPart request old new = (new.stream ≡ old.stream) ×
-    (WirePut AddsFront [] old new ⊎ ((replies : List Reply) × IsSilent old.stream (Asked request replies ∷ []) × WirePut AddsFront (Asked request replies ∷ []) old new))
+    (WirePut AddsPrefix [] old new ⊎ ((replies : List Reply) × IsSilent old.stream (Asked request replies ∷ []) × WirePut AddsPrefix (Asked request replies ∷ []) old new))
 
 -- the reply that waits first, or is the next of the frame that stands first in the bytes that are held
 abbrev pub IsFirstOf : FrameVersion → Reply → Option Stream → List (Placed Reply) → Type 0

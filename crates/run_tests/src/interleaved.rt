@@ -20,11 +20,11 @@ use conversation::faults::{DriverFault, Halt};
 use driver::Driver;
 use std::alloc::{AllocError, Global};
 use std::test::Fail;
+use wire_encoding::encode_request;
 use wire_frames::{Decoded, decode_reply};
 use wire_messages::replies::Reply;
 use wire_messages::requests::Request;
 use wire_payloads::payloads::Payload;
-use wire_spelling::encode_request;
 
 /// What a session asks, and what it is answered to its description.
 #[derive(Clone, Copy)]

@@ -1,6 +1,6 @@
 -- The tap is closed behind the end, and nothing is put on it there.
 use Rattle.std.proofs.Common.{◌≡◌, ℕ, List, [], ◌∷◌, ◌++◌, Option, Some, None, Result, Ok, Err, refl, ◌∙◌, ap, subst, append-nil, inl, inr}
-use Rattle.ae_edge.specs.Devices.{Adds, AddsFront, IsFront}
+use Rattle.ae_edge.specs.Devices.{Adds, AddsPrefix, IsPrefix}
 use Rattle.conversation.specs.Talk.{Talk, Ends}
 use Rattle.conversation.specs.declared.sessions.Session.{Session}
 use Rattle.run_effects.specs.Endings.{ClosesBehind, closed_as}
@@ -22,11 +22,11 @@ still None None e = refl
 still (Some x) None e = absurd e
 still None (Some y) e = absurd e
 
-front_of_none : (front : List ℕ) → IsFront front [] → front ≡ []
+front_of_none : (front : List ℕ) → IsPrefix front [] → front ≡ []
 front_of_none [] f = refl
 front_of_none (x ∷ front) f = let e = f.is in cc
 
-front_still : (a b : Option (List ℕ)) → AddsFront [] a b → b ≡ a
+front_still : (a b : Option (List ℕ)) → AddsPrefix [] a b → b ≡ a
 front_still (Some x) (Some y) g = ap (λ (w : List ℕ). Some w) (g.grew ∙ ap (λ w. x ++ w) (front_of_none g.front g.of_it) ∙ append-nil x)
 front_still None None g = refl
 front_still (Some x) None g = absurd g

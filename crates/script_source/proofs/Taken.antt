@@ -1,6 +1,6 @@
 -- What was taken of a script that was read whole.
 use Rattle.std.proofs.Common.{◌≡◌, ℕ, ◌≤◌, List, length, Option, Result, Ok, Err, refl, sym, ap, ◌∙◌, ◌++◌, append-nil, arith}
-use Rattle.ae_edge.specs.Devices.{WhereTold}
+use Rattle.ae_edge.specs.Devices.{WhereExposed}
 use Rattle.ae_edge.specs.Streams.{ReadsAll}
 use Rattle.ae_edge.specs.declared.streams.ReadAll.TheVariants as read
 use Rattle.ae_edge.proofs.Interface.{told_map}
@@ -19,5 +19,5 @@ module _ {A : Type 0} where
       (xs, sym (append-nil xs) ∙ ap (λ w. xs ++ w) (sym h.1), omega arith)
 
   pub takes_whole : (r : Result A Unread) (bytes : List ℕ) (old new : Option (List ℕ)) → (r ≡ Err unread.ReadFault → ⊥)
-      → (r ≡ Err unread.TooLong → ⊥) → WhereTold (ReadsAll most_script_bytes (read.Whole bytes)) old new → WhereTold (TakesScript r) old new
+      → (r ≡ Err unread.TooLong → ⊥) → WhereExposed (ReadsAll most_script_bytes (read.Whole bytes)) old new → WhereExposed (TakesScript r) old new
   takes_whole r bytes old new f w h = told_map (ReadsAll most_script_bytes (read.Whole bytes)) (TakesScript r) (λ x y p. takes r bytes x y f w p) old new h

@@ -2,7 +2,7 @@
 #![tactic(auto)]
 
 ghost use Rattle.std.specs.Prelude.{◌≡◌, ◌≤◌, ℕ, List, IfSome, IsErrOf, length};
-ghost use Rattle.ae_edge.specs.Devices.{Rose, WhereTold};
+ghost use Rattle.ae_edge.specs.Devices.{Rose, WhereExposed};
 ghost use Rattle.script_source.specs.Scripts.{ReadsScript, TakesScript, most_script_bytes};
 
 use ae_base::blobs::Blob;
@@ -47,7 +47,7 @@ pub fn read_steps<S: Source>(alloc: Global, script: &mut S) -> Result<Seq<Step>,
     ensures reads { (bytes : List ℕ) × IfSome (S.left script.old) (λ left. bytes ≡ left)
         × ReadsScript result bytes }
     // What was taken of them.
-    ensures taken { WhereTold (TakesScript result) (S.left script.old) (S.left script.new) }
+    ensures taken { WhereExposed (TakesScript result) (S.left script.old) (S.left script.new) }
     // A fault of the source comes only where its count rose.
     ensures fault { IsErrOf result Unread.ReadFault
         → Rose (S.faults script.old) (S.faults script.new) }

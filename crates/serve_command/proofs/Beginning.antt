@@ -5,11 +5,11 @@ use Rattle.std.proofs.lemmas.Bool.{cases_lt}
 use Rattle.std.specs.List.{All}
 use Rattle.std.proofs.lemmas.List.{append_cancel_left, append-nil, take-append-le, take-append-drop, flat_map_more}
 use Rattle.std.proofs.lemmas.List.Elements.{All-nil, All-cons, All-push, All-head, All-tail}
-use Rattle.ae_edge.specs.Devices.{IsFront}
+use Rattle.ae_edge.specs.Devices.{IsPrefix}
 use Rattle.ae_edge.proofs.Interface.{front_none}
 use Rattle.wire_messages.specs.declared.requests.Request.{Request}
 use Rattle.wire_payloads.specs.declared.versioned.Versioned.{Versioned}
-use Rattle.wire_spelling.specs.Spelling.{SpellsRequest, asked_frame}
+use Rattle.wire_encoding.specs.Spelling.{SpellsRequest, asked_frame}
 use Rattle.wire_frames.specs.Frames.{Placed, End, Whole, Refused, Rest, EndsSo, ReadsAs, RequestFrames, IsRefused, is_request_head, is_no_header, placed_from, stated}
 use Rattle.wire_frames.specs.Laws.{HasOneReading, IsReadBack, IsReadOnce}
 use Rattle.serve_command.specs.ServeAll.{requests_of}
@@ -173,7 +173,7 @@ module _ (reading : HasOneReading SpellsRequest) (once : IsReadOnce is_request_h
 
   front_from : (at : ℕ) (requests : List (Versioned Request)) (others bytes : List ℕ) (placed : List (Placed (Versioned Request))) (end : End)
       → bytes ≡ flat_map asked_frame requests ++ others → All IsProper requests
-      → ReadsAs is_request_head SpellsRequest at bytes placed end → IsFront requests (requests_of placed)
+      → ReadsAs is_request_head SpellsRequest at bytes placed end → IsPrefix requests (requests_of placed)
   front_from at [] others bytes placed end whole good h = front_none (requests_of placed)
   front_from at (r ∷ requests) others bytes [] end whole good h =
       let regroup = append_assoc (asked_frame r) (flat_map asked_frame requests) others in
@@ -190,5 +190,5 @@ module _ (reading : HasOneReading SpellsRequest) (once : IsReadOnce is_request_h
   -- requests that the bytes begin with are the first of all
   pub requests_front : (bytes : List ℕ) (requests : List (Versioned Request)) (others : List ℕ) (placed : List (Placed (Versioned Request))) (end : End)
       → Begins bytes requests others → RequestFrames bytes placed end
-      → IsFront requests (requests_of placed)
+      → IsPrefix requests (requests_of placed)
   requests_front bytes requests others placed end b h = front_from 0 requests others bytes placed end b.whole b.proper h

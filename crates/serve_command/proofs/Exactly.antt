@@ -5,11 +5,11 @@ use Rattle.std.specs.Io.KnownBytes.{IsAtEnd}
 use Rattle.std.proofs.Math.Seq.{take-append-add, take-nil}
 use Rattle.std.proofs.lemmas.List.{take-append-le}
 use Rattle.std.proofs.lemmas.List.Elements.{All-cons}
-use Rattle.ae_edge.specs.Devices.{Adds, AddsFront, IsFront, Removes}
+use Rattle.ae_edge.specs.Devices.{Adds, AddsPrefix, IsPrefix, Removes}
 use Rattle.ae_edge.proofs.Interface.{front_of, front_behind, front_then}
 use Rattle.wire_messages.specs.declared.requests.Request.{Request}
 use Rattle.wire_payloads.specs.declared.versioned.Versioned.{Versioned}
-use Rattle.wire_spelling.specs.Spelling.{SpellsRequest, asked_frame}
+use Rattle.wire_encoding.specs.Spelling.{SpellsRequest, asked_frame}
 use Rattle.wire_frames.specs.Frames.{Placed, End, Whole, Refused, Rest, ReadsAs, RequestFrames, is_request_head}
 use Rattle.wire_frames.specs.Laws.{HasOneReading, IsReadBack, IsReadOnce}
 use Rattle.server_core.specs.Serve.{State, empty_state}
@@ -71,22 +71,22 @@ module _ (reading : HasOneReading SpellsRequest) (once : IsReadOnce is_request_h
       (same.1, subst (λ (l : List ℕ). Adds l out now) f a.put)
 
   module _ (taken rest : List ℕ) (split : bytes ≡ taken ++ rest) (within : length taken ≤ most_stream_bytes) where
-    first_frames : (requests : List (Versioned Request)) (others : List ℕ) → Begins taken requests others → IsFront (reply_frames start requests) frames
+    first_frames : (requests : List (Versioned Request)) (others : List ℕ) → Begins taken requests others → IsPrefix (reply_frames start requests) frames
     first_frames requests others b =
         let more = take (most_stream_bytes - length taken) rest in
         let longer = subst (λ (l : List ℕ). Begins l requests (others ++ more)) (sym (within_limit taken rest bytes split within)) (begins_fed taken requests others more b) in
         let front = requests_front reading once back (take most_stream_bytes bytes) requests (others ++ more) serves.requests end longer serves.read in
         let whole : frames ≡ reply_frames start (requests ++ front.rest) = serves.replied ∙ ap (reply_frames start) front.is in
-        subst (λ (l : List ℕ). IsFront (reply_frames start requests) l) (sym whole) (frames_front start requests front.rest)
+        subst (λ (l : List ℕ). IsPrefix (reply_frames start requests) l) (sym whole) (frames_front start requests front.rest)
 
-    first_put : AnswersFirst start taken out now → AddsFront frames out now
+    first_put : AnswersFirst start taken out now → AddsPrefix frames out now
     first_put a = front_of (reply_frames start a.answered) frames out now a.put (first_frames a.answered a.others a.begins)
 
-    part_put : BreaksOff start taken out now → AddsFront frames out now
+    part_put : BreaksOff start taken out now → AddsPrefix frames out now
     part_put b =
         let all = answer_frames (state_after start b.answered) b.next in
-        let next : IsFront (reply_frames start b.answered ++ b.front) (reply_frames start (b.answered ++ b.next ∷ [])) =
-        subst (λ (l : List ℕ). IsFront (reply_frames start b.answered ++ b.front) l) (sym (frames_more start b.answered b.next)) (front_behind (reply_frames start b.answered) b.front all b.of_next) in
+        let next : IsPrefix (reply_frames start b.answered ++ b.front) (reply_frames start (b.answered ++ b.next ∷ [])) =
+        subst (λ (l : List ℕ). IsPrefix (reply_frames start b.answered ++ b.front) l) (sym (frames_more start b.answered b.next)) (front_behind (reply_frames start b.answered) b.front all b.of_next) in
         front_of (reply_frames start b.answered ++ b.front) frames out now b.put
         (front_then (reply_frames start b.answered ++ b.front) (reply_frames start (b.answered ++ b.next ∷ [])) frames next (first_frames (b.answered ++ b.next ∷ []) b.others b.begins))
 

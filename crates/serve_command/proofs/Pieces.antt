@@ -2,7 +2,7 @@
 use Rattle.std.proofs.Common.{◌≡◌, ◌⊎◌, ◌+◌, ◌<◌, ◌≤◌, ◌^◌, ℕ, List, [], ◌++◌, length, take, Option, Some, None, refl, sym, subst, ◌∙◌, length-append, append-nil, arith, inl, inr}
 use Rattle.std.specs.Io.KnownBytes.{IsAtEnd}
 use Rattle.std.proofs.lemmas.List.{take-append-le, take_all}
-use Rattle.ae_edge.specs.Devices.{WhereTold, Removes}
+use Rattle.ae_edge.specs.Devices.{WhereExposed, Removes}
 use Rattle.ae_edge.specs.Sources.{Takes}
 use Rattle.ae_edge.specs.declared.sources.Taken.TheVariants as taken
 use Rattle.ae_edge.proofs.Interface.{told_map, removes_none, removes_then}
@@ -37,19 +37,19 @@ goes_first feed state source out e f =
 
 -- ---- what a call on the input takes
 
-pub removes_piece : (piece : List ℕ) (left after : Option (List ℕ)) → WhereTold (Takes (taken.Bytes piece)) left after → Removes piece left after
+pub removes_piece : (piece : List ℕ) (left after : Option (List ℕ)) → WhereExposed (Takes (taken.Bytes piece)) left after → Removes piece left after
 removes_piece piece left after h = told_map (Takes (taken.Bytes piece)) (λ (x y : List ℕ). x ≡ piece ++ y) (λ x y e. e) left after h
 
-pub removes_end : (left after : Option (List ℕ)) → WhereTold (Takes taken.End) left after → Removes [] left after
+pub removes_end : (left after : Option (List ℕ)) → WhereExposed (Takes taken.End) left after → Removes [] left after
 removes_end left after h = told_map (Takes taken.End) (λ (x y : List ℕ). x ≡ [] ++ y) (λ x y e. e.0 ∙ sym e.1) left after h
 
-pub removes_failed : (left after : Option (List ℕ)) → WhereTold (Takes taken.Failed) left after → Removes [] left after
+pub removes_failed : (left after : Option (List ℕ)) → WhereExposed (Takes taken.Failed) left after → Removes [] left after
 removes_failed left after h = told_map (Takes taken.Failed) (λ (x y : List ℕ). x ≡ [] ++ y) (λ x y e. sym e) left after h
 
-pub removes_unheld : (left after : Option (List ℕ)) → WhereTold (Takes taken.OutOfMemory) left after → Removes [] left after
+pub removes_unheld : (left after : Option (List ℕ)) → WhereExposed (Takes taken.OutOfMemory) left after → Removes [] left after
 removes_unheld left after h = told_map (Takes taken.OutOfMemory) (λ (x y : List ℕ). x ≡ [] ++ y) (λ x y e. sym e) left after h
 
-pub at_end : (left after : Option (List ℕ)) → WhereTold (Takes taken.End) left after → IsAtEnd after
+pub at_end : (left after : Option (List ℕ)) → WhereExposed (Takes taken.End) left after → IsAtEnd after
 at_end (Some x) (Some y) h = h.1
 at_end None None h = tt
 at_end (Some x) None h = absurd h
@@ -65,7 +65,7 @@ module _ (law : RequestsAreSerial) (count : ℕ) (feed : Feeding) (state : State
   serially : (bytes : List ℕ) → Serially bytes
   serially bytes = λ requests others b. law (messages_of requests)
 
-  lost_more : (piece : List ℕ) (after : Option (List ℕ)) → WhereTold (Takes (taken.Bytes piece)) left after → Removes (g.taken ++ piece) source after
+  lost_more : (piece : List ℕ) (after : Option (List ℕ)) → WhereExposed (Takes (taken.Bytes piece)) left after → Removes (g.taken ++ piece) source after
   lost_more piece after h = removes_then g.taken piece source left after g.lost (removes_piece piece left after h)
 
   lost_same : (after : Option (List ℕ)) → Removes [] left after → Removes g.taken source after
@@ -74,7 +74,7 @@ module _ (law : RequestsAreSerial) (count : ℕ) (feed : Feeding) (state : State
   within : length g.taken ≤ most_stream_bytes
   within = omega (arith, g.few)
 
-  module _ (piece : List ℕ) (after : Option (List ℕ)) (took : WhereTold (Takes (taken.Bytes piece)) left after) (fits : length piece ≤ count) where
+  module _ (piece : List ℕ) (after : Option (List ℕ)) (took : WhereExposed (Takes (taken.Bytes piece)) left after) (fits : length piece ≤ count) where
     still_within : length (g.taken ++ piece) ≤ most_stream_bytes
     still_within = omega (arith, g.few, fits, length-append g.taken piece)
 
@@ -123,7 +123,7 @@ module _ (law : RequestsAreSerial) (count : ℕ) (feed : Feeding) (state : State
     }
 
   -- a byte past the limit
-  pub ends_past : (piece : List ℕ) (after : Option (List ℕ)) → WhereTold (Takes (taken.Bytes piece)) left after → length piece ≡ 1 → count ≡ 0 → ServesStream served.TooLong source after out now
+  pub ends_past : (piece : List ℕ) (after : Option (List ℕ)) → WhereExposed (Takes (taken.Bytes piece)) left after → length piece ≡ 1 → count ≡ 0 → ServesStream served.TooLong source after out now
   ends_past piece after took one none =
       let all : length g.taken ≡ most_stream_bytes = omega (arith, g.few, none) in
       let front : take most_stream_bytes (g.taken ++ piece) ≡ g.taken =
@@ -139,7 +139,7 @@ module _ (law : RequestsAreSerial) (count : ℕ) (feed : Feeding) (state : State
         serial = serially (g.taken ++ piece);
       }
 
-  pub ends_unread : (after : Option (List ℕ)) → WhereTold (Takes taken.Failed) left after → ServesStream served.ReadFault source after out now
+  pub ends_unread : (after : Option (List ℕ)) → WhereExposed (Takes taken.Failed) left after → ServesStream served.ReadFault source after out now
   ends_unread after h = record {
     taken = g.taken;
     lost = lost_same after (removes_failed left after h);
@@ -147,7 +147,7 @@ module _ (law : RequestsAreSerial) (count : ℕ) (feed : Feeding) (state : State
     serial = serially g.taken;
   }
 
-  pub ends_without : (after : Option (List ℕ)) → WhereTold (Takes taken.OutOfMemory) left after → ServesStream served.OutOfMemory source after out now
+  pub ends_without : (after : Option (List ℕ)) → WhereExposed (Takes taken.OutOfMemory) left after → ServesStream served.OutOfMemory source after out now
   ends_without after h = record {
     taken = g.taken;
     lost = lost_same after (removes_unheld left after h);
@@ -156,7 +156,7 @@ module _ (law : RequestsAreSerial) (count : ℕ) (feed : Feeding) (state : State
   }
 
   -- the end of the input
-  pub ends_whole : (r : Served) (after : Option (List ℕ)) → WhereTold (Takes taken.End) left after → EndsAt r feed → ServesStream r source after out now
+  pub ends_whole : (r : Served) (after : Option (List ℕ)) → WhereExposed (Takes taken.End) left after → EndsAt r feed → ServesStream r source after out now
   ends_whole served.Done after h e = record {
     taken = g.taken;
     lost = lost_same after (removes_end left after h);

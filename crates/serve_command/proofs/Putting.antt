@@ -2,14 +2,14 @@
 use Rattle.std.proofs.Common.{◌≡◌, ◌+◌, ◌-◌, ◌≤◌, ℕ, List, [], ◌∷◌, ◌++◌, length, take, drop, Option, refl, sym, ap, subst, ◌∙◌, append_assoc, append-nil, arith, length-drop}
 use Rattle.std.proofs.lemmas.List.{drop-drop, take_rest}
 use Rattle.ae_base.specs.declared.frames.FrameVersion.{FrameVersion}
-use Rattle.ae_edge.specs.Devices.{Adds, AddsFront}
+use Rattle.ae_edge.specs.Devices.{Adds, AddsPrefix}
 use Rattle.ae_edge.specs.Streams.{PutsAll}
 use Rattle.ae_edge.specs.declared.streams.PutAll.{PutAll}
 use Rattle.ae_edge.specs.declared.streams.PutAll.TheVariants as put
 use Rattle.ae_edge.proofs.Interface.{adds_front_then, adds_then, adds_then_front}
 use Rattle.wire_messages.specs.declared.replies.Reply.{Reply}
-use Rattle.wire_spelling.specs.Packing.{PutsFront, packed}
-use Rattle.wire_spelling.proofs.Interface.{packed_front, packed_none}
+use Rattle.wire_encoding.specs.Packing.{PutsPrefix, packed}
+use Rattle.wire_encoding.proofs.Interface.{packed_front, packed_none}
 use Rattle.serve_command.specs.Answers.{PutsSome}
 
 -- some frames were put, others stand in the buffer, and then come those of the other replies
@@ -24,7 +24,7 @@ empty (x ∷ xs) e = absurd cc
 
 module _ (version : FrameVersion) (replies rest : List Reply) (frames : List ℕ) (old now : Option (List ℕ)) (s : PutSoFar version replies rest frames old now) where
   -- one frame more stands in the buffer
-  pub frame_more : (count : ℕ) (more : List ℕ) → PutsFront version rest frames more count → PutSoFar version replies (drop count rest) more old now
+  pub frame_more : (count : ℕ) (more : List ℕ) → PutsPrefix version rest frames more count → PutSoFar version replies (drop count rest) more old now
   frame_more count more p =
       let others = packed version (drop count rest) in
       record {
@@ -49,7 +49,7 @@ module _ (version : FrameVersion) (replies rest : List Reply) (frames : List ℕ
   }
 
   -- a front of the buffer was put, and no more
-  pub stops_in_buffer : (new : Option (List ℕ)) → AddsFront frames now new → AddsFront (packed version replies) old new
+  pub stops_in_buffer : (new : Option (List ℕ)) → AddsPrefix frames now new → AddsPrefix (packed version replies) old new
   stops_in_buffer new p =
       adds_front_then (s.front ++ frames) (packed version replies) old new
       (adds_then_front s.front frames old now new s.put p)
@@ -65,9 +65,9 @@ module _ (version : FrameVersion) (replies rest : List Reply) (frames : List ℕ
   all_put put.OutOfMemory new none p = stops_in_buffer new p
 
 -- one frame more of the replies behind a place
-module _ (version : FrameVersion) (replies : List Reply) (done count : ℕ) (frames more : List ℕ) (p : PutsFront version (take (length replies - done) (drop done replies)) frames more count) where
-  front_there : PutsFront version (drop done replies) frames more count
-  front_there = subst (λ (l : List Reply). PutsFront version l frames more count) (take_rest replies done) p
+module _ (version : FrameVersion) (replies : List Reply) (done count : ℕ) (frames more : List ℕ) (p : PutsPrefix version (take (length replies - done) (drop done replies)) frames more count) where
+  front_there : PutsPrefix version (drop done replies) frames more count
+  front_there = subst (λ (l : List Reply). PutsPrefix version l frames more count) (take_rest replies done) p
 
   pub next_within : done ≤ length replies → done + count ≤ length replies
   next_within within = omega (arith, within, front_there.front.within, length-drop done replies)

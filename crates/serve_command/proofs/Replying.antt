@@ -1,6 +1,6 @@
 -- Requests that are served one after another, and the frames of their replies.
 use Rattle.std.proofs.Common.{◌≡◌, ℕ, List, [], ◌∷◌, ◌++◌, refl, sym, ap, ◌∙◌, append_assoc, append-nil}
-use Rattle.ae_edge.specs.Devices.{IsFront}
+use Rattle.ae_edge.specs.Devices.{IsPrefix}
 use Rattle.wire_messages.specs.declared.requests.Request.{Request}
 use Rattle.wire_payloads.specs.declared.versioned.Versioned.{Versioned}
 use Rattle.server_core.specs.Serve.{State, serve}
@@ -28,5 +28,5 @@ frames_more first requests r =
     frames_then first requests (r ∷ []) ∙ ap (λ (l : List ℕ). reply_frames first requests ++ l) (append-nil (answer_frames (state_after first requests) r))
 
 -- the frames of the replies to the first requests are a front of those to all
-pub frames_front : (first : State) (requests others : List (Versioned Request)) → IsFront (reply_frames first requests) (reply_frames first (requests ++ others))
+pub frames_front : (first : State) (requests others : List (Versioned Request)) → IsPrefix (reply_frames first requests) (reply_frames first (requests ++ others))
 frames_front first requests others = record { rest = reply_frames (state_after first requests) others; is = frames_then first requests others }

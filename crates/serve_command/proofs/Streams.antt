@@ -3,7 +3,7 @@ use Rattle.std.proofs.Common.{ℕ, ◌+◌, List, [], ◌∷◌, length, sym, su
 use Rattle.std.specs.List.{All, AllZip}
 use Rattle.std.proofs.lemmas.List.Elements.{All-nil, All-cons, All-head, All-tail}
 use Rattle.ae_base.specs.declared.frames.FrameVersion.{FrameVersion}
-use Rattle.blind_laws.specs.Renaming.{IsRenaming}
+use Rattle.renaming_laws.specs.Renaming.{IsRenaming}
 use Rattle.scalar.specs.Classes.{Entry, Pairing, Listing}
 use Rattle.frame_laws.specs.Correspond.{PayloadsCorrespond}
 use Rattle.frame_laws.specs.Laws.{RepliesAreCarriedAlike}
@@ -17,8 +17,8 @@ use Rattle.wire_frames.specs.Frames.{Placed, End, ReadsAs, is_request_head}
 use Rattle.wire_messages.specs.Conditions.{IsRequest}
 use Rattle.wire_messages.specs.declared.requests.Request.{Request}
 use Rattle.wire_payloads.specs.declared.versioned.Versioned.{Versioned}
-use Rattle.wire_spelling.specs.Packing.{payloads_of}
-use Rattle.wire_spelling.specs.Spelling.{SpellsRequest}
+use Rattle.wire_encoding.specs.Packing.{payloads_of}
+use Rattle.wire_encoding.specs.Spelling.{SpellsRequest}
 use Rattle.serve_command.specs.Laws.{PlacedCorrespond, StreamsAreServedAlike}
 
 are_proper : (at : ℕ) (bytes : List ℕ) (ms : List (Placed (Versioned Request))) (end : End) → ReadsAs is_request_head SpellsRequest at bytes ms end → All IsProper (requests_of ms)

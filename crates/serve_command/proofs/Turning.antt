@@ -2,11 +2,11 @@
 use Rattle.std.proofs.Common.{◌≡◌, ◌⊎◌, ◌+◌, ◌<◌, ◌^◌, ℕ, List, [], ◌∷◌, ◌++◌, length, take, drop, Option, Some, None, refl, sym, ap, subst, ◌∙◌, length-append, arith, inl, inr}
 use Rattle.std.specs.Prelude.{flat_map, Bool, true, false, if◌then◌else◌}
 use Rattle.std.proofs.lemmas.List.{flat_map_more, length-take-le}
-use Rattle.ae_edge.specs.Devices.{Adds, AddsFront, IsFront}
+use Rattle.ae_edge.specs.Devices.{Adds, AddsPrefix, IsPrefix}
 use Rattle.ae_edge.proofs.Interface.{adds_none, adds_then, front_none}
 use Rattle.wire_messages.specs.declared.requests.Request.{Request}
 use Rattle.wire_payloads.specs.declared.versioned.Versioned.{Versioned}
-use Rattle.wire_spelling.specs.Spelling.{SpellsRequest, asked_frame}
+use Rattle.wire_encoding.specs.Spelling.{SpellsRequest, asked_frame}
 use Rattle.wire_frames.specs.Decoding.{has_head}
 use Rattle.wire_frames.specs.Frames.{End, Whole, Refused, Rest, EndsSo, IsNotYet, IsRefused, is_request_head, placed_from}
 use Rattle.wire_frames.specs.declared.decoding.Way.{Way}
@@ -44,7 +44,7 @@ turns_refused place feed new state old e s = (s.0, refused_so feed.way feed.held
 -- ---- all that was taken
 
 -- of what was put, the front is told
-a_front : (xs : List ℕ) (old new : Option (List ℕ)) → AddsFront xs old new → (front : List ℕ) × IsFront front xs × Adds front old new
+a_front : (xs : List ℕ) (old new : Option (List ℕ)) → AddsPrefix xs old new → (front : List ℕ) × IsPrefix front xs × Adds front old new
 a_front xs (Some old) (Some new) h = (h.front, h.of_it, h.grew)
 a_front xs None None h = ([], front_none xs, tt)
 a_front xs (Some old) None h = absurd h
@@ -119,7 +119,7 @@ module _ (start : State) (taken : List ℕ) (feed : Feeding) (state : State) (fi
   pub breaks_off : (new : Option (List ℕ)) → BreaksNext feed state now new → BreaksOff start taken first new
   breaks_off new b =
       let frames = answer_frames (state_after start s.answered) b.request in
-      let put = a_front frames now new (subst (λ (x : State). AddsFront (answer_frames x b.request) now new) s.left b.put) in
+      let put = a_front frames now new (subst (λ (x : State). AddsPrefix (answer_frames x b.request) now new) s.left b.put) in
       record {
         answered = s.answered;
         next = b.request;

@@ -4,7 +4,7 @@ use Rattle.server_core.specs.Serve.{State, serve}
 use Rattle.wire_messages.specs.declared.requests.Request.{Request}
 use Rattle.wire_payloads.specs.declared.payloads.Payload.{Payload}
 use Rattle.wire_payloads.specs.declared.versioned.Versioned.{Versioned}
-use Rattle.wire_spelling.specs.Packing.{payloads_of}
+use Rattle.wire_encoding.specs.Packing.{payloads_of}
 
 -- what the frames of each answer carry, to requests that are served one after another from a state on
 abbrev pub answers_to : State → List (Versioned Request) → List (List Payload)

@@ -1,7 +1,7 @@
 -- Streams of requests that are renamed one by one are served alike.
 use Rattle.std.specs.Prelude.{◌≡◌, ℕ, List, []}
 use Rattle.std.specs.List.{AllZip}
-use Rattle.blind_laws.specs.Renaming.{IsRenaming}
+use Rattle.renaming_laws.specs.Renaming.{IsRenaming}
 use Rattle.scalar.specs.Classes.{Class, Pairing, Entry, Listing}
 use Rattle.ae_base.specs.Atoms.{Atom}
 use Rattle.frame_laws.specs.Correspond.{PayloadsCorrespond}

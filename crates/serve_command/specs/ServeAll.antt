@@ -2,7 +2,7 @@
 use Rattle.std.specs.Prelude.{◌≡◌, ℕ, List, [], ◌∷◌, ◌++◌, map}
 use Rattle.wire_messages.specs.declared.requests.Request.{Request}
 use Rattle.wire_payloads.specs.declared.versioned.Versioned.{Versioned}
-use Rattle.wire_spelling.specs.Packing.{packed}
+use Rattle.wire_encoding.specs.Packing.{packed}
 use Rattle.wire_frames.specs.Frames.{Placed, End, RequestFrames}
 use Rattle.server_core.specs.Serve.{State, serve, serve_all}
 

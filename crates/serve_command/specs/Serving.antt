@@ -2,11 +2,11 @@
 use Rattle.std.specs.Prelude.{◌≡◌, ◌⊎◌, ℕ, ◌+◌, ◌≤◌, ◌<◌, List, [], ◌∷◌, ◌++◌, length, take, flat_map, Option}
 use Rattle.std.specs.Io.KnownBytes.{IsAtEnd}
 use Rattle.std.specs.List.{All}
-use Rattle.ae_edge.specs.Devices.{Adds, AddsFront, IsFront, Removes}
+use Rattle.ae_edge.specs.Devices.{Adds, AddsPrefix, IsPrefix, Removes}
 use Rattle.wire_messages.specs.Conditions.{IsRequest}
 use Rattle.wire_messages.specs.declared.requests.Request.{Request}
 use Rattle.wire_payloads.specs.declared.versioned.Versioned.{Versioned}
-use Rattle.wire_spelling.specs.Spelling.{asked_frame}
+use Rattle.wire_encoding.specs.Spelling.{asked_frame}
 use Rattle.wire_frames.specs.Frames.{End, Whole, Refused, Rest}
 use Rattle.server_core.specs.Laws.{AreServedSerially}
 use Rattle.server_core.specs.Serve.{State, empty_state}
@@ -47,7 +47,7 @@ pub record BreaksOff (first : State) (taken : List ℕ) (old new : Option (List 
   pub others : List ℕ
   pub begins : Begins taken (answered ++ next ∷ []) others
   pub front : List ℕ
-  pub of_next : IsFront front (answer_frames (state_after first answered) next)
+  pub of_next : IsPrefix front (answer_frames (state_after first answered) next)
   pub put : Adds (reply_frames first answered ++ front) old new
 
 -- they end after a frame, or inside one
@@ -89,6 +89,6 @@ IsServed served.Done bytes end frames old new = (length bytes ≤ most_stream_by
 IsServed (served.BadFrame place) bytes end frames old new =
     ((end ≡ Refused place) ⊎ ((length bytes ≤ most_stream_bytes) × (end ≡ Rest place))) × Adds frames old new
 IsServed served.TooLong bytes end frames old new = (most_stream_bytes < length bytes) × IsOpen end × Adds frames old new
-IsServed served.ReadFault bytes end frames old new = AddsFront frames old new
-IsServed served.WriteFault bytes end frames old new = AddsFront frames old new
-IsServed served.OutOfMemory bytes end frames old new = AddsFront frames old new
+IsServed served.ReadFault bytes end frames old new = AddsPrefix frames old new
+IsServed served.WriteFault bytes end frames old new = AddsPrefix frames old new
+IsServed served.OutOfMemory bytes end frames old new = AddsPrefix frames old new

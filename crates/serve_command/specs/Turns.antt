@@ -1,9 +1,9 @@
 -- What is done with the bytes that a feed holds.
 use Rattle.std.specs.Prelude.{◌≡◌, ◌⊎◌, ℕ, ◌<◌, ◌≤◌, List, [], length, take, flat_map, false, Option}
-use Rattle.ae_edge.specs.Devices.{Adds, AddsFront, Rose}
+use Rattle.ae_edge.specs.Devices.{Adds, AddsPrefix, Rose}
 use Rattle.wire_messages.specs.declared.requests.Request.{Request}
 use Rattle.wire_payloads.specs.declared.versioned.Versioned.{Versioned}
-use Rattle.wire_spelling.specs.Spelling.{SpellsRequest, asked_frame}
+use Rattle.wire_encoding.specs.Spelling.{SpellsRequest, asked_frame}
 use Rattle.wire_frames.specs.Frames.{Refused, IsNotYet, IsRefused, is_request_head}
 use Rattle.wire_frames.specs.declared.decoding.Way.TheVariants.{ToServer}
 use Rattle.frame_feed.specs.Feeding.{Feeding}
@@ -29,8 +29,8 @@ IsAsked (Tells payload) = ⊥
 abbrev pub Answers : Turn → ℕ → Message → State → State → Option (List ℕ) → Option (List ℕ) → Type 0
 Answers (turn.Answered count) used (Asks asked) state after old new =
     (count ≡ used) × (after ≡ (serve state asked.message).after) × Adds (answer_frames state asked) old new
-Answers turn.WriteFault used (Asks asked) state after old new = AddsFront (answer_frames state asked) old new
-Answers turn.OutOfMemory used (Asks asked) state after old new = AddsFront (answer_frames state asked) old new
+Answers turn.WriteFault used (Asks asked) state after old new = AddsPrefix (answer_frames state asked) old new
+Answers turn.OutOfMemory used (Asks asked) state after old new = AddsPrefix (answer_frames state asked) old new
 Answers turn.Waits used (Asks asked) state after old new = ⊥
 Answers (turn.Refused place) used (Asks asked) state after old new = ⊥
 Answers turn used (Tells payload) state after old new = ⊥
@@ -54,7 +54,7 @@ pub record BreaksNext (feed : Feeding) (state : State) (old new : Option (List �
   pub request : Versioned Request
   pub used : ℕ
   pub next : IsNext feed request used
-  pub put : AddsFront (answer_frames state request) old new
+  pub put : AddsPrefix (answer_frames state request) old new
 
 abbrev pub Turns : Turn → Feeding → State → State → Option (List ℕ) → Option (List ℕ) → Type 0
 Turns (turn.Answered used) feed state after old new = AnswersNext feed used state after old new

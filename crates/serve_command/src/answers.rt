@@ -3,7 +3,7 @@
 ghost use Rattle.std.specs.Prelude.{◌≡◌, ◌<◌, length};
 ghost use Rattle.ae_edge.specs.Streams.{CountsPutAll, PutsAll};
 ghost use Rattle.server_core.specs.Serve.{serve};
-ghost use Rattle.wire_spelling.specs.Packing.{packed};
+ghost use Rattle.wire_encoding.specs.Packing.{packed};
 ghost use Rattle.serve_command.specs.Answers.{PutsOrKeeps};
 ghost use Rattle.serve_command.specs.ServeAll.{answer_frames};
 
@@ -12,10 +12,10 @@ use ae_edge::sinks::Sink;
 use ae_edge::streams::{PutAll, put_all};
 use server_core::server::Server;
 use std::alloc::Global;
+use wire_encoding::push_front;
 use wire_messages::replies::Reply;
 use wire_messages::requests::Request;
 use wire_payloads::versioned::Versioned;
-use wire_spelling::push_front;
 
 /// A buffer of frames that has so many bytes is put, and emptied.
 const FULL_BUFFER_BYTES: usize = 65_536;

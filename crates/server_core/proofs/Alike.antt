@@ -13,7 +13,7 @@ use Rattle.ae_base.specs.declared.faults.SqlFault.TheVariants as fault
 use Rattle.ae_base.specs.declared.types.Enc.{Enc}
 use Rattle.ae_base.specs.declared.types.Enc.TheVariants as enc
 use Rattle.ae_base.specs.declared.types.Ty.{Ty}
-use Rattle.blind_laws.specs.Renaming.{AreCells, PairsCells}
+use Rattle.renaming_laws.specs.Renaming.{AreCells, PairsCells}
 use Rattle.catalog.specs.Catalogs.{Catalog}
 use Rattle.catalog.specs.Laws.{DefinitionsKeepCatalogs}
 use Rattle.cell_codec.specs.Cells.{is_length_of}

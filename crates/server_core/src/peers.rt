@@ -2,7 +2,7 @@
 
 ghost use Rattle.std.specs.Prelude.{◌≡◌, ◌∷◌, [], List, Option, None, Some, IfOk, MatchResult};
 ghost use Rattle.std.specs.Borrow.{GName};
-ghost use Rattle.ae_edge.specs.Devices.{Adds, WhereTold};
+ghost use Rattle.ae_edge.specs.Devices.{Adds, WhereExposed};
 ghost use Rattle.wire_messages.specs.Exchanges.{Exchange, HasKinds};
 ghost use Rattle.server_core.specs.Serve.{State, serve};
 
@@ -37,7 +37,7 @@ pub trait Peer {
             (log self.old) (log self.new))
             (λ _. log self.new ≡ log self.old) }
         ensures state { MatchResult result
-            (λ replies. WhereTold (λ old new. serve old request.now ≡ record {
+            (λ replies. WhereExposed (λ old new. serve old request.now ≡ record {
               replies = replies;
               after = new;
             }) (state self.old) (state self.new))

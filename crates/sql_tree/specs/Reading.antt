@@ -34,10 +34,10 @@ quoted_byte quote (b ∷ []) = if b == quote then None else Some (b, 1)
 quoted_byte quote (b ∷ c ∷ bytes) = if b == quote then (if c == quote then Some (quote, 2) else None) else Some (b, 1)
 
 -- what stands at the front of the bytes
-abbrev pub IsFront : ℕ → List ℕ → Front → code.Front → Type 0
-IsFront most bytes front (code.TheVariants.Token read len) = IsToken most bytes front read len
-IsFront most bytes front (code.TheVariants.Wide len) = IsWide most bytes front len
-IsFront most bytes front code.TheVariants.Nothing = front ≡ None
+abbrev pub IsPrefix : ℕ → List ℕ → Front → code.Front → Type 0
+IsPrefix most bytes front (code.TheVariants.Token read len) = IsToken most bytes front read len
+IsPrefix most bytes front (code.TheVariants.Wide len) = IsWide most bytes front len
+IsPrefix most bytes front code.TheVariants.Nothing = front ≡ None
 
 -- the tokens of a text in UTF-8 with no number above the most, or why there are none
 abbrev pub Tokenizes : ℕ → List ℕ → Result (List Token) TokensFault → Type 0

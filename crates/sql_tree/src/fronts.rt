@@ -8,7 +8,7 @@ ghost use Rattle.sql_tree.specs.declared.fronts.Front.TheVariants as front;
 ghost use Rattle.sql_tree.specs.declared.lexemes.Lexeme.TheVariants as lexeme;
 ghost use Rattle.sql_tree.specs.declared.lexemes.Lexeme.TheVariants.{Param};
 ghost use Rattle.sql_tree.specs.Tokens as spec;
-ghost use Rattle.sql_tree.specs.Reading.{IsFront};
+ghost use Rattle.sql_tree.specs.Reading.{IsPrefix};
 
 use crate::lexemes::{Lexeme, Symbol};
 use crate::quoted::{bracketed, text};
@@ -92,7 +92,7 @@ fn digits(bytes: &[u8]) -> &[u8]
 /// The token at the front of a text, where a number is at most `most`.
 pub(crate) fn front_of(alloc: Global, bytes: &[u8], most: u64) -> Result<Front, AllocError>
     requires { 1 ≤ length bytes.now }
-    ensures { IfOk result (IsFront most bytes.now (spec.front bytes.now)) }
+    ensures { IfOk result (IsPrefix most bytes.now (spec.front bytes.now)) }
 {
     let first = byte_at(bytes, 0);
     let next = byte_at(bytes, 1);
@@ -123,7 +123,7 @@ pub(crate) fn front_of(alloc: Global, bytes: &[u8], most: u64) -> Result<Front, 
 /// The bytes behind `0x`, whose digits nothing else of a word follows.
 fn binary(alloc: Global, bytes: &[u8], most: u64) -> Result<Front, AllocError>
     requires { 2 ≤ length bytes.now }
-    ensures { IfOk result (IsFront most bytes.now (spec.binary_front bytes.now)) }
+    ensures { IfOk result (IsPrefix most bytes.now (spec.binary_front bytes.now)) }
 {
     let digits = word_bytes(&bytes[2..]);
     match hex::decode(alloc, digits) {
@@ -138,7 +138,7 @@ fn binary(alloc: Global, bytes: &[u8], most: u64) -> Result<Front, AllocError>
 
 /// A word of at most 128 bytes: a reserved one is a keyword, another is an identifier.
 fn word(alloc: Global, bytes: &[u8], most: u64) -> Result<Front, AllocError>
-    ensures { IfOk result (IsFront most bytes.now
+    ensures { IfOk result (IsPrefix most bytes.now
         (spec.named spec.word_lexeme 0 (take_while spec.is_word_byte bytes.now))) }
 {
     let word = word_bytes(bytes);
@@ -166,7 +166,7 @@ fn word_lexeme(alloc: Global, word: &str) -> Result<Lexeme, AllocError>
 /// A parameter, whose name of at most 128 bytes stands behind its sign.
 fn parameter(alloc: Global, bytes: &[u8], most: u64) -> Result<Front, AllocError>
     requires { 1 ≤ length bytes.now }
-    ensures { IfOk result (IsFront most bytes.now
+    ensures { IfOk result (IsPrefix most bytes.now
         (spec.named Param 1 (take_while spec.is_word_byte (drop 1 bytes.now)))) }
 {
     let name = word_bytes(&bytes[1..]);
@@ -205,7 +205,7 @@ fn param_of(alloc: Global, text: &str) -> Result<ParamName, AllocError>
 /// Digits that neither a letter nor `_` follows.
 fn number(bytes: &[u8], most: u64) -> Front
     requires { spec.is_digit (slice_index bytes.now 0) ≡ true }
-    ensures { IsFront most bytes.now (spec.number_front bytes.now) result }
+    ensures { IsPrefix most bytes.now (spec.number_front bytes.now) result }
 {
     let digits = digits(bytes);
     let len = digits.len();
@@ -247,7 +247,7 @@ fn pushed(value: u64, digit: u8, most: u64) -> Option<u64>
 /// The longest symbol.
 fn symbol(bytes: &[u8], most: u64) -> Front
     requires { 1 ≤ length bytes.now }
-    ensures { IsFront most bytes.now
+    ensures { IsPrefix most bytes.now
         (spec.symbol_front (slice_index bytes.now 0) (slice_index bytes.now 1)) result }
 {
     let next = byte_at(bytes, 1);

@@ -4,7 +4,7 @@ ghost use Rattle.std.specs.Prelude.{◌≡◌, ◌≤◌, None, Some, true, fals
 ghost use Rattle.std.specs.Str.{chars, is_utf8};
 ghost use Rattle.sql_tree.specs.declared.lexemes.Lexeme.TheVariants as lexeme;
 ghost use Rattle.sql_tree.specs.Tokens as spec;
-ghost use Rattle.sql_tree.specs.Reading.{IsFront, quoted_byte};
+ghost use Rattle.sql_tree.specs.Reading.{IsPrefix, quoted_byte};
 
 use crate::fronts::Front;
 use crate::lexemes::Lexeme;
@@ -64,7 +64,7 @@ pub(crate) fn text(
     requires some { 1 ≤ opening }
     requires within { opening ≤ length bytes.now }
     ensures { IfOk result
-        (IsFront most bytes.now (spec.quoted_front spec.text_lexeme 39 opening bytes.now)) }
+        (IsPrefix most bytes.now (spec.quoted_front spec.text_lexeme 39 opening bytes.now)) }
 {
     let Some((text, len)) = quoted(alloc, &bytes[opening..], b'\'')? else {
         return Ok(Front::Nothing);
@@ -82,7 +82,7 @@ pub(crate) fn text(
 pub(crate) fn bracketed(alloc: Global, bytes: &[u8], most: u64) -> Result<Front, AllocError>
     requires { 1 ≤ length bytes.now }
     ensures { IfOk result
-        (IsFront most bytes.now (spec.quoted_front spec.bracketed_lexeme 93 1 bytes.now)) }
+        (IsPrefix most bytes.now (spec.quoted_front spec.bracketed_lexeme 93 1 bytes.now)) }
 {
     let Some((text, len)) = quoted(alloc, &bytes[1..], b']')? else {
         return Ok(Front::Nothing);

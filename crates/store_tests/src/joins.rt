@@ -8,7 +8,7 @@ use ae_base::atoms::{Atom, AtomOf, Row};
 use ae_base::cells::Cell;
 use ae_base::values::Datum;
 use counting::Steps;
-use keyed_joins::joins::join_keyed;
+use hash_joins::joins::join_keyed;
 use operators::events::Events;
 use row_store::pages::Page;
 use row_store::tables::Table;

@@ -6,8 +6,8 @@ use Rattle.ae_base.specs.declared.frames.FrameVersion.{FrameVersion}
 use Rattle.ae_base.specs.declared.frames.FrameVersion.TheVariants.{V1, V2}
 use Rattle.wire_frames.specs.Frames.{IsNotYet, IsRefused, is_no_header, is_reply_head, is_request_head, stated}
 use Rattle.wire_payloads.specs.declared.payloads.Payload.{Payload}
-use Rattle.wire_spelling.specs.Packing.{SpellsPayload, most_body_bytes}
-use Rattle.wire_spelling.specs.Spelling.{SpellsRequest}
+use Rattle.wire_encoding.specs.Packing.{SpellsPayload, most_body_bytes}
+use Rattle.wire_encoding.specs.Spelling.{SpellsRequest}
 use Rattle.tap_listing.specs.declared.frames.Frame.{Frame}
 use Rattle.tap_listing.specs.declared.frames.Frame.TheVariants.{Asked, Told}
 use Rattle.tap_reading.specs.Reading.{FindsTold, IsNone, SpellsFrame, is_tap_head}

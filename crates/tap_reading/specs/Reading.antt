@@ -4,8 +4,8 @@ use Rattle.ae_base.specs.declared.frames.FrameVersion.TheVariants.{V1, V2}
 use Rattle.wire_frames.specs.Frames.{Placed, End, ReadsAs, IsNotYet, IsRefused, is_request_head, is_reply_head}
 use Rattle.wire_frames.specs.declared.decoding.Decoded.{Decoded}
 use Rattle.wire_frames.specs.declared.decoding.Decoded.TheVariants as decoded
-use Rattle.wire_spelling.specs.Packing.{SpellsPayload}
-use Rattle.wire_spelling.specs.Spelling.{SpellsRequest}
+use Rattle.wire_encoding.specs.Packing.{SpellsPayload}
+use Rattle.wire_encoding.specs.Spelling.{SpellsRequest}
 use Rattle.tap_listing.specs.declared.frames.Frame.{Frame}
 use Rattle.tap_listing.specs.declared.frames.Frame.TheVariants.{Asked, Told}
 

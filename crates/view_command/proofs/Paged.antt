@@ -1,7 +1,7 @@
 -- Frames between what stands before and behind them.
 use Rattle.std.proofs.Common.{◌≡◌, ◌≤◌, ◌∙◌, ℕ, List, [], ◌++◌, length, take, Option, Bool, true, false, refl, ap, subst, sym, append-nil, arith, inl, inr}
 use Rattle.ae_base.specs.Limits.{most_stream_bytes}
-use Rattle.ae_edge.specs.Devices.{Adds, AddsFront}
+use Rattle.ae_edge.specs.Devices.{Adds, AddsPrefix}
 use Rattle.ae_edge.proofs.Interface.{adds_none, adds_then, adds_then_front, removes_none}
 use Rattle.tap_page.specs.Page.{page_head}
 use Rattle.tap_text.specs.Text.{mark}
@@ -10,7 +10,7 @@ use Rattle.view_command.specs.declared.commands.Viewed.{Viewed}
 use Rattle.view_command.specs.declared.commands.Viewed.TheVariants as ended
 use Rattle.tap_counts.specs.Counting.{Tallied}
 use Rattle.view_command.specs.Streaming.{Lists, ListsAll, ListsInput}
-use Rattle.view_command.specs.Viewing.{HasTaken, ShowsAll, ShowsFrames, ShowsFront, ShowsOpen, Views, ViewsInput, end_text, ended_text, foot_text, frames_text, is_listed, tally_of}
+use Rattle.view_command.specs.Viewing.{HasTaken, ShowsAll, ShowsFrames, ShowsPrefix, ShowsOpen, Views, ViewsInput, end_text, ended_text, foot_text, frames_text, is_listed, tally_of}
 use Rattle.view_command.proofs.Taking.{rest_of, told_rest}
 
 -- a part that only a page has
@@ -23,12 +23,12 @@ mark_of_page true html e = refl
 mark_of_page false html e = absurd cc
 
 -- the output failed, or memory ran out
-abbrev pub StopsFront : Viewed → Type 0
-StopsFront ended.WriteFault = Unit {0}
-StopsFront ended.OutOfMemory = Unit {0}
-StopsFront other = ⊥
+abbrev pub StopsPrefix : Viewed → Type 0
+StopsPrefix ended.WriteFault = Unit {0}
+StopsPrefix ended.OutOfMemory = Unit {0}
+StopsPrefix other = ⊥
 
-front_views : (page : Bool) (viewed : Viewed) → StopsFront viewed → (taken rest : List ℕ) (old new : Option (List ℕ)) → ShowsFront page (taken ++ rest) old new → Views page viewed taken rest old new
+front_views : (page : Bool) (viewed : Viewed) → StopsPrefix viewed → (taken rest : List ℕ) (old new : Option (List ℕ)) → ShowsPrefix page (taken ++ rest) old new → Views page viewed taken rest old new
 front_views page ended.WriteFault stops taken rest old new h = h
 front_views page ended.OutOfMemory stops taken rest old new h = h
 front_views page ended.Done stops taken rest old new h = absurd stops
@@ -37,7 +37,7 @@ front_views page ended.TooLong stops taken rest old new h = absurd stops
 front_views page (ended.BadFrame place) stops taken rest old new h = absurd stops
 front_views page (ended.CutOff place) stops taken rest old new h = absurd stops
 
-few_front : (viewed : Viewed) (count : ℕ) → StopsFront viewed → count ≤ most_stream_bytes → HasTaken viewed count
+few_front : (viewed : Viewed) (count : ℕ) → StopsPrefix viewed → count ≤ most_stream_bytes → HasTaken viewed count
 few_front ended.WriteFault count stops h = h
 few_front ended.OutOfMemory count stops h = h
 few_front ended.Done count stops h = absurd stops
@@ -47,15 +47,15 @@ few_front (ended.BadFrame place) count stops h = absurd stops
 few_front (ended.CutOff place) count stops h = absurd stops
 
 -- the head was put in part, and nothing was taken
-pub head_front : (page : Bool) (left first mid : Option (List ℕ)) → AddsFront (mark page page_head) first mid → (viewed : Viewed) → StopsFront viewed → ViewsInput page viewed left left first mid
+pub head_front : (page : Bool) (left first mid : Option (List ℕ)) → AddsPrefix (mark page page_head) first mid → (viewed : Viewed) → StopsPrefix viewed → ViewsInput page viewed left left first mid
 head_front page left first mid put viewed stops =
     let rest = rest_of left in
-    let front : ShowsFront page rest first mid = inl ([], 0, rest, (refl, refl), subst (λ (l : List ℕ). AddsFront l first mid) (sym (append-nil (mark page page_head))) put) in
+    let front : ShowsPrefix page rest first mid = inl ([], 0, rest, (refl, refl), subst (λ (l : List ℕ). AddsPrefix l first mid) (sym (append-nil (mark page page_head))) put) in
     record { taken = []; rest = rest; lost = removes_none left; told = told_rest left; few = few_front viewed 0 stops (omega arith); views = front_views page viewed stops [] rest first mid front }
 
 module _ (page : Bool) (first mid now : Option (List ℕ)) (head : Adds (mark page page_head) first mid) where
   -- the head, and the frames in part
-  frames_front : (bytes : List ℕ) → ShowsFrames page [] bytes mid now → ShowsFront page bytes first now
+  frames_front : (bytes : List ℕ) → ShowsFrames page [] bytes mid now → ShowsPrefix page bytes first now
   frames_front bytes (frames, to, rest, reads, put) = inl (frames, to, rest, reads, adds_then_front (mark page page_head) (frames_text page frames) first mid now head put)
 
   -- the head, and all whole frames
@@ -65,7 +65,7 @@ module _ (page : Bool) (first mid now : Option (List ℕ)) (head : Adds (mark pa
   module _ (tally : Tallied) where
     -- the head and the frames, and the foot in part or whole
     foot_front : (bytes : List ℕ) (last : Option (List ℕ)) (end : End) → ListsAll page end bytes tally mid now
-        → AddsFront (foot_text page tally (end_text end)) now last → ShowsFront page bytes first last
+        → AddsPrefix (foot_text page tally (end_text end)) now last → ShowsPrefix page bytes first last
     foot_front bytes last end (frames, reads, is, put) foot =
         inr (
           frames,
@@ -73,14 +73,14 @@ module _ (page : Bool) (first mid now : Option (List ℕ)) (head : Adds (mark pa
           reads,
           adds_then_front (mark page page_head ++ frames_text page frames) (foot_text page (tally_of frames) (end_text end)) first now last
               (adds_then (mark page page_head) (frames_text page frames) first mid now head put)
-              (subst (λ t. AddsFront (foot_text page t (end_text end)) now last) is foot),
+              (subst (λ t. AddsPrefix (foot_text page t (end_text end)) now last) is foot),
         )
 
     -- at the end of the input
     foot_front_end : (bytes rest : List ℕ) (last : Option (List ℕ)) (end : End) → rest ≡ []
-        → ListsAll page end bytes tally mid now → AddsFront (foot_text page tally (end_text end)) now last → ShowsFront page (bytes ++ rest) first last
+        → ListsAll page end bytes tally mid now → AddsPrefix (foot_text page tally (end_text end)) now last → ShowsPrefix page (bytes ++ rest) first last
     foot_front_end bytes rest last end none h foot =
-        subst (λ (l : List ℕ). ShowsFront page l first last) (sym (ap (λ (l : List ℕ). bytes ++ l) none ∙ append-nil bytes)) (foot_front bytes last end h foot)
+        subst (λ (l : List ℕ). ShowsPrefix page l first last) (sym (ap (λ (l : List ℕ). bytes ++ l) none ∙ append-nil bytes)) (foot_front bytes last end h foot)
 
     foot_whole : (bytes : List ℕ) (last : Option (List ℕ)) (end : End) → ListsAll page end bytes tally mid now
         → Adds (foot_text page tally (end_text end)) now last → ShowsAll page end bytes first last
@@ -113,7 +113,7 @@ module _ (page : Bool) (first mid now : Option (List ℕ)) (head : Adds (mark pa
     listed_views (ended.CutOff place) taken rest last e h foot = (h.0, foot_whole taken last (Rest place) h.1 foot)
 
     part_views : (v : Viewed) (taken rest : List ℕ) (last : Option (List ℕ)) → is_listed v ≡ true
-        → Lists page v taken rest tally mid now → AddsFront (foot_text page tally (ended_text v)) now last → ShowsFront page (taken ++ rest) first last
+        → Lists page v taken rest tally mid now → AddsPrefix (foot_text page tally (ended_text v)) now last → ShowsPrefix page (taken ++ rest) first last
     part_views ended.Done taken rest last e h foot = foot_front_end taken rest last Whole h.0 h.1 foot
     part_views ended.ReadFault taken rest last e h foot = absurd cc
     part_views ended.WriteFault taken rest last e h foot = absurd cc
@@ -138,8 +138,8 @@ module _ (page : Bool) (first mid now : Option (List ℕ)) (head : Adds (mark pa
       pub listed : (last : Option (List ℕ)) → is_listed v ≡ true → Adds (foot_text page tally (ended_text v)) now last → ViewsInput page v left after first last
       listed last e foot = record { taken = h.taken; rest = h.rest; lost = h.lost; told = h.told; few = h.few; views = listed_views v h.taken h.rest last e h.lists foot }
 
-      pub listed_in_part : (last : Option (List ℕ)) → is_listed v ≡ true → AddsFront (foot_text page tally (ended_text v)) now last
-          → (viewed : Viewed) → StopsFront viewed → ViewsInput page viewed left after first last
+      pub listed_in_part : (last : Option (List ℕ)) → is_listed v ≡ true → AddsPrefix (foot_text page tally (ended_text v)) now last
+          → (viewed : Viewed) → StopsPrefix viewed → ViewsInput page viewed left after first last
       listed_in_part last e foot viewed stops = record {
         taken = h.taken;
         rest = h.rest;

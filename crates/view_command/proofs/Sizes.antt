@@ -13,8 +13,8 @@ use Rattle.wire_messages.specs.declared.requests.Request.TheVariants.{Describe, 
 use Rattle.wire_payloads.specs.Payloads.{width}
 use Rattle.wire_payloads.specs.declared.payloads.Payload.{Payload}
 use Rattle.wire_payloads.specs.declared.payloads.Payload.TheVariants.{One, Rows}
-use Rattle.wire_spelling.specs.Packing.{payload_body, payload_frame, payload_kind}
-use Rattle.wire_spelling.specs.Spelling.{asked_frame, atom, u16, u32, u64, text, str, type, encryption, sent, frame, request_kind, request_body, reply_body}
+use Rattle.wire_encoding.specs.Packing.{payload_body, payload_frame, payload_kind}
+use Rattle.wire_encoding.specs.Spelling.{asked_frame, atom, u16, u32, u64, text, str, type, encryption, sent, frame, request_kind, request_body, reply_body}
 use Rattle.tap_listing.specs.Classes.{classing}
 use Rattle.tap_listing.specs.Frames.{
   blank_cell,

@@ -1,7 +1,7 @@
 -- How far the frames of what was taken were put: one frame more, one piece more, and what that is where it ends.
 use Rattle.std.proofs.Common.{◌≡◌, ◌⊎◌, ◌+◌, ◌≤◌, ℕ, List, [], ◌∷◌, ◌++◌, length, take, drop, Option, Bool, refl, sym, ap, subst, ◌∙◌, append_assoc, append-nil, length-append, arith, inl, inr}
 use Rattle.std.proofs.lemmas.List.{length-take-le, take-append-drop}
-use Rattle.ae_edge.specs.Devices.{Adds, AddsFront}
+use Rattle.ae_edge.specs.Devices.{Adds, AddsPrefix}
 use Rattle.ae_edge.proofs.Interface.{adds_none, adds_then, adds_then_front, front_of, front_same}
 use Rattle.first_seen.specs.Parts.{Spot, seen_past}
 use Rattle.scalar.specs.Classes.{Class}
@@ -15,8 +15,8 @@ use Rattle.tap_listing.specs.declared.frames.Frame.TheVariants.{Asked, Told}
 use Rattle.tap_reading.specs.Reading.{SpellsFrame, is_tap_head}
 use Rattle.tap_text.specs.Text.{frame_text}
 use Rattle.wire_frames.specs.Frames.{Placed, End, Refused, EndsSo, IsNotYet, ReadsAs}
-use Rattle.wire_spelling.specs.Packing.{payload_body}
-use Rattle.wire_spelling.specs.Spelling.{request_body, u32}
+use Rattle.wire_encoding.specs.Packing.{payload_body}
+use Rattle.wire_encoding.specs.Spelling.{request_body, u32}
 use Rattle.view_command.specs.Streaming.{BreaksNext, Comes, IsNext, ListsAll, Passes, Stands, Turns, classes_behind, seen_behind}
 use Rattle.view_command.specs.Viewing.{ReadsTo, ShowsFrames, ShowsOpen, frames_behind, frames_text, tallied_behind}
 use Rattle.view_command.specs.declared.frames.Seen.{Seen}
@@ -171,13 +171,13 @@ module _ (page : Bool) (taken : List ℕ) (held : Held) (seen : Seen) (first now
 
     -- a front of its text was put
     pub shows_front : (new : Option (List ℕ))
-        → ((seen_before : List (Spot Class)) → Tells seen.cells seen_before → AddsFront (frame_text page held.at seen.classes.items m seen_before) now new) → ShowsFrames page [] taken first new
+        → ((seen_before : List (Spot Class)) → Tells seen.cells seen_before → AddsPrefix (frame_text page held.at seen.classes.items m seen_before) now new) → ShowsFrames page [] taken first new
     shows_front new put = (
       s.frames ++ next ∷ [],
       held.at + used,
       drop used held.bytes.items,
       read_next,
-      subst (λ (l : List ℕ). AddsFront l first new) (sym text_next)
+      subst (λ (l : List ℕ). AddsPrefix l first new) (sym text_next)
           (adds_then_front (frames_text page s.frames) (frame_text page held.at seen.classes.items m past) first now new s.put (put past s.cells)),
     )
 

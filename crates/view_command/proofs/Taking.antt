@@ -3,7 +3,7 @@ use Rattle.std.proofs.Common.{◌≡◌, ◌+◌, ◌≤◌, ℕ, List, [], ◌+
 use Rattle.std.specs.Prelude.{IfSome}
 use Rattle.std.proofs.lemmas.List.{take-append-le, take_all}
 use Rattle.ae_base.specs.Limits.{most_stream_bytes}
-use Rattle.ae_edge.specs.Devices.{WhereTold, Removes}
+use Rattle.ae_edge.specs.Devices.{WhereExposed, Removes}
 use Rattle.ae_edge.specs.Sources.{Takes}
 use Rattle.ae_edge.specs.declared.sources.Taken.TheVariants as taken
 use Rattle.ae_edge.proofs.Interface.{told_map, removes_none, removes_then}
@@ -49,28 +49,28 @@ pub told_rest : (left : Option (List ℕ)) → IfSome left (λ bytes. rest_of le
 told_rest (Some bytes) = refl
 told_rest None = tt
 
-none_left : (left after : Option (List ℕ)) → WhereTold (Takes taken.End) left after → rest_of after ≡ []
+none_left : (left after : Option (List ℕ)) → WhereExposed (Takes taken.End) left after → rest_of after ≡ []
 none_left (Some x) (Some y) h = h.1
 none_left None None h = refl
 none_left (Some x) None h = absurd h
 none_left None (Some y) h = absurd h
 
-removes_piece : (piece : List ℕ) (left after : Option (List ℕ)) → WhereTold (Takes (taken.Bytes piece)) left after → Removes piece left after
+removes_piece : (piece : List ℕ) (left after : Option (List ℕ)) → WhereExposed (Takes (taken.Bytes piece)) left after → Removes piece left after
 removes_piece piece left after h = told_map (Takes (taken.Bytes piece)) (λ (x y : List ℕ). x ≡ piece ++ y) (λ x y e. e) left after h
 
-removes_end : (left after : Option (List ℕ)) → WhereTold (Takes taken.End) left after → Removes [] left after
+removes_end : (left after : Option (List ℕ)) → WhereExposed (Takes taken.End) left after → Removes [] left after
 removes_end left after h = told_map (Takes taken.End) (λ (x y : List ℕ). x ≡ [] ++ y) (λ x y e. e.0 ∙ sym e.1) left after h
 
-removes_failed : (left after : Option (List ℕ)) → WhereTold (Takes taken.Failed) left after → Removes [] left after
+removes_failed : (left after : Option (List ℕ)) → WhereExposed (Takes taken.Failed) left after → Removes [] left after
 removes_failed left after h = told_map (Takes taken.Failed) (λ (x y : List ℕ). x ≡ [] ++ y) (λ x y e. sym e) left after h
 
-removes_unheld : (left after : Option (List ℕ)) → WhereTold (Takes taken.OutOfMemory) left after → Removes [] left after
+removes_unheld : (left after : Option (List ℕ)) → WhereExposed (Takes taken.OutOfMemory) left after → Removes [] left after
 removes_unheld left after h = told_map (Takes taken.OutOfMemory) (λ (x y : List ℕ). x ≡ [] ++ y) (λ x y e. sym e) left after h
 
 -- ---- and how it goes on, or ends
 
 module _ (page : Bool) (count : ℕ) (held : Held) (seen : Seen) (source left out now : Option (List ℕ)) (g : Going page count held seen source left out now) where
-  lost_more : (piece : List ℕ) (after : Option (List ℕ)) → WhereTold (Takes (taken.Bytes piece)) left after → Removes (g.taken ++ piece) source after
+  lost_more : (piece : List ℕ) (after : Option (List ℕ)) → WhereExposed (Takes (taken.Bytes piece)) left after → Removes (g.taken ++ piece) source after
   lost_more piece after h = removes_then g.taken piece source left after g.lost (removes_piece piece left after h)
 
   lost_same : (after : Option (List ℕ)) → Removes [] left after → Removes g.taken source after
@@ -83,7 +83,7 @@ module _ (page : Bool) (count : ℕ) (held : Held) (seen : Seen) (source left ou
   pub short : held.at + length held.bytes.items ≤ most_stream_bytes
   short = omega (arith, within, stands_short page g.taken held seen out now g.stands)
 
-  module _ (piece : List ℕ) (after : Option (List ℕ)) (took : WhereTold (Takes (taken.Bytes piece)) left after) (fits : length piece ≤ count) where
+  module _ (piece : List ℕ) (after : Option (List ℕ)) (took : WhereExposed (Takes (taken.Bytes piece)) left after) (fits : length piece ≤ count) where
     still_within : length (g.taken ++ piece) ≤ most_stream_bytes
     still_within = omega (arith, g.few, fits, length-append g.taken piece)
 
@@ -138,7 +138,7 @@ module _ (page : Bool) (count : ℕ) (held : Held) (seen : Seen) (source left ou
     }
 
   -- a byte past the limit
-  pub ends_past : (piece : List ℕ) (after : Option (List ℕ)) → WhereTold (Takes (taken.Bytes piece)) left after
+  pub ends_past : (piece : List ℕ) (after : Option (List ℕ)) → WhereExposed (Takes (taken.Bytes piece)) left after
       → length piece ≡ 1 → count ≡ 0 → ListsInput page ended.TooLong seen.tally source after out now
   ends_past piece after took one none =
       let all : length g.taken ≡ most_stream_bytes = omega (arith, g.few, none) in
@@ -153,7 +153,7 @@ module _ (page : Bool) (count : ℕ) (held : Held) (seen : Seen) (source left ou
         lists = subst (λ (l : List ℕ). ShowsOpen page [] l out now) (sym front) (shows_open page g.taken held seen out now g.stands g.waits);
       }
 
-  pub ends_unread : (after : Option (List ℕ)) → WhereTold (Takes taken.Failed) left after → ListsInput page ended.ReadFault seen.tally source after out now
+  pub ends_unread : (after : Option (List ℕ)) → WhereExposed (Takes taken.Failed) left after → ListsInput page ended.ReadFault seen.tally source after out now
   ends_unread after h = record {
     taken = g.taken;
     rest = rest_of after;
@@ -163,7 +163,7 @@ module _ (page : Bool) (count : ℕ) (held : Held) (seen : Seen) (source left ou
     lists = shows_open page g.taken held seen out now g.stands g.waits;
   }
 
-  pub ends_without : (after : Option (List ℕ)) → WhereTold (Takes taken.OutOfMemory) left after → ListsInput page ended.OutOfMemory seen.tally source after out now
+  pub ends_without : (after : Option (List ℕ)) → WhereExposed (Takes taken.OutOfMemory) left after → ListsInput page ended.OutOfMemory seen.tally source after out now
   ends_without after h = record {
     taken = g.taken;
     rest = rest_of after;
@@ -174,7 +174,7 @@ module _ (page : Bool) (count : ℕ) (held : Held) (seen : Seen) (source left ou
   }
 
   -- the end of the input
-  pub ends_whole : (v : Viewed) (after : Option (List ℕ)) → WhereTold (Takes taken.End) left after → EndsAt v held → ListsInput page v seen.tally source after out now
+  pub ends_whole : (v : Viewed) (after : Option (List ℕ)) → WhereExposed (Takes taken.End) left after → EndsAt v held → ListsInput page v seen.tally source after out now
   ends_whole ended.Done after h e = record {
     taken = g.taken;
     rest = rest_of after;

@@ -1,7 +1,7 @@
 -- A recording that comes in pieces: what is seen of its frames, what is held, and how far it was put.
 use Rattle.std.specs.Prelude.{◌≡◌, ◌⊎◌, ◌<◌, ◌≤◌, ℕ, List, [], ◌∷◌, ◌++◌, length, take, Option, IfSome, Bool}
 use Rattle.ae_base.specs.Limits.{most_stream_bytes}
-use Rattle.ae_edge.specs.Devices.{Adds, AddsFront, Removes, Rose}
+use Rattle.ae_edge.specs.Devices.{Adds, AddsPrefix, Removes, Rose}
 use Rattle.first_seen.specs.Parts.{Spot, seen_past}
 use Rattle.scalar.specs.Classes.{Class}
 use Rattle.tap_counts.specs.Counting.{Tallied, frame_places, tallied_from}
@@ -49,7 +49,7 @@ pub record BreaksNext (page : Bool) (held : Held) (seen : Seen) (old new : Optio
   pub frame : Frame
   pub used : ℕ
   pub next : IsNext held frame used
-  pub put : (past : List (Spot Class)) → Tells seen.cells past → AddsFront (frame_text page held.at seen.classes.items frame past) old new
+  pub put : (past : List (Spot Class)) → Tells seen.cells past → AddsPrefix (frame_text page held.at seen.classes.items frame past) old new
 
 abbrev pub Turns : Bool → Turn → Held → Seen → Seen → Option (List ℕ) → Option (List ℕ) → Type 0
 Turns page (turn.Put used) held seen after old new = PutsNext page held used seen after old new

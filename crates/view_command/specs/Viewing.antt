@@ -1,7 +1,7 @@
 -- The command `view`: what is put of a recording, and how that ends.
 use Rattle.std.specs.Prelude.{◌≡◌, ◌≤◌, ◌+◌, ◌⊎◌, ℕ, List, [], ◌∷◌, ◌++◌, length, take, codes, decimal, Option, IfSome, Bool, true, false}
 use Rattle.ae_base.specs.Limits.{most_stream_bytes}
-use Rattle.ae_edge.specs.Devices.{Adds, AddsFront, Removes}
+use Rattle.ae_edge.specs.Devices.{Adds, AddsPrefix, Removes}
 use Rattle.first_seen.specs.Parts.{Spot, seen_past}
 use Rattle.scalar.specs.Classes.{Class}
 use Rattle.tap_listing.specs.Classes.{classing}
@@ -68,22 +68,22 @@ ShowsOpen page head bytes old new =
 
 -- the bytes begin with frames, of whose text behind another a front was put
 abbrev pub ShowsFrames : Bool → List ℕ → List ℕ → Option (List ℕ) → Option (List ℕ) → Type 0
-ShowsFrames page head bytes old new = (frames : List (Placed Frame)) × (to : ℕ) × (rest : List ℕ) × ReadsTo 0 bytes frames to rest × AddsFront (head ++ frames_text page frames) old new
+ShowsFrames page head bytes old new = (frames : List (Placed Frame)) × (to : ℕ) × (rest : List ℕ) × ReadsTo 0 bytes frames to rest × AddsPrefix (head ++ frames_text page frames) old new
 
 -- the bytes are frames that end somehow, and a front of their listing was put
 abbrev pub ShowsInPart : Bool → List ℕ → Option (List ℕ) → Option (List ℕ) → Type 0
-ShowsInPart page bytes old new = (frames : List (Placed Frame)) × (end : End) × TapFrames bytes frames end × AddsFront (listing_text page frames end) old new
+ShowsInPart page bytes old new = (frames : List (Placed Frame)) × (end : End) × TapFrames bytes frames end × AddsPrefix (listing_text page frames end) old new
 
 -- it stopped among the frames, or behind them
-abbrev pub ShowsFront : Bool → List ℕ → Option (List ℕ) → Option (List ℕ) → Type 0
-ShowsFront page bytes old new = ShowsFrames page (mark page page_head) bytes old new ⊎ ShowsInPart page bytes old new
+abbrev pub ShowsPrefix : Bool → List ℕ → Option (List ℕ) → Option (List ℕ) → Type 0
+ShowsPrefix page bytes old new = ShowsFrames page (mark page page_head) bytes old new ⊎ ShowsInPart page bytes old new
 
 -- by how it ended, of bytes that were taken and those that follow them
 abbrev pub Views : Bool → Viewed → List ℕ → List ℕ → Option (List ℕ) → Option (List ℕ) → Type 0
 Views page ended.Done taken rest old new = (rest ≡ []) × ShowsAll page Whole taken old new
 Views page ended.ReadFault taken rest old new = ShowsOpen page (mark page page_head) taken old new
-Views page ended.WriteFault taken rest old new = ShowsFront page (taken ++ rest) old new
-Views page ended.OutOfMemory taken rest old new = ShowsFront page (taken ++ rest) old new
+Views page ended.WriteFault taken rest old new = ShowsPrefix page (taken ++ rest) old new
+Views page ended.OutOfMemory taken rest old new = ShowsPrefix page (taken ++ rest) old new
 Views page ended.TooLong taken rest old new = ShowsOpen page (mark page page_head) (take most_stream_bytes taken) old new
 Views page (ended.BadFrame place) taken rest old new = ShowsAll page (Refused place) (taken ++ rest) old new
 Views page (ended.CutOff place) taken rest old new = (rest ≡ []) × ShowsAll page (Rest place) taken old new

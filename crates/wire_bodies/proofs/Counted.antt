@@ -5,7 +5,7 @@ use Rattle.std.proofs.lemmas.Option.{same_Some, cond_some}
 use Rattle.ae_base.specs.Limits.{most_frame_rows}
 use Rattle.ae_base.specs.Options.{◌>>=◌}
 use Rattle.wire_payloads.specs.Batches.{Atoms}
-use Rattle.wire_reading.specs.Reading.{Reader, kept, when, number_at, parts_at, many_at, atom_at, is_within, is_few, is_batch, shared_row_at, shared_rows_at, rows_at}
+use Rattle.wire_decoding.specs.Reading.{Reader, kept, when, number_at, parts_at, many_at, atom_at, is_within, is_few, is_batch, shared_row_at, shared_rows_at, rows_at}
 
 -- ---- steps that may fail
 

@@ -1,6 +1,6 @@
 -- Parts that are read one after another, as a loop does.
 use Rattle.std.proofs.Common.{◌≡◌, ◌<◌, ℕ, zero, suc, List, [], ◌∷◌, ◌++◌, length, Some, None, refl, sym, ap, subst, arith}
-use Rattle.wire_reading.specs.Reading.{Reader, parts_at}
+use Rattle.wire_decoding.specs.Reading.{Reader, parts_at}
 
 -- the parts stand at the front of some bytes, one after another, before the rest
 abbrev pub AreRead : {P : Type 0} → Reader P → List P → List ℕ → List ℕ → Type 0

@@ -2,7 +2,7 @@
 
 ghost use Rattle.std.specs.Prelude.{◌≡◌};
 ghost use Rattle.wire_bodies.specs.Found.{GivesBody};
-ghost use Rattle.wire_reading.specs.Reading as read;
+ghost use Rattle.wire_decoding.specs.Reading as read;
 
 use crate::faults::fault_of;
 use crate::found::{Body, Found};
@@ -10,13 +10,13 @@ use crate::listing::{declarations_of, keys_of, many_of, sent_params_of, used_par
 use crate::rows::rows_of;
 use ae_base::frames::FrameVersion;
 use std::alloc::Global;
+use wire_decoding::checks;
+use wire_decoding::reading::{done_of, session_of, statement_of, u64_of};
 use wire_messages::replies::Reply;
 use wire_messages::requests::Request;
 use wire_payloads::payloads::Payload;
-use wire_reading::checks;
-use wire_reading::reading::{done_of, session_of, statement_of, u64_of};
 
-#[tactic(auto, unfolding(wire_reading::specs::Reading::describe_at))]
+#[tactic(auto, unfolding(wire_decoding::specs::Reading::describe_at))]
 fn describe_of(alloc: Global, body: &[u8]) -> Body<Request<'_>>
     ensures { GivesBody result (read.describe_at body.now) }
 {
@@ -42,7 +42,7 @@ fn describe_of(alloc: Global, body: &[u8]) -> Body<Request<'_>>
     }
 }
 
-#[tactic(auto, unfolding(wire_reading::specs::Reading::execute_at))]
+#[tactic(auto, unfolding(wire_decoding::specs::Reading::execute_at))]
 fn execute_of(alloc: Global, body: &[u8]) -> Body<Request<'_>>
     ensures { GivesBody result (read.execute_at body.now) }
 {
@@ -73,7 +73,7 @@ fn execute_of(alloc: Global, body: &[u8]) -> Body<Request<'_>>
 }
 
 /// The body of a request of a kind.
-#[tactic(auto, unfolding(wire_reading::specs::Reading::request_at))]
+#[tactic(auto, unfolding(wire_decoding::specs::Reading::request_at))]
 pub fn request_body_of(alloc: Global, kind: u8, body: &[u8]) -> Body<Request<'_>>
     ensures { GivesBody result (read.request_at kind body.now) }
 {
@@ -84,7 +84,7 @@ pub fn request_body_of(alloc: Global, kind: u8, body: &[u8]) -> Body<Request<'_>
     }
 }
 
-#[tactic(auto, unfolding(wire_reading::specs::Reading::described_at))]
+#[tactic(auto, unfolding(wire_decoding::specs::Reading::described_at))]
 fn described_of(alloc: Global, body: &[u8]) -> Body<Reply<'_>>
     ensures { GivesBody result (read.described_at body.now) }
 {
@@ -105,7 +105,7 @@ fn described_of(alloc: Global, body: &[u8]) -> Body<Reply<'_>>
     }
 }
 
-#[tactic(auto, unfolding(wire_reading::specs::Reading::columns_at))]
+#[tactic(auto, unfolding(wire_decoding::specs::Reading::columns_at))]
 fn columns_of(alloc: Global, body: &[u8]) -> Body<Reply<'_>>
     ensures { GivesBody result (read.columns_at body.now) }
 {
@@ -123,7 +123,7 @@ fn columns_of(alloc: Global, body: &[u8]) -> Body<Reply<'_>>
     }
 }
 
-#[tactic(auto, unfolding(wire_reading::specs::Reading::row_at))]
+#[tactic(auto, unfolding(wire_decoding::specs::Reading::row_at))]
 fn row_of(alloc: Global, body: &[u8]) -> Body<Reply<'_>>
     ensures { GivesBody result (read.row_at body.now) }
 {
@@ -137,7 +137,7 @@ fn row_of(alloc: Global, body: &[u8]) -> Body<Reply<'_>>
     }
 }
 
-#[tactic(auto, unfolding(wire_reading::specs::Reading::ended_at))]
+#[tactic(auto, unfolding(wire_decoding::specs::Reading::ended_at))]
 fn ended_of(body: &[u8]) -> Body<Reply<'_>>
     ensures { GivesBody result (read.ended_at body.now) }
 {
@@ -152,7 +152,7 @@ fn ended_of(body: &[u8]) -> Body<Reply<'_>>
     }
 }
 
-#[tactic(auto, unfolding(wire_reading::specs::Reading::refused_at))]
+#[tactic(auto, unfolding(wire_decoding::specs::Reading::refused_at))]
 fn refused_of(alloc: Global, body: &[u8]) -> Body<Reply<'_>>
     ensures { GivesBody result (read.refused_at body.now) }
 {
@@ -164,7 +164,7 @@ fn refused_of(alloc: Global, body: &[u8]) -> Body<Reply<'_>>
 }
 
 /// The body of a reply of a kind.
-#[tactic(auto, unfolding(wire_reading::specs::Reading::reply_at))]
+#[tactic(auto, unfolding(wire_decoding::specs::Reading::reply_at))]
 fn reply_body_of(alloc: Global, kind: u8, body: &[u8]) -> Body<Reply<'_>>
     ensures { GivesBody result (read.reply_at kind body.now) }
 {
@@ -190,7 +190,7 @@ fn alone_of(alloc: Global, kind: u8, body: &[u8]) -> Body<Payload<'_>>
 }
 
 /// Rows that share a frame.
-#[tactic(auto, unfolding(wire_reading::specs::Reading::batch_at))]
+#[tactic(auto, unfolding(wire_decoding::specs::Reading::batch_at))]
 fn batch_of(alloc: Global, body: &[u8]) -> Body<Payload<'_>>
     ensures { GivesBody result (read.batch_at body.now) }
 {
@@ -202,7 +202,7 @@ fn batch_of(alloc: Global, body: &[u8]) -> Body<Payload<'_>>
 }
 
 /// What a frame of a kind carries to the driver, in a version.
-#[tactic(auto, unfolding(wire_reading::specs::Reading::payload_at))]
+#[tactic(auto, unfolding(wire_decoding::specs::Reading::payload_at))]
 pub fn payload_body_of(
     alloc: Global,
     version: FrameVersion,

@@ -3,7 +3,7 @@
 ghost use Rattle.std.specs.Prelude.{◌≡◌};
 ghost use Rattle.std.specs.Int.{w32};
 ghost use Rattle.wire_bodies.specs.Found.{GivesBody};
-ghost use Rattle.wire_reading.specs.Reading as read;
+ghost use Rattle.wire_decoding.specs.Reading as read;
 
 use crate::found::Body;
 use ae_base::faults::SqlFault;
@@ -11,8 +11,8 @@ use ae_base::names::{Name, ParamName};
 use ae_base::uniques::UniqueNumber;
 use ae_base::versions::Versions;
 use std::alloc::Global;
-use wire_reading::checks;
-use wire_reading::reading::{counts_of, name_of, param_name_of, u32_of, versions_of};
+use wire_decoding::checks;
+use wire_decoding::reading::{counts_of, name_of, param_name_of, u32_of, versions_of};
 
 /// A fault without fields.
 macro_rules! bare {
@@ -89,7 +89,7 @@ fn versions(bytes: &[u8]) -> Body<Versions>
     }
 }
 
-#[tactic(auto, unfolding(wire_reading::specs::Reading::unique_number_at))]
+#[tactic(auto, unfolding(wire_decoding::specs::Reading::unique_number_at))]
 fn unique_number(bytes: &[u8]) -> Body<UniqueNumber>
     ensures { GivesBody result (read.whole read.unique_number_at bytes.now) }
 {
@@ -155,7 +155,7 @@ fn fields_of(alloc: Global, code: u8, rest: &[u8]) -> Body<SqlFault>
 }
 
 /// A fault, all of the bytes.
-#[tactic(auto, unfolding(wire_reading::specs::Reading::fault_at))]
+#[tactic(auto, unfolding(wire_decoding::specs::Reading::fault_at))]
 pub fn fault_of(alloc: Global, bytes: &[u8]) -> Body<SqlFault>
     ensures { GivesBody result (read.fault_at bytes.now) }
 {

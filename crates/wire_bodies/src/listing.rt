@@ -3,14 +3,16 @@
 ghost use Rattle.std.specs.Prelude.{◌≡◌, List, ℕ, Option};
 ghost use Rattle.std.specs.Int.{w16};
 ghost use Rattle.wire_bodies.specs.Found.{GivesFound};
-ghost use Rattle.wire_reading.specs.Reading as read;
-ghost use Rattle.wire_reading.specs.Reading.{Gives};
+ghost use Rattle.wire_decoding.specs.Reading as read;
+ghost use Rattle.wire_decoding.specs.Reading.{Gives};
 
 use crate::found::Found;
 use ae_base::limits::MOST_ANSWER_COLUMNS;
 use ae_base::lists::Seq;
 use ae_base::params::{Named, ParamList};
 use std::alloc::Global;
+use wire_decoding::checks;
+use wire_decoding::reading::{atom_of, enc_of, entry_of, param_name_of, title_of, ty_of, u16_of};
 use wire_messages::columns::SentColumn;
 use wire_messages::key_entries::{KeyEntry, gather};
 use wire_messages::params::{
@@ -18,8 +20,6 @@ use wire_messages::params::{
 };
 use wire_parts::atoms::AtomPart;
 use wire_parts::keys::KeyPart;
-use wire_reading::checks;
-use wire_reading::reading::{atom_of, enc_of, entry_of, param_name_of, title_of, ty_of, u16_of};
 
 /// A part of a message that can be read from the front of some bytes.
 pub trait ReadPart<'a>: Sized + Drop {
@@ -54,7 +54,7 @@ pub fn parts_of<'a, P: ReadPart<'a>>(
 }
 
 /// As many parts as a byte counts.
-#[tactic(auto, unfolding(wire_reading::specs::Reading::few_at))]
+#[tactic(auto, unfolding(wire_decoding::specs::Reading::few_at))]
 fn few_of<'a, P: ReadPart<'a>>(alloc: Global, bytes: &'a [u8]) -> Found<'a, Seq<P>>
     ensures { GivesFound result (read.few_at P.reading bytes.now) }
 {
@@ -78,7 +78,7 @@ pub fn count_of(bytes: &[u8], most: usize) -> Option<(usize, &[u8])>
 }
 
 /// As many parts as two bytes count: 1 to 512. Where it is another number, no part is read.
-#[tactic(auto, unfolding(wire_reading::specs::Reading::many_at))]
+#[tactic(auto, unfolding(wire_decoding::specs::Reading::many_at))]
 pub fn many_of<'a, P: ReadPart<'a>>(alloc: Global, bytes: &'a [u8]) -> Found<'a, Seq<P>>
     ensures { GivesFound result (read.kept read.is_few (read.many_at P.reading) bytes.now) }
 {
@@ -89,7 +89,7 @@ pub fn many_of<'a, P: ReadPart<'a>>(alloc: Global, bytes: &'a [u8]) -> Found<'a,
 }
 
 /// Keys, which are listed value by value.
-#[tactic(auto, unfolding(wire_reading::specs::Reading::keys_at))]
+#[tactic(auto, unfolding(wire_decoding::specs::Reading::keys_at))]
 pub fn keys_of(alloc: Global, bytes: &[u8]) -> Found<'_, Seq<KeyPart<'_>>>
     ensures { GivesFound result (read.keys_at bytes.now) }
 {
@@ -119,7 +119,7 @@ fn params_of<'a, P: ReadPart<'a> + Named>(alloc: Global, bytes: &'a [u8]) -> Fou
 }
 
 /// Declarations.
-#[tactic(auto, unfolding(wire_reading::specs::Reading::declarations_at))]
+#[tactic(auto, unfolding(wire_decoding::specs::Reading::declarations_at))]
 pub fn declarations_of(alloc: Global, bytes: &[u8]) -> Found<'_, DeclarationParts<'_>>
     ensures { GivesFound result (read.declarations_at bytes.now) }
 {
@@ -127,7 +127,7 @@ pub fn declarations_of(alloc: Global, bytes: &[u8]) -> Found<'_, DeclarationPart
 }
 
 /// Parameters as they are sent.
-#[tactic(auto, unfolding(wire_reading::specs::Reading::sent_params_at))]
+#[tactic(auto, unfolding(wire_decoding::specs::Reading::sent_params_at))]
 pub fn sent_params_of(alloc: Global, bytes: &[u8]) -> Found<'_, SentParams<'_>>
     ensures { GivesFound result (read.sent_params_at bytes.now) }
 {
@@ -135,7 +135,7 @@ pub fn sent_params_of(alloc: Global, bytes: &[u8]) -> Found<'_, SentParams<'_>>
 }
 
 /// Used parameters.
-#[tactic(auto, unfolding(wire_reading::specs::Reading::used_params_at))]
+#[tactic(auto, unfolding(wire_decoding::specs::Reading::used_params_at))]
 pub fn used_params_of(alloc: Global, bytes: &[u8]) -> Found<'_, UsedParams<'_>>
     ensures { GivesFound result (read.used_params_at bytes.now) }
 {
@@ -158,7 +158,7 @@ impl<'a> ReadPart<'a> for KeyEntry<'a> {
     }
 }
 
-#[tactic(auto, unfolding(wire_reading::specs::Reading::declaration_at))]
+#[tactic(auto, unfolding(wire_decoding::specs::Reading::declaration_at))]
 impl<'a> ReadPart<'a> for Declaration<'a> {
     ghost reading = { read.declaration_at };
 
@@ -171,7 +171,7 @@ impl<'a> ReadPart<'a> for Declaration<'a> {
     }
 }
 
-#[tactic(auto, unfolding(wire_reading::specs::Reading::sent_at))]
+#[tactic(auto, unfolding(wire_decoding::specs::Reading::sent_at))]
 impl<'a> ReadPart<'a> for SentParam<'a> {
     ghost reading = { read.sent_at };
 
@@ -194,7 +194,7 @@ impl<'a> ReadPart<'a> for SentParam<'a> {
     }
 }
 
-#[tactic(auto, unfolding(wire_reading::specs::Reading::used_at))]
+#[tactic(auto, unfolding(wire_decoding::specs::Reading::used_at))]
 impl<'a> ReadPart<'a> for UsedParam<'a> {
     ghost reading = { read.used_at };
 
@@ -207,7 +207,7 @@ impl<'a> ReadPart<'a> for UsedParam<'a> {
     }
 }
 
-#[tactic(auto, unfolding(wire_reading::specs::Reading::column_at))]
+#[tactic(auto, unfolding(wire_decoding::specs::Reading::column_at))]
 impl<'a> ReadPart<'a> for SentColumn<'a> {
     ghost reading = { read.column_at };
 

@@ -2,19 +2,19 @@
 
 ghost use Rattle.std.specs.Prelude.{◌≡◌};
 ghost use Rattle.wire_bodies.specs.Found.{GivesFound};
-ghost use Rattle.wire_reading.specs.Reading as read;
+ghost use Rattle.wire_decoding.specs.Reading as read;
 
 use crate::found::Found;
 use crate::listing::{count_of, parts_of};
 use ae_base::limits::{MOST_ANSWER_COLUMNS, MOST_FRAME_ROWS};
 use ae_base::lists::Seq;
 use std::alloc::Global;
+use wire_decoding::checks;
 use wire_messages::replies::RowParts;
 use wire_payloads::payloads::RowBatch;
-use wire_reading::checks;
 
 /// A row of so many atoms.
-#[tactic(auto, unfolding(wire_reading::specs::Reading::shared_row_at))]
+#[tactic(auto, unfolding(wire_decoding::specs::Reading::shared_row_at))]
 fn shared_row_of(alloc: Global, columns: usize, bytes: &[u8]) -> Found<'_, RowParts<'_>>
     ensures { GivesFound result (read.shared_row_at columns bytes.now) }
 {
@@ -54,7 +54,7 @@ fn shared_rows_of(
 
 /// Rows that share a frame, behind their number and the number of their columns. Where there are
 /// too many rows or columns, no row is read.
-#[tactic(auto, unfolding(wire_reading::specs::Reading::rows_at))]
+#[tactic(auto, unfolding(wire_decoding::specs::Reading::rows_at))]
 pub fn rows_of(alloc: Global, bytes: &[u8]) -> Found<'_, RowBatch<'_>>
     ensures { GivesFound result (read.kept read.is_batch read.rows_at bytes.now) }
 {

@@ -11,13 +11,13 @@ use Rattle.wire_payloads.specs.Payloads.{IsPayload}
 use Rattle.wire_payloads.specs.declared.payloads.Payload.{Payload}
 use Rattle.wire_payloads.specs.declared.payloads.Payload.TheVariants.{One, Rows}
 use Rattle.wire_payloads.specs.declared.versioned.Versioned.{Versioned}
-use Rattle.wire_spelling.specs.Packing.{most_body_bytes, payload_kind, payload_body, HasFrame, SpellsPayload}
-use Rattle.wire_spelling.specs.Spelling.{version_byte, request_kind, request_body, SpellsRequest}
+use Rattle.wire_encoding.specs.Packing.{most_body_bytes, payload_kind, payload_body, HasFrame, SpellsPayload}
+use Rattle.wire_encoding.specs.Spelling.{version_byte, request_kind, request_body, SpellsRequest}
 use Rattle.wire_frames.specs.Frames.{is_request_head, is_reply_kind, is_reply_head}
 use Rattle.wire_frames.specs.Laws.{IsAsked}
-use Rattle.wire_reading.specs.Reading.{request_at, payload_at}
-use Rattle.wire_spelling.proofs.Interface.{request_within}
-use Rattle.wire_reading.proofs.Interface.{AreBytes, request_takes, request_again, payload_takes, payload_again}
+use Rattle.wire_decoding.specs.Reading.{request_at, payload_at}
+use Rattle.wire_encoding.proofs.Interface.{request_within}
+use Rattle.wire_decoding.proofs.Interface.{AreBytes, request_takes, request_again, payload_takes, payload_again}
 use Rattle.wire_frames.proofs.FrameLaws.{IsDirection, one_version}
 
 -- ---- requests

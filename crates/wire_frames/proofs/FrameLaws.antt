@@ -6,11 +6,11 @@ use Rattle.std.proofs.lemmas.List.{take_at, take-append-drop, append-nil, nil_fr
 use Rattle.std.proofs.lemmas.Nat.{be_bytes_4, from_be_bytes-to_be_bytes_4}
 use Rattle.ae_base.specs.declared.frames.FrameVersion.{FrameVersion}
 use Rattle.ae_base.specs.declared.frames.FrameVersion.TheVariants.{V1, V2}
-use Rattle.wire_spelling.specs.Packing.{most_body_bytes}
-use Rattle.wire_spelling.specs.Spelling as spell
-use Rattle.wire_spelling.specs.Spelling.{version_byte}
+use Rattle.wire_encoding.specs.Packing.{most_body_bytes}
+use Rattle.wire_encoding.specs.Spelling as spell
+use Rattle.wire_encoding.specs.Spelling.{version_byte}
 use Rattle.wire_frames.specs.Frames.{stated, is_no_header, IsRefused}
-use Rattle.wire_reading.proofs.Interface.{AreBytes, AreBytes-drop, AreBytes-take, some_is}
+use Rattle.wire_decoding.proofs.Interface.{AreBytes, AreBytes-drop, AreBytes-take, some_is}
 
 -- ---- headers
 

@@ -5,10 +5,10 @@ use Rattle.std.proofs.lemmas.Bool.{ltb-true, ltb-false}
 use Rattle.std.proofs.lemmas.List.{take-append-drop, length-drop}
 use Rattle.std.proofs.lemmas.List.Elements.{All-head, All-tail}
 use Rattle.ae_base.specs.declared.frames.FrameVersion.{FrameVersion}
-use Rattle.wire_spelling.specs.Spelling.{version_byte}
+use Rattle.wire_encoding.specs.Spelling.{version_byte}
 use Rattle.wire_frames.specs.Frames.{Placed, End, Whole, Refused, Rest, ReadsAs, stated, is_no_header}
 use Rattle.wire_frames.specs.Laws.{HasReading}
-use Rattle.wire_reading.proofs.Interface.{AreBytes, AreBytes-drop}
+use Rattle.wire_decoding.proofs.Interface.{AreBytes, AreBytes-drop}
 use Rattle.wire_frames.proofs.FrameLaws.{IsDirection, is_head_of, whole_one, none_is_refused}
 
 by_bool : {P : Type 0} (b : Bool) → (b ≡ true → P) → (b ≡ false → P) → P

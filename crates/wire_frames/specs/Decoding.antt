@@ -1,7 +1,7 @@
 -- What a decoder answers.
 use Rattle.std.specs.Prelude.{◌≡◌, ◌≤◌, ◌+◌, ℕ, List, ◌++◌, length, take, drop, Bool, true, false, Option, Some, None, slice_index}
 use Rattle.ae_base.specs.declared.frames.FrameVersion.{FrameVersion}
-use Rattle.wire_spelling.specs.Spelling.{version_byte}
+use Rattle.wire_encoding.specs.Spelling.{version_byte}
 use Rattle.wire_frames.specs.Frames.{is_request_head, is_reply_head, stated, is_no_header, IsNotYet, IsRefused}
 use Rattle.wire_frames.specs.declared.decoding.Way.{Way}
 use Rattle.wire_frames.specs.declared.decoding.Way.TheVariants.{ToServer, ToDriver}

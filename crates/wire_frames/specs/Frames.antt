@@ -8,8 +8,8 @@ use Rattle.wire_messages.specs.declared.requests.Request.{Request}
 use Rattle.wire_payloads.specs.Payloads.{replies_of}
 use Rattle.wire_payloads.specs.declared.payloads.Payload.{Payload}
 use Rattle.wire_payloads.specs.declared.versioned.Versioned.{Versioned}
-use Rattle.wire_spelling.specs.Packing.{SpellsPayload, most_body_bytes, payload_frame, payloads_of}
-use Rattle.wire_spelling.specs.Spelling.{SpellsRequest, version_byte}
+use Rattle.wire_encoding.specs.Packing.{SpellsPayload, most_body_bytes, payload_frame, payloads_of}
+use Rattle.wire_encoding.specs.Spelling.{SpellsRequest, version_byte}
 
 -- ---- headers
 

@@ -8,7 +8,7 @@ use Rattle.wire_messages.specs.declared.requests.Request.{Request}
 use Rattle.wire_payloads.specs.Payloads.{replies_of}
 use Rattle.wire_payloads.specs.declared.payloads.Payload.{Payload}
 use Rattle.wire_payloads.specs.declared.versioned.Versioned.{Versioned}
-use Rattle.wire_spelling.specs.Packing.{HasFrame, SpellsPayload, packed, payload_frame, payloads_of}
+use Rattle.wire_encoding.specs.Packing.{HasFrame, SpellsPayload, packed, payload_frame, payloads_of}
 use Rattle.wire_frames.specs.Frames.{Placed, End, Whole, ReadsAs, is_reply_head, placed_from}
 
 -- a request that is asked in a version

@@ -3,8 +3,8 @@
 ghost use Rattle.std.specs.Prelude.{◌≡◌, true, false, MatchOption};
 ghost use Rattle.wire_frames.specs.Decoding.{has_head, IsFramed, NamesVersion, Decodes, ReadsEach};
 ghost use Rattle.wire_frames.specs.Frames.{is_request_head, is_reply_kind, is_reply_head, IsNotYet};
-ghost use Rattle.wire_spelling.specs.Packing.{SpellsPayload};
-ghost use Rattle.wire_spelling.specs.Spelling.{SpellsRequest};
+ghost use Rattle.wire_encoding.specs.Packing.{SpellsPayload};
+ghost use Rattle.wire_encoding.specs.Spelling.{SpellsRequest};
 
 use ae_base::frames::FrameVersion;
 use std::alloc::Global;

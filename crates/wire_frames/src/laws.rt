@@ -3,8 +3,8 @@
 ghost use Rattle.ae_base.specs.declared.frames.FrameVersion.{FrameVersion};
 ghost use Rattle.wire_frames.specs.Frames.{is_request_head, is_reply_head};
 ghost use Rattle.wire_frames.specs.Laws.{IsAsked, IsTold, told_frame, BeginsNoOther, HasOneReading, IsReadOnce, HasReading, IsReadBack, IsUnpacked};
-ghost use Rattle.wire_spelling.specs.Packing.{SpellsPayload};
-ghost use Rattle.wire_spelling.specs.Spelling.{SpellsRequest, asked_frame};
+ghost use Rattle.wire_encoding.specs.Packing.{SpellsPayload};
+ghost use Rattle.wire_encoding.specs.Spelling.{SpellsRequest, asked_frame};
 
 /// No spelling of a message is the beginning of another's, whichever versions they are in, and
 /// whatever follows, a front spells one message at most. So what is written is read again.

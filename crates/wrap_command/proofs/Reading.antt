@@ -1,7 +1,7 @@
 -- What was read of an input.
 use Rattle.std.proofs.Common.{◌≡◌, ℕ, ◌+◌, ◌≤◌, List, [], length, Option, Some, None, sym, subst, arith}
 use Rattle.std.proofs.lemmas.List.{append-nil}
-use Rattle.ae_edge.specs.Devices.{WhereTold}
+use Rattle.ae_edge.specs.Devices.{WhereExposed}
 use Rattle.ae_edge.specs.Streams.{ReadsAll}
 use Rattle.ae_edge.specs.declared.streams.ReadAll.TheVariants as read
 use Rattle.wrap_command.specs.Wrapping.{IsRead, Takes, most_script_bytes}
@@ -21,7 +21,7 @@ takes ended.BadLine bytes xs left w h = h.1
 takes ended.VaultFault bytes xs left w h = h.1
 takes ended.NoMasterKey bytes xs left w h = h.1
 
-pub takes_whole : (r : Wrapped) (bytes : List ℕ) (old new : Option (List ℕ)) → IsRead r → WhereTold (ReadsAll most_script_bytes (read.Whole bytes)) old new → WhereTold (Takes r) old new
+pub takes_whole : (r : Wrapped) (bytes : List ℕ) (old new : Option (List ℕ)) → IsRead r → WhereExposed (ReadsAll most_script_bytes (read.Whole bytes)) old new → WhereExposed (Takes r) old new
 takes_whole r bytes (Some xs) (Some left) w h = takes r bytes xs left w h
 takes_whole r bytes (Some xs) None w h = absurd h
 takes_whole r bytes None (Some left) w h = absurd h

@@ -2,7 +2,7 @@
 use Rattle.std.specs.Prelude.{◌≡◌, ◌≢◌, ◌⊎◌, ℕ, ◌≤◌, ◌<◌, ◌+◌, List, [], ◌∷◌, ◌++◌, length, Option, Some, None, Ok, IfSome}
 use Rattle.std.specs.List.{AllPass}
 use Rattle.hex.specs.Hex.{decode_of, encode_lower, is_hex_digit}
-use Rattle.ae_edge.specs.Devices.{Adds, AddsFront}
+use Rattle.ae_edge.specs.Devices.{Adds, AddsPrefix}
 use Rattle.ae_edge.specs.Streams.{HasTaken}
 use Rattle.ae_edge.specs.Vaults.{KeyMap, key_at}
 use Rattle.key_wrap.specs.Wrap.{wrapping_of}
@@ -63,8 +63,8 @@ PutsWrapped P path bytes old new =
 -- all of a line was put, or a front of it
 abbrev pub Puts : Wrapped → List ℕ → Option (List ℕ) → Option (List ℕ) → Type 0
 Puts ended.Done line old new = Adds line old new
-Puts ended.WriteFault line old new = AddsFront line old new
-Puts ended.OutOfMemory line old new = AddsFront line old new
+Puts ended.WriteFault line old new = AddsPrefix line old new
+Puts ended.OutOfMemory line old new = AddsPrefix line old new
 Puts ended.ReadFault line old new = ⊥
 Puts ended.TooLong line old new = ⊥
 Puts ended.BadLine line old new = ⊥
@@ -75,8 +75,8 @@ Puts ended.NoMasterKey line old new = ⊥
 -- read and is a key; else nothing is touched.
 abbrev pub Wraps : Wrapped → List ℕ → List ℕ → WrapDevices → WrapDevices → Type 0
 Wraps ended.Done path bytes old new = PutsWrapped Adds path bytes old new
-Wraps ended.WriteFault path bytes old new = PutsWrapped AddsFront path bytes old new
-Wraps ended.OutOfMemory path bytes old new = PutsWrapped AddsFront path bytes old new ⊎ (new ≡ old)
+Wraps ended.WriteFault path bytes old new = PutsWrapped AddsPrefix path bytes old new
+Wraps ended.OutOfMemory path bytes old new = PutsWrapped AddsPrefix path bytes old new ⊎ (new ≡ old)
 Wraps ended.ReadFault path bytes old new = new ≡ old
 Wraps ended.TooLong path bytes old new = (most_script_bytes < length bytes) × (new ≡ old)
 Wraps ended.BadLine path bytes old new = (length bytes ≤ most_script_bytes) × ((key : List ℕ) → ¬ SpellsKey bytes key) × (new ≡ old)

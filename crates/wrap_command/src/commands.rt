@@ -1,7 +1,7 @@
 //! The command `wrap`.
 
 ghost use Rattle.std.specs.Prelude.{◌≡◌, ◌≤◌, ℕ, List, IfSome, length};
-ghost use Rattle.ae_edge.specs.Devices.{Rose, WhereTold};
+ghost use Rattle.ae_edge.specs.Devices.{Rose, WhereExposed};
 ghost use Rattle.wrap_command.specs.Wrapping.{IsRead, Puts, Takes, Wraps, most_script_bytes, wrapped_line};
 
 use crate::lines::key_in;
@@ -93,7 +93,7 @@ pub fn wrap<S: Source, V: Vault, W: Sink>(
         (record { keys = V.keys vault.old; vault_faults = V.faults vault.old; out = W.held out.old })
         (record { keys = V.keys vault.new; vault_faults = V.faults vault.new; out = W.held out.new }) }
     // What was taken of the input.
-    ensures taken { WhereTold (Takes result) (S.left input.old) (S.left input.new) }
+    ensures taken { WhereExposed (Takes result) (S.left input.old) (S.left input.new) }
     // The faults of the outside come only where a count rose.
     ensures read { result ≡ Wrapped.ReadFault → Rose (S.faults input.old) (S.faults input.new) }
     ensures vault { result ≡ Wrapped.VaultFault → Rose (V.faults vault.old) (V.faults vault.new) }

@@ -11,7 +11,7 @@ returns-clause-exact g c =
 
 pub returns-clause-servable : goal.returns-clause-servable
 returns-clause-servable g c =
-    stays_servable c.requests_may_be_asked.ensures c.fronts_are_accepted.ensures c.serve_mounted.result
+    stays_servable c.requests_may_be_asked.ensures c.prefixes_are_accepted.ensures c.serve_mounted.result
     (g.S.Source.left c.args.input.now) (g.S.Source.left c.serve_mounted.new.input) (g.W.Sink.held c.args.out.now) (g.W.Sink.held c.serve_mounted.new.out) _ _ c.serve_mounted.ensures.content
 
 pub returns-clause-undamaged : goal.returns-clause-undamaged

@@ -1,6 +1,6 @@
 -- A request that isn't done.
 use Rattle.std.proofs.Common.{rules, ◌≡◌, false}
-use Rattle.recording.specs.Recorded.{is_done}
+use Rattle.recording_laws.specs.Recorded.{is_done}
 use Rattle.journal_command.proofs.Restarting.{front_undone}
 use Rattle.journal_command.proofs.restarts.serve_front.Goals as goal
 

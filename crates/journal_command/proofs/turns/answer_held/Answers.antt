@@ -1,6 +1,6 @@
 -- One request more is answered, or what was taken ends there.
 use Rattle.std.proofs.Common.{ap, ◌∙◌}
-use Rattle.recording.specs.Recorded.{nothing_held}
+use Rattle.recording_laws.specs.Recorded.{nothing_held}
 use Rattle.serve_command.proofs.Interface.{stands_whole}
 use Rattle.journal_command.specs.Keeping.{held_after}
 use Rattle.journal_command.specs.Stopping.{Faults, outside}

@@ -1,7 +1,7 @@
 -- The journal is still mounted, and the disk stands as it stood.
 use Rattle.std.proofs.Common.{◌≡◌, ◌≤◌, ◌-◌}
 use Rattle.std.specs.Prelude.{IfSome}
-use Rattle.ae_edge.specs.Devices.{WhereTold}
+use Rattle.ae_edge.specs.Devices.{WhereExposed}
 use Rattle.disk.specs.Durable.{StaysKept}
 use Rattle.journal_core.specs.Appends.{IsMounted}
 use Rattle.journal_compaction.proofs.definitions.push_definitions.Given as goal
@@ -10,7 +10,7 @@ abbrev pub invariant-entries : goal.invariant-entries
 invariant-entries g l = record {
   inside : l.place ≤ l.journal.gate;
   mounted : IfSome (g.D.Disk.told l.disk) (IsMounted l.journal.gate);
-  stays : WhereTold StaysKept (g.D.Disk.told l.fn.disk) (g.D.Disk.told l.disk);
+  stays : WhereExposed StaysKept (g.D.Disk.told l.fn.disk) (g.D.Disk.told l.disk);
   counts : g.D.Disk.faults l.disk ≡ g.D.Disk.faults l.fn.disk;
   same : g.D.Disk.names l.disk ≡ g.D.Disk.names l.fn.disk;
 }

@@ -1,6 +1,6 @@
 -- None of the atoms so far is NULL.
 use Rattle.std.proofs.Common.{◌≡◌, drop}
-use Rattle.keyed_joins.specs.Keyed.{no_nulls}
+use Rattle.hash_joins.specs.Keyed.{no_nulls}
 use Rattle.row_lookups.proofs.keys.has_null.Given as goal
 
 abbrev pub invariant-loop-atom : goal.invariant-loop-atom

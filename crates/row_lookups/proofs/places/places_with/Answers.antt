@@ -5,7 +5,7 @@ use Rattle.std.proofs.lemmas.List.{append-nil}
 use Rattle.ae_base.specs.Atoms.{Atom}
 use Rattle.operators.specs.Alike.{key_of}
 use Rattle.indexed_tables.specs.Tables.{places_from}
-use Rattle.keyed_joins.specs.Keyed.{no_nulls}
+use Rattle.hash_joins.specs.Keyed.{no_nulls}
 use Rattle.row_lookups.proofs.Finding.{has_none, has_null, index_places, null_places}
 use Rattle.row_lookups.proofs.places.places_with.Goals as goal
 

@@ -1,6 +1,6 @@
 -- The head, the frames and the foot, one after another.
 use Rattle.std.proofs.Common.{List, ℕ, ◌∙◌, subst, sym}
-use Rattle.ae_edge.specs.Devices.{Adds, AddsFront}
+use Rattle.ae_edge.specs.Devices.{Adds, AddsPrefix}
 use Rattle.tap_text.specs.Text.{mark}
 use Rattle.view_command.specs.declared.commands.Viewed.TheVariants as ended
 use Rattle.view_command.proofs.Paged.{head_front, listed, listed_in_part, unlisted}
@@ -11,14 +11,14 @@ returns-in-WriteFault-clause-content g c =
     let first = g.W.Sink.held c.args.out.now in
     let mid = g.W.Sink.held c.put_mark.new.out in
     head_front c.args.page (g.S.Source.left c.args.input.now) first mid
-    (subst (λ (l : List ℕ). AddsFront (mark c.args.page l) first mid) c.head.ensures c.in-WriteFault.ensures.content) ended.WriteFault tt
+    (subst (λ (l : List ℕ). AddsPrefix (mark c.args.page l) first mid) c.head.ensures c.in-WriteFault.ensures.content) ended.WriteFault tt
 
 pub returns-in-OutOfMemory-clause-content : goal.returns-in-OutOfMemory-clause-content
 returns-in-OutOfMemory-clause-content g c =
     let first = g.W.Sink.held c.args.out.now in
     let mid = g.W.Sink.held c.put_mark.new.out in
     head_front c.args.page (g.S.Source.left c.args.input.now) first mid
-    (subst (λ (l : List ℕ). AddsFront (mark c.args.page l) first mid) c.head.ensures c.in-OutOfMemory.ensures.content) ended.OutOfMemory tt
+    (subst (λ (l : List ℕ). AddsPrefix (mark c.args.page l) first mid) c.head.ensures c.in-OutOfMemory.ensures.content) ended.OutOfMemory tt
 
 pub returns-then-not-is_listed-clause-content : goal.returns-then-not-is_listed-clause-content
 returns-then-not-is_listed-clause-content g c =

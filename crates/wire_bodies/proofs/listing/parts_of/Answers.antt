@@ -1,7 +1,7 @@
 -- One part more, or none.
 use Rattle.std.proofs.Common.{◌≡◌, ◌<◌, ℕ, length, arith, subst, Some}
 use Rattle.std.proofs.lemmas.List.{length_push}
-use Rattle.wire_reading.specs.Reading.{parts_at}
+use Rattle.wire_decoding.specs.Reading.{parts_at}
 use Rattle.wire_bodies.proofs.PartsRead.{AreRead-push, parts_read, parts_end}
 use Rattle.wire_bodies.proofs.listing.parts_of.Goals as goal
 

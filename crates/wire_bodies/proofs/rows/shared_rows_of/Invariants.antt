@@ -1,6 +1,6 @@
 -- The rows so far stand at the front, before the rest.
 use Rattle.std.proofs.Common.{◌≡◌, length}
-use Rattle.wire_reading.specs.Reading.{shared_row_at}
+use Rattle.wire_decoding.specs.Reading.{shared_row_at}
 use Rattle.wire_bodies.proofs.PartsRead.{AreRead}
 use Rattle.wire_bodies.proofs.rows.shared_rows_of.Given as goal
 

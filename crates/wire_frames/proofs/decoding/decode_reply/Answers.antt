@@ -1,7 +1,7 @@
 -- A whole frame is read exactly where it spells a payload of the version.
 use Rattle.wire_frames.specs.Frames.{is_reply_head}
-use Rattle.wire_reading.specs.Reading.{payload_at}
-use Rattle.wire_spelling.specs.Packing.{payload_kind, payload_body, HasFrame, SpellsPayload}
+use Rattle.wire_decoding.specs.Reading.{payload_at}
+use Rattle.wire_encoding.specs.Packing.{payload_kind, payload_body, HasFrame, SpellsPayload}
 use Rattle.wire_frames.proofs.Directions.{told_version, to_driver}
 use Rattle.wire_frames.proofs.FrameLaws.{one_is_spelled, one_is_read, none_is_spelled, none_is_refused, no_header_spells}
 use Rattle.wire_frames.proofs.decoding.decode_reply.Goals as goal

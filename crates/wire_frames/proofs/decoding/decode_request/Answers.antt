@@ -1,7 +1,7 @@
 -- A whole frame is read exactly where it spells a request in its version.
 use Rattle.wire_frames.specs.Frames.{is_request_head}
 use Rattle.wire_frames.specs.Laws.{IsAsked}
-use Rattle.wire_spelling.specs.Spelling.{SpellsRequest}
+use Rattle.wire_encoding.specs.Spelling.{SpellsRequest}
 use Rattle.wire_frames.proofs.Directions.{asked_version, asked_kind, asked_body, asked_at, asked_some, asked_none, to_server}
 use Rattle.wire_frames.proofs.FrameLaws.{one_is_spelled, one_is_read, none_is_spelled, none_is_refused, no_header_spells}
 use Rattle.wire_frames.proofs.decoding.decode_request.Goals as goal

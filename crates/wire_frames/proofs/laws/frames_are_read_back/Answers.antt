@@ -1,10 +1,10 @@
 -- Each frame spells its message, and the frames of an answer carry its replies.
 use Rattle.std.proofs.Common.{refl}
-use Rattle.wire_spelling.specs.Packing.{payload_frame, payloads_of, HasFrame, SpellsPayload}
-use Rattle.wire_spelling.specs.Spelling.{asked_frame, SpellsRequest}
+use Rattle.wire_encoding.specs.Packing.{payload_frame, payloads_of, HasFrame, SpellsPayload}
+use Rattle.wire_encoding.specs.Spelling.{asked_frame, SpellsRequest}
 use Rattle.wire_frames.specs.Frames.{is_request_head, is_reply_head}
 use Rattle.wire_frames.specs.Laws.{IsAsked}
-use Rattle.wire_spelling.proofs.Interface.{packed_replies, payloads_proper}
+use Rattle.wire_encoding.proofs.Interface.{packed_replies, payloads_proper}
 use Rattle.wire_frames.proofs.StreamLaws.{frames_read}
 use Rattle.wire_frames.proofs.laws.frames_are_read_back.Goals as goal
 

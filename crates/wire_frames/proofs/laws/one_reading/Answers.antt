@@ -1,12 +1,12 @@
 -- A frame states its length, and its body is read as one message.
 use Rattle.wire_frames.specs.Frames.{is_request_head, is_reply_head}
 use Rattle.wire_frames.specs.Laws.{IsAsked}
-use Rattle.wire_reading.specs.Reading.{payload_at}
-use Rattle.wire_spelling.specs.Packing.{payload_kind, payload_body, HasFrame, SpellsPayload}
-use Rattle.wire_spelling.specs.Spelling.{SpellsRequest}
+use Rattle.wire_decoding.specs.Reading.{payload_at}
+use Rattle.wire_encoding.specs.Packing.{payload_kind, payload_body, HasFrame, SpellsPayload}
+use Rattle.wire_encoding.specs.Spelling.{SpellsRequest}
 use Rattle.wire_frames.proofs.Directions.{asked_version, asked_kind, asked_body, asked_at, to_server, told_version, to_driver}
 use Rattle.wire_frames.proofs.FrameLaws.{one_front, front_is_whole}
-use Rattle.wire_spelling.proofs.Interface.{request_within}
+use Rattle.wire_encoding.proofs.Interface.{request_within}
 use Rattle.wire_frames.proofs.laws.one_reading.Goals as goal
 
 pub returns-clause-requests_end : goal.returns-clause-requests_end

@@ -1,9 +1,9 @@
 -- The front of a stream ends it, or is a frame, and the rest has a reading.
 use Rattle.wire_frames.specs.Frames.{is_request_head, is_reply_head}
 use Rattle.wire_frames.specs.Laws.{IsAsked}
-use Rattle.wire_reading.specs.Reading.{payload_at}
-use Rattle.wire_spelling.specs.Packing.{payload_kind, payload_body, HasFrame, SpellsPayload}
-use Rattle.wire_spelling.specs.Spelling.{SpellsRequest}
+use Rattle.wire_decoding.specs.Reading.{payload_at}
+use Rattle.wire_encoding.specs.Packing.{payload_kind, payload_body, HasFrame, SpellsPayload}
+use Rattle.wire_encoding.specs.Spelling.{SpellsRequest}
 use Rattle.wire_frames.proofs.Directions.{asked_version, asked_kind, asked_body, asked_at, to_server, told_version, to_driver}
 use Rattle.wire_frames.proofs.Readings.{has_reading}
 use Rattle.wire_frames.proofs.laws.streams_have_readings.Goals as goal

@@ -3,7 +3,7 @@ use Rattle.std.proofs.Common.{sym, subst}
 use Rattle.std.specs.Prelude.{option_to_list}
 use Rattle.journal_core.specs.States.{JournalState}
 use Rattle.serve_command.specs.ServeAll.{answer_frames}
-use Rattle.wire_spelling.specs.Packing.{packed}
+use Rattle.wire_encoding.specs.Packing.{packed}
 use Rattle.journal_command.specs.Durable.{PutsBy}
 use Rattle.journal_command.specs.Keeping.{entries_of, keeping}
 use Rattle.journal_command.specs.Stopping.{StopsBy, outside}

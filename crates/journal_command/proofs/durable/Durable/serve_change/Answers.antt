@@ -1,6 +1,6 @@
 -- What is kept, and that it is frames of requests to execute.
 use Rattle.std.proofs.Common.{rules, ◌≡◌, None, true, false, sym, subst}
-use Rattle.recording.specs.Recorded.{is_done}
+use Rattle.recording_laws.specs.Recorded.{is_done}
 use Rattle.journal_command.specs.Durable.{DurableState, IsServed}
 use Rattle.journal_command.specs.Keeping.{IsHolding}
 use Rattle.journal_command.proofs.Serving.{served_done, served_holds, served_undone}

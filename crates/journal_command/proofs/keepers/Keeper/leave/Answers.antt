@@ -1,6 +1,6 @@
 -- The session's part is replaced.
 use Rattle.std.proofs.Common.{◌≡◌, ◌<◌, ◌-◌, length, map, get_or, set, ap, sym, subst, ◌∙◌, arith}
-use Rattle.recording.specs.Recorded.{held_at, kept_where, with_held}
+use Rattle.recording_laws.specs.Recorded.{held_at, kept_where, with_held}
 use Rattle.journal_command.specs.Keeping.{HasRoom, frames_of}
 use Rattle.journal_command.proofs.Holding.{has_ended, stays_open}
 use Rattle.journal_command.proofs.keepers.Keeper.leave.Goals as goal

@@ -1,6 +1,6 @@
 -- The session's part is emptied, or stays.
 use Rattle.std.proofs.Common.{map, set, ap, sym, ◌∙◌}
-use Rattle.recording.specs.Recorded.{held_at, kept_where, with_held}
+use Rattle.recording_laws.specs.Recorded.{held_at, kept_where, with_held}
 use Rattle.journal_command.specs.Keeping.{frames_of}
 use Rattle.journal_command.proofs.Holding.{is_closed}
 use Rattle.journal_command.proofs.keepers.Keeper.stay.Goals as goal

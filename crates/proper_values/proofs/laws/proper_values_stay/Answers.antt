@@ -1,5 +1,0 @@
-use Rattle.proper_values.proofs.Storing.{values_stay}
-use Rattle.proper_values.proofs.laws.proper_values_stay.Goals as goal
-
-pub returns : goal.returns
-returns c = values_stay

@@ -1,5 +1,0 @@
-use Rattle.recording.proofs.Replays.{are_journals}
-use Rattle.recording.proofs.laws.records_are_journals.Goals as goal
-
-pub returns : goal.returns
-returns c = are_journals c.requests_may_be_asked.ensures

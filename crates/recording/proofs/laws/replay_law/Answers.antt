@@ -1,5 +1,0 @@
-use Rattle.recording.proofs.Replays.{replayed}
-use Rattle.recording.proofs.laws.replay_law.Goals as goal
-
-pub returns : goal.returns
-returns c = replayed c.requests_may_be_asked.ensures
