@@ -61,7 +61,8 @@ fn not_utf8(alloc: Global) -> Status
 
 /// Does what the words ask for, with the devices of the system.
 fn status_of(rt: &HostRuntime, words: &[Txt]) -> Status
-    // Of the devices only the peer exposes what it has: it serves from the empty state.
+    // Of the devices only the peer exposes what it has: it serves from the empty state. So this
+    // says which statuses can come, and no more.
     ensures { (old new : Seen) × (old.peer.state ≡ Some empty_state)
         × Does words.now result old new }
 {

@@ -1,18 +1,14 @@
--- A write or a cut that is synced at once, and reads of a file that is on the disk.
-use Rattle.std.proofs.Common.{◌≡◌, inl, ℕ, ◌≤◌, List, [], ◌∷◌, ◌++◌, length, take, Option, Some, None, refl, sym, ap, ◌∙◌, subst, arith, ◌<◌, drop, length-append}
+-- A write or a cut that is synced at once.
+use Rattle.std.proofs.Common.{◌≡◌, inl, ℕ, List, [], ◌∷◌, length, Option, refl, sym, ap, ◌∙◌, subst}
 use Rattle.std.specs.Prelude.{IfSome}
 use Rattle.ae_edge.specs.Devices.{WhereExposed}
-use Rattle.disk.specs.Calls.{StaysSynced, WasAsked, with_bytes, with_length, Writes, Cuts, Syncs, IsPart, Gives}
+use Rattle.disk.specs.Calls.{StaysSynced, WasAsked, with_bytes, with_length, Writes, Cuts, Syncs}
 use Rattle.disk.specs.Crashes.{Asked, Range, Length, Stand, IsImage, kept}
 use Rattle.disk.specs.Moments.{Moments, Passes, LeavesNow, Leaves, NoCall}
 use Rattle.disk.specs.Durable.{IsKept, Torn, WritesThrough, CutsThrough, StaysKept}
 use Rattle.disk.specs.declared.disks.Given.TheVariants as given
 use Rattle.disk.specs.declared.disks.Stored.{Stored}
 use Rattle.disk.specs.declared.disks.Stored.TheVariants as stored
-use Rattle.std.proofs.lemmas.List.{take_all}
-use Rattle.std.proofs.Math.Seq.{take-add}
-use Rattle.disk.specs.Durable.{ReadsWhole}
-use Rattle.ae_edge.proofs.Interface.{told_then}
 use Rattle.disk.proofs.Told.{told_from, told_from_then}
 use Rattle.disk.proofs.Images.{kept_only, torn_same}
 use Rattle.disk.proofs.Moments.{leaves_none, leaves_pass, syncs_pass}
@@ -125,13 +121,7 @@ pub cut_synced_told : (result : Stored) (len : ℕ) (a b c : Option Moments) →
     → WhereExposed (Cuts stored.Done len) a b → WhereExposed (Syncs result) b c → WhereExposed (CutsThrough result len) a c
 cut_synced_told result len = told_from_then IsKept (Cuts stored.Done len) (Syncs result) (CutsThrough result len) (cut_synced result len)
 
--- ---- reads
-
--- the bytes read so far are a front of the file, and the disk stands as it stood
-pub record HasRead (bytes : List ℕ) (old now : Moments) : Type 0 where
-  pub front : bytes ≡ take (length bytes) old.now.seen
-  pub kept : IsKept old
-  pub stays : StaysKept old now
+-- ---- a sync alone
 
 stays_same : (a : Moments) → IsKept a → StaysKept a a
 stays_same a k = record { moments = leaves_none (λ image. image ≡ a.now.seen) a (kept_leaves (λ image. image ≡ a.now.seen) a.now.seen a.now k refl); calls = NoCall; now = refl }
@@ -142,59 +132,6 @@ stays_pass Q a b c k p q e = record {
   calls = syncs_pass Q a b c p.calls q (inl e);
   now = e ∙ p.now;
 }
-
-is_kept_now : (a b : Moments) → IsKept a → StaysKept a b → IsKept b
-is_kept_now a b k p = p.now ∙ k ∙ ap (λ (s : Stand). kept s.seen) (sym p.now)
-
-longer_front : (bytes part file : List ℕ) → bytes ≡ take (length bytes) file → part ≡ take (length part) (drop (length bytes) file) → bytes ++ part ≡ take (length (bytes ++ part)) file
-longer_front bytes part file front is =
-    (λ i. front i ++ is i) ∙ sym (take-add (length bytes) (length part) file) ∙ ap (λ n. take n file) (sym (length-append bytes part))
-
-read_on : (part bytes : List ℕ) (a b c : Moments) → HasRead bytes a b → Gives (length bytes) (given.Bytes part) b c → HasRead (bytes ++ part) a c
-read_on part bytes a b c h r = record {
-  front = longer_front bytes part a.now.seen h.front (subst (λ (s : Stand). part ≡ take (length part) (drop (length bytes) s.seen)) h.stays.now r.here.1.is);
-  kept = h.kept;
-  stays = stays_pass (λ before after. (after ≡ before) × IsPart (length bytes) part before.seen) a b c h.kept h.stays r r.here.0;
-}
-
-none_there : (at size count : ℕ) → (at < size → 0 < count) → count ≡ 0 → size ≤ at
-none_there at size count some none = not_lt at size (λ less. absurd (omega (arith, some less, none)))
-  where
-    not_lt : (m n : ℕ) → (m < n → ⊥) → n ≤ m
-    not_lt m n none = grind arith
-
--- no more bytes are there
-read_end : (part bytes : List ℕ) (a b c : Moments) → HasRead bytes a b → Gives (length bytes) (given.Bytes part) b c → part ≡ [] → ReadsWhole (given.Bytes bytes) a c
-read_end part bytes a b c h r none =
-    let some : length bytes < length a.now.seen → 0 < length part = subst (λ (s : Stand). length bytes < length s.seen → 0 < length part) h.stays.now r.here.1.some in
-    let past = none_there (length bytes) (length a.now.seen) (length part) some (ap length none) in
-    (h.front ∙ take_all (length bytes) a.now.seen past, stays_pass (λ before after. (after ≡ before) × IsPart (length bytes) part before.seen) a b c h.kept h.stays r r.here.0)
-
-read_failed : (bytes : List ℕ) (a b c : Moments) → HasRead bytes a b → Gives (length bytes) given.Failed b c → ReadsWhole given.Failed a c
-read_failed bytes a b c h r = stays_pass StaysSynced a b c h.kept h.stays r (stays_kept b c (is_kept_now a b h.kept h.stays) r)
-
-pub read_none_told : (a : Option Moments) → IfSome a IsKept → WhereExposed (HasRead []) a a
-read_none_told (Some a) k = record { front = refl; kept = k; stays = stays_same a k }
-read_none_told None k = tt
-
-pub read_on_told : (part bytes : List ℕ) (a b c : Option Moments) → WhereExposed (HasRead bytes) a b → WhereExposed (Gives (length bytes) (given.Bytes part)) b c → WhereExposed (HasRead (bytes ++ part)) a c
-read_on_told part bytes = told_then (HasRead bytes) (Gives (length bytes) (given.Bytes part)) (HasRead (bytes ++ part)) (λ a b c h r. read_on part bytes a b c h r)
-
-pub read_end_told : (part bytes : List ℕ) (a b c : Option Moments) → WhereExposed (HasRead bytes) a b
-    → WhereExposed (Gives (length bytes) (given.Bytes part)) b c → part ≡ [] → WhereExposed (ReadsWhole (given.Bytes bytes)) a c
-read_end_told part bytes a b c h r none = told_then (HasRead bytes) (Gives (length bytes) (given.Bytes part))
-    (ReadsWhole (given.Bytes bytes)) (λ x y z p q. read_end part bytes x y z p q none) a b c h r
-
-pub read_failed_told : (bytes : List ℕ) (a b c : Option Moments) → WhereExposed (HasRead bytes) a b → WhereExposed (Gives (length bytes) given.Failed) b c → WhereExposed (ReadsWhole given.Failed) a c
-read_failed_told bytes = told_then (HasRead bytes) (Gives (length bytes) given.Failed) (ReadsWhole given.Failed) (read_failed bytes)
-
--- without memory for what came
-pub read_stopped_told : (part bytes : List ℕ) (a b c : Option Moments) → WhereExposed (HasRead bytes) a b
-    → WhereExposed (Gives (length bytes) (given.Bytes part)) b c → WhereExposed (ReadsWhole given.OutOfMemory) a c
-read_stopped_told part bytes =
-    told_then (HasRead bytes) (Gives (length bytes) (given.Bytes part)) (ReadsWhole given.OutOfMemory) (λ a b c h r. (read_on part bytes a b c h r).stays)
-
--- ---- a sync alone
 
 -- of a file that is on the disk
 pub sync_kept : (result : Stored) (a b : Moments) → IsKept a → Syncs result a b → StaysKept a b

@@ -1,10 +1,8 @@
--- Writes and cuts that are synced at once, and a file that is read whole.
+-- Writes and cuts that are synced at once.
 use Rattle.std.specs.Prelude.{◌≡◌, ℕ, List, [], ◌∷◌, length, take}
 use Rattle.disk.specs.Calls.{written}
 use Rattle.disk.specs.Crashes.{Asked, Range, Length, IsImage, kept}
 use Rattle.disk.specs.Moments.{Moments, Leaves, OnlySyncs}
-use Rattle.disk.specs.declared.disks.Given.{Given}
-use Rattle.disk.specs.declared.disks.Given.TheVariants as given
 use Rattle.disk.specs.declared.disks.Stored.{Stored}
 use Rattle.disk.specs.declared.disks.Stored.TheVariants as stored
 
@@ -36,8 +34,3 @@ pub record StaysKept (old new : Moments) : Type 0 where
   pub moments : Leaves (λ image. image ≡ old.now.seen) old new
   pub calls : OnlySyncs old new
   pub now : new.now ≡ old.now
-
-abbrev pub ReadsWhole : Given → Moments → Moments → Type 0
-ReadsWhole (given.Bytes bytes) old new = (bytes ≡ old.now.seen) × StaysKept old new
-ReadsWhole given.Failed old new = StaysKept old new
-ReadsWhole given.OutOfMemory old new = StaysKept old new
