@@ -45,7 +45,8 @@ pub enum RowHeard {
     Said(Option<Outcome>),
 }
 
-/// All that a turn touches.
+/// All that a turn touches. One type implements it, `Env`, so contracts of turns name it and not
+/// five devices.
 pub trait Around {
     ghost outside: { Self → Outside };
 
