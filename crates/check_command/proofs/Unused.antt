@@ -1,6 +1,6 @@
 -- A definition uses no parameter: its result where it is executed without any is its meaning.
-use Rattle.std.proofs.Common.{◌≡◌, ◌⊎◌, inl, inr, ℕ, zero, suc, ◌+◌, ◌-◌, List, [], ◌∷◌, map, Option, Some, None, Result, Ok, Err, true, false, refl, sym, ap, ◌∙◌, subst, eq-eqb}
-use Rattle.std.specs.Prelude.{replicate, slice_index_or, unwrap_or, IfOk}
+use Rattle.std.proofs.Common.{◌≡◌, ◌⊎◌, inl, inr, ℕ, suc, ◌+◌, ◌-◌, List, [], ◌∷◌, map, Option, Some, None, Result, Ok, Err, true, false, refl, sym, ap, ◌∙◌, subst, eq-eqb}
+use Rattle.std.specs.Prelude.{slice_index_or, unwrap_or, IfOk}
 use Rattle.ae_base.specs.Atoms.{Atom, plain_atom}
 use Rattle.ae_base.specs.Results.{◌>>=◌}
 use Rattle.ae_base.specs.declared.batches.Batch.{Batch}
@@ -35,13 +35,16 @@ use Rattle.statement_analysis.specs.Describing.{Meant, understood, used_from, de
 use Rattle.server_core.specs.Serve.{State, catalog_of, answered, serve}
 use Rattle.wire_messages.specs.Exchanges.{Served}
 use Rattle.conversation.specs.declared.outcomes.Outcome as comes_to
-use Rattle.conversation.specs.declared.outcomes.Outcome.TheVariants as outcome_of
 use Rattle.std.specs.declared.alloc.AllocError.{AllocError}
 use Rattle.conversation.specs.Pending.{Pending, Use, uses_in, uses_of}
+use Rattle.conversation.specs.declared.answers.ReplyAnswer.TheVariants as said
+use Rattle.conversation.specs.declared.sessions.Session.{Session}
+use Rattle.conversation.specs.declared.sessions.Session.TheVariants as session
 use Rattle.conversation.specs.Sessions.{encs_of, with_enc}
 use Rattle.plaintext_laws.specs.Batches.{Came, declarations_of, pending}
 use Rattle.plaintext_laws.specs.Batches as plain
 use Rattle.plaintext_laws.proofs.Interface.{parts_of, understood_alone, transact_alone}
+use Rattle.check_command.proofs.Executing.{same_there}
 use Rattle.check_command.proofs.Following.{bind_ok}
 use Rattle.check_command.specs.Asked.{AnswersAs, ComesTo, IsDefinition}
 use Rattle.check_command.specs.Check.{HasNoTransaction, defines, reads_definition}
@@ -155,14 +158,9 @@ outside_so c s a w t (inr h) = let e = h.1 in rw e (inr (h.0, refl, refl))
 abbrev no_transaction : Option Transaction
 no_transaction = None
 
-none_there : (n k : ℕ) → slice_index_or (replicate n no_transaction) k no_transaction ≡ no_transaction
-none_there zero k = refl
-none_there (suc n) zero = refl
-none_there (suc n) (suc k) = none_there n k
-
 -- no session has a transaction, nor has this one
 pub alone_at : (state : State) (number : ℕ) → HasNoTransaction state → transaction_at state number ≡ None
-alone_at state number h = ap (λ (slots : List (Option Transaction)). slice_index_or slots (number - 1) no_transaction) h ∙ none_there 64 (number - 1)
+alone_at state number h = ap (λ (slots : List (Option Transaction)). slice_index_or slots (number - 1) no_transaction) h ∙ same_there no_transaction 64 (number - 1)
 
 transacts_so : (state : State) (number : ℕ) (e : Execution) → HasNoTransaction state → IsDefining e.bound.statement → IsDone state (transact state number (ask_of e))
 transacts_so state number e idle h =
@@ -195,8 +193,9 @@ pub definition_done : (state : State) (number : ℕ) (batch : Batch) (meant : Me
 definition_done state number batch meant idle defining e = transacts_so state number
     (execution meant.bound meant.encs (atoms_of batch)) idle (defining_of (catalog_of state number) batch meant defining e)
 
--- the reply says what it means, and the state after it is that
+-- it uses no parameter, the reply says what it means, and the state after it is that
 pub record ExecutesAs (state : State) (number : ℕ) (p : Pending) (c : Came) : Type 0 where
+  pub unused : uses_of p ≡ []
   pub replies : AnswersAs (serve state (Execute number p.version p.batch.text [])).replies c.comes
   pub after : c.state ≡ (serve state (Execute number p.version p.batch.text [])).after
   pub sessions : c.state.sessions ≡ state.sessions
@@ -204,8 +203,8 @@ pub record ExecutesAs (state : State) (number : ℕ) (p : Pending) (c : Came) : 
 answers_so : (catalog : Catalog) (state : State) (t : Transacted) → IsDone state t
     → AnswersAs (answered catalog t.answer t.after).replies (plain.answered [] [] catalog t.answer) × (t.after ≡ (answered catalog t.answer t.after).after)
 answers_so catalog state t d = elim d.done [
-  | inl e ↦ rw e (refl, refl)
-  | inr h ↦ let e = h.1 in rw e (refl, refl)
+  | inl e ↦ rw e ((_, said.Defined, refl, refl, refl), refl)
+  | inr h ↦ let e = h.1 in rw e ((_, said.Refused h.0, refl, refl, refl), refl)
 ]
 
 module _ (law : PreparedAlone) (state : State) (number : ℕ) (batch : Batch) (meant : Meant) (idle : HasNoTransaction state) (defining : defines batch.text ≡ true)
@@ -262,17 +261,21 @@ module _ (law : PreparedAlone) (state : State) (number : ℕ) (batch : Batch) (m
       let s = serves_so in
       let m = means_so in
       subst (ExecutesAs state number p) (sym m) (record {
+        unused = no_use;
         replies = subst (λ (x : Served State). AnswersAs x.replies (plain.answered [] [] here did.answer)) (sym s) a.0;
         after = a.1 ∙ ap (λ (x : Served State). x.after) (sym s);
         sessions = done.sessions;
       })
 
-pub runs_definition : PreparedAlone → (state : State) (number : ℕ) (p : Pending) → IsDefinition state number p → ExecutesAs state number p (plain.execution_of [] [] state number p)
-runs_definition law state number p h =
+pub runs_definition : PreparedAlone → (state : State) (number : ℕ) (s : Session) → IsDefinition state number s → (p : Pending) → s ≡ session.Pending p
+    → ExecutesAs state number p (plain.execution_of [] [] state number p)
+runs_definition law state number s h p e =
     let here = catalog_of state number in
     let q = bind_ok (understood here h.batch.text (declarations_of h.batch)) (λ meant. Ok (description here (declarations_of h.batch) meant)) h.description h.described in
     let is : description here (declarations_of h.batch) q.0 ≡ h.description = cc in
-    subst (λ (x : Pending). ExecutesAs state number x (plain.execution_of [] [] state number x)) (ap (pending h.batch) is ∙ sym h.is) (runs_so law state number h.batch q.0 h.alone h.defines q.1)
+    let held : session.Pending (pending h.batch h.description) ≡ session.Pending p = sym h.holds ∙ e in
+    let same : pending h.batch h.description ≡ p = cc in
+    subst (λ (x : Pending). ExecutesAs state number x (plain.execution_of [] [] state number x)) (ap (pending h.batch) is ∙ same) (runs_so law state number h.batch q.0 h.alone h.defines q.1)
 
 -- ---- its one reply
 
@@ -282,10 +285,13 @@ pub record Replied (state now : State) (seen : List Reply) (c : Came) : Type 0 w
   pub after : c.state ≡ now
   pub sessions : now.sessions ≡ state.sessions
 
-pub replies_so : (state now : State) (number : ℕ) (p : Pending) (c : Came) (r : Request) (replies seen : List Reply) → ExecutesAs state number p c → r ≡ Execute number p.version p.batch.text []
-    → serve state r ≡ record { replies = replies; after = now } → seen ≡ replies → Replied state now seen c
-replies_so state now number p c r replies seen h i s e =
-    let same : serve state (Execute number p.version p.batch.text []) ≡ record { replies = replies; after = now } = ap (serve state) (sym i) ∙ s in
+pub replies_so : PreparedAlone → (state now : State) (number : ℕ) (s : Session) → IsDefinition state number s → (p : Pending) → s ≡ session.Pending p
+    → (r : Request) (replies seen : List Reply) → r ≡ Execute number p.version p.batch.text [] → serve state r ≡ record { replies = replies; after = now } → seen ≡ replies
+    → Replied state now seen (plain.execution_of [] [] state number p)
+replies_so law state now number s d p holds r replies seen i t e =
+    let h = runs_definition law state number s d p holds in
+    let c = plain.execution_of [] [] state number p in
+    let same : serve state (Execute number p.version p.batch.text []) ≡ record { replies = replies; after = now } = ap (serve state) (sym i) ∙ t in
     let after : c.state ≡ now = h.after ∙ ap (λ (x : Served State). x.after) same in
     record {
       says = subst (λ xs. AnswersAs xs c.comes) (ap (λ (x : Served State). x.replies) same ∙ sym e) h.replies;
@@ -293,31 +299,6 @@ replies_so state now number p c r replies seen h i s e =
       sessions = ap (λ (x : State). x.sessions) (sym after) ∙ h.sessions;
     }
 
-one_outcome : (replies : List Reply) (a b : comes_to.Outcome) → AnswersAs replies a → AnswersAs replies b → a ≡ b
-one_outcome replies outcome_of.Defined outcome_of.Defined h g = refl
-one_outcome replies outcome_of.Defined (outcome_of.Refused f) h g = let i = sym h ∙ g in absurd cc
-one_outcome replies outcome_of.Defined (outcome_of.Rows listing) h g = absurd g
-one_outcome replies outcome_of.Defined (outcome_of.Broken listing why) h g = absurd g
-one_outcome replies outcome_of.Defined (outcome_of.Changed count) h g = absurd g
-one_outcome replies outcome_of.Defined (outcome_of.Rotated count) h g = absurd g
-one_outcome replies outcome_of.Defined (outcome_of.Described params) h g = absurd g
-one_outcome replies outcome_of.Defined (outcome_of.Failed f) h g = absurd g
-one_outcome replies (outcome_of.Refused e) outcome_of.Defined h g = let i = sym h ∙ g in absurd cc
-one_outcome replies (outcome_of.Refused e) (outcome_of.Refused f) h g = let i = sym h ∙ g in cc
-one_outcome replies (outcome_of.Refused e) (outcome_of.Rows listing) h g = absurd g
-one_outcome replies (outcome_of.Refused e) (outcome_of.Broken listing why) h g = absurd g
-one_outcome replies (outcome_of.Refused e) (outcome_of.Changed count) h g = absurd g
-one_outcome replies (outcome_of.Refused e) (outcome_of.Rotated count) h g = absurd g
-one_outcome replies (outcome_of.Refused e) (outcome_of.Described params) h g = absurd g
-one_outcome replies (outcome_of.Refused e) (outcome_of.Failed f) h g = absurd g
-one_outcome replies (outcome_of.Rows listing) b h g = absurd h
-one_outcome replies (outcome_of.Broken listing why) b h g = absurd h
-one_outcome replies (outcome_of.Changed count) b h g = absurd h
-one_outcome replies (outcome_of.Rotated count) b h g = absurd h
-one_outcome replies (outcome_of.Described params) b h g = absurd h
-one_outcome replies (outcome_of.Failed f) b h g = absurd h
-
-pub comes_so : (c : Came) (now : State) (replies : List Reply) (r : Result comes_to.Outcome AllocError)
-    → AnswersAs replies c.comes → c.state ≡ now → IfOk r (AnswersAs replies) → IfOk r (ComesTo c now)
-comes_so c now replies (Ok comes) h w g = (one_outcome replies c.comes comes h g, w)
-comes_so c now replies (Err e) h w g = tt
+pub comes_so : (c : Came) (now : State) (r : Result comes_to.Outcome AllocError) → c.state ≡ now → IfOk r (λ comes. c.comes ≡ comes) → IfOk r (ComesTo c now)
+comes_so c now (Ok comes) w h = (h, w)
+comes_so c now (Err e) w h = tt

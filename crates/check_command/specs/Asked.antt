@@ -3,20 +3,19 @@ use Rattle.std.specs.Prelude.{◌≡◌, ◌==◌, ℕ, List, [], ◌∷◌, Som
 use Rattle.ae_base.specs.Faults.{code_of}
 use Rattle.ae_base.specs.declared.batches.Batch.{Batch}
 use Rattle.wire_messages.specs.Messages.{Description}
-use Rattle.wire_messages.specs.declared.replies.Done.TheVariants as done
 use Rattle.wire_messages.specs.declared.replies.Reply.{Reply}
-use Rattle.wire_messages.specs.declared.replies.Reply.TheVariants as reply
 use Rattle.wire_messages.specs.declared.requests.Request.{Request}
 use Rattle.wire_messages.specs.declared.requests.Request.TheVariants as request
 use Rattle.statement_analysis.specs.Describing.{describe}
 use Rattle.server_core.specs.Serve.{State, catalog_of, described}
-use Rattle.enc_types.specs.Laws.{TypingsAreOfColumns}
-use Rattle.resolve.specs.Laws.{BoundStatementsAre}
 use Rattle.conversation.specs.Batches.{why_unfit}
 use Rattle.conversation.specs.Pending.{Pending, uses_of}
+use Rattle.conversation.specs.Sessions as held
 use Rattle.conversation.specs.Sessions.{described_params}
 use Rattle.conversation.specs.declared.answers.DescribeAnswer.{DescribeAnswer}
 use Rattle.conversation.specs.declared.answers.DescribeAnswer.TheVariants as answer
+use Rattle.conversation.specs.declared.answers.ReplyAnswer.{ReplyAnswer}
+use Rattle.conversation.specs.declared.answers.ReplyAnswer.TheVariants as replied
 use Rattle.conversation.specs.declared.faults.Halt.{Halt}
 use Rattle.conversation.specs.declared.faults.Halt.TheVariants as halt
 use Rattle.conversation.specs.declared.outcomes.Outcome.{Outcome}
@@ -26,8 +25,6 @@ use Rattle.conversation.specs.declared.sessions.Session.TheVariants as session
 use Rattle.script_lang.specs.Limits.{HasParams}
 use Rattle.plaintext_laws.specs.Batches.{Came, declarations_of, pending}
 use Rattle.check_command.specs.Check.{HasNoTransaction, defines}
-use Rattle.check_command.specs.declared.describing.Asked.{Asked}
-use Rattle.check_command.specs.declared.describing.Asked.TheVariants as asked
 
 -- a batch that forces nothing
 abbrev pub unforced : Batch → Batch
@@ -37,65 +34,57 @@ unforced batch = record { text = batch.text; params = batch.params; forced = [] 
 abbrev pub AsksFor : ℕ → Batch → Request → Type 0
 AsksFor number batch r = r ≡ request.Describe number batch.text (declarations_of batch)
 
--- the batch that is begun is asked to be described
-pub record AsksOf (r : Request) (s : Session) : Type 0 where
-  pub number : ℕ
-  pub batch : Batch
+-- a batch that forces nothing and may be sent is begun in this session
+pub record IsBegun (batch : Batch) (s : Session) : Type 0 where
   pub params : HasParams batch
   pub forced : batch.forced ≡ []
   pub fit : why_unfit batch ≡ None
   pub begun : s ≡ session.Begun batch
+
+-- a batch is asked to be described
+pub record AsksOf (number : ℕ) (r : Request) : Type 0 where
+  pub batch : Batch
   pub asks : AsksFor number batch r
 
 -- what a server in this state replies to this session
 abbrev pub said_of : State → ℕ → Batch → List Reply
 said_of state number batch = (described state (describe (catalog_of state number) batch.text (declarations_of batch))).replies
 
--- the replies are those to the batch that is begun, over a server that binds and types as the laws say
-pub record IsToldOf (s : Session) (replies : List Reply) : Type 0 where
+-- a server replies so
+pub record IsSaid (number : ℕ) (replies : List Reply) : Type 0 where
   pub state : State
-  pub number : ℕ
   pub batch : Batch
-  pub params : HasParams batch
-  pub forced : batch.forced ≡ []
-  pub fit : why_unfit batch ≡ None
-  pub begun : s ≡ session.Begun batch
-  pub told : replies ≡ said_of state number batch
-  pub bound : BoundStatementsAre
-  pub typings : TypingsAreOfColumns
+  pub said : replies ≡ said_of state number batch
 
--- it is described, and its parameters are told; or the server refuses; or it may not be sent
-abbrev pub IsAsked : State → ℕ → Batch → Asked → Type 0
-IsAsked state number batch (asked.Ready p params) =
-    (why_unfit batch ≡ None) × ((d : Description) × (describe (catalog_of state number) batch.text (declarations_of batch) ≡ Ok d) × (p ≡ pending (unforced batch) d))
-    × (params ≡ described_params p.keys (uses_of p))
-IsAsked state number batch (asked.Refused f) = (why_unfit batch ≡ None) × (describe (catalog_of state number) batch.text (declarations_of batch) ≡ Err f)
-IsAsked state number batch (asked.Unfit f) = why_unfit batch ≡ Some f
+-- it is so, or memory runs out
+abbrev pub OrShort : {A : Type 0} → (A → Type 0) → Result A Halt → Type 0
+OrShort P (Ok x) = P x
+OrShort P (Err halt.OutOfMemory) = Unit {0}
+OrShort P (Err other) = ⊥
 
--- what the driver's answer to a description says of a batch, and the session after it
-abbrev pub TellsAs : State → ℕ → Batch → DescribeAnswer → Session → Type 0
-TellsAs state number batch (answer.Ready params) after =
-    (d : Description) × (describe (catalog_of state number) batch.text (declarations_of batch) ≡ Ok d) × (after ≡ session.Pending (pending (unforced batch) d))
-    × (params ≡ described_params d.keys (uses_of (pending (unforced batch) d)))
-TellsAs state number batch (answer.Refused f) after = describe (catalog_of state number) batch.text (declarations_of batch) ≡ Err f
-TellsAs state number batch (answer.Failed f) after = ⊥
+-- it is described and pending after it, and its parameters are told; or the server refuses; or it may not be sent
+abbrev pub IsAsked : State → ℕ → Batch → Session → DescribeAnswer → Type 0
+IsAsked state number batch after (answer.Ready params) =
+    (why_unfit batch ≡ None)
+    × ((d : Description) × (describe (catalog_of state number) batch.text (declarations_of batch) ≡ Ok d) × (after ≡ session.Pending (pending (unforced batch) d))
+    × (params ≡ described_params d.keys (uses_of (pending (unforced batch) d))))
+IsAsked state number batch after (answer.Refused f) = (why_unfit batch ≡ None) × (describe (catalog_of state number) batch.text (declarations_of batch) ≡ Err f)
+IsAsked state number batch after (answer.Failed f) = why_unfit batch ≡ Some f
 
--- the reply is awaited
-abbrev pub AnswersOf : State → ℕ → Batch → Result DescribeAnswer Halt → Session → Type 0
-AnswersOf state number batch (Ok x) after = TellsAs state number batch x after
-AnswersOf state number batch (Err halt.OutOfMemory) after = Unit {0}
-AnswersOf state number batch (Err halt.BadReply) after = ⊥
-AnswersOf state number batch (Err halt.EntropyFault) after = ⊥
-AnswersOf state number batch (Err halt.VaultFault) after = ⊥
-
--- a definition was described in this state, in which no session has a transaction, to this session
-pub record IsDefinition (state : State) (number : ℕ) (p : Pending) : Type 0 where
+-- this session holds a definition that was described to it in this state, in which no session has a transaction
+pub record IsDefinition (state : State) (number : ℕ) (s : Session) : Type 0 where
   pub alone : HasNoTransaction state
   pub batch : Batch
   pub description : Description
   pub described : describe (catalog_of state number) batch.text (declarations_of batch) ≡ Ok description
-  pub is : p ≡ pending batch description
+  pub holds : s ≡ session.Pending (pending batch description)
   pub defines : defines batch.text ≡ true
+
+-- the session holds a batch that uses no parameter
+pub record IsUnused (s : Session) : Type 0 where
+  pub batch : Pending
+  pub holds : s ≡ session.Pending batch
+  pub unused : uses_of batch ≡ []
 
 -- its result, and the state after it
 abbrev pub ComesTo : Came → State → Outcome → Type 0
@@ -106,8 +95,12 @@ abbrev pub is_clash : Outcome → Bool
 is_clash (outcome.Refused f) = code_of f == 30
 is_clash other = false
 
--- the one reply to a definition that is executed
+-- what the driver says of a definition that is executed
+abbrev pub Says : Outcome → ReplyAnswer → Type 0
+Says comes replied.Defined = comes ≡ outcome.Defined
+Says comes (replied.Refused f) = comes ≡ outcome.Refused f
+Says comes other = ⊥
+
+-- there is one reply, of which it says so, and the session is idle after it
 abbrev pub AnswersAs : List Reply → Outcome → Type 0
-AnswersAs replies outcome.Defined = replies ≡ reply.Ended done.Defined ∷ []
-AnswersAs replies (outcome.Refused f) = replies ≡ reply.Refused f ∷ []
-AnswersAs replies other = ⊥
+AnswersAs replies comes = (x : Reply) × (said : ReplyAnswer) × (replies ≡ x ∷ []) × (held.replied session.Sent x ≡ held.Tells said session.Idle) × Says comes said

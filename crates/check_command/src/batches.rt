@@ -7,14 +7,19 @@ ghost use Rattle.check_command.specs.Check as check;
 
 use crate::defining::defined;
 use crate::definitions::defines;
-use crate::describing::{Asked, describe};
+use crate::describing::describe;
 use ae_base::batches::Batch;
 use ae_base::sessions::SessionId;
+use conversation::answers::DescribeAnswer;
+use conversation::faults::Halt;
 use conversation::outcomes::Outcome;
+use driver::Driver;
 use server_core::server::Server;
 use std::alloc::{AllocError, Global};
 
-/// The result of a batch: a definition is executed, any other batch described.
+/// The result of a batch: a definition is executed, any other batch described. It has a driver of
+/// its own, so nothing stays pending.
+#[tactic(auto, using(crate::proofs::Executing::idle_at, crate::proofs::Telling::defined_as))]
 pub fn outcome_of(
     alloc: Global,
     server: &mut Server,
@@ -27,18 +32,19 @@ pub fn outcome_of(
     ensures sessions { server.new.sessions ≡ server.old.sessions }
 {
     let defines = defines(alloc, &batch.text)?;
-    match describe(alloc, server, number, batch) {
-        Ok(Asked::Ready(pending, params)) => {
+    let mut driver = Driver::new(alloc)?;
+    match describe(alloc, server, &mut driver, number, batch) {
+        Ok(DescribeAnswer::Ready(params)) => {
             if defines {
                 drop(params);
-                defined(alloc, server, number, pending)
+                defined(alloc, server, &mut driver, number)
             } else {
-                drop(pending);
                 Ok(Outcome::Described(params))
             }
         }
-        Ok(Asked::Refused(fault)) => Ok(Outcome::Refused(fault)),
-        Ok(Asked::Unfit(fault)) => Ok(Outcome::Failed(fault)),
-        Err(error) => Err(error),
+        Ok(DescribeAnswer::Refused(fault)) => Ok(Outcome::Refused(fault)),
+        Ok(DescribeAnswer::Failed(fault)) => Ok(Outcome::Failed(fault)),
+        Err(Halt::OutOfMemory) => Err(AllocError),
+        Err(Halt::BadReply | Halt::EntropyFault | Halt::VaultFault) => unreachable!(),
     }
 }
