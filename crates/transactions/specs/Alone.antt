@@ -11,7 +11,7 @@ abbrev pub others_of : ℕ → List Call → List Call
 others_of session [] = []
 others_of session (call ∷ calls) = if is_of session call then others_of session calls else call ∷ others_of session calls
 
--- each call of the session leaves the shared world: none is a statement outside a transaction, or a COMMIT that is accepted
+-- no call of the session changes the shared world, as an accepted change outside a transaction does, or an accepted COMMIT of changes
 abbrev pub LeavesShared : ℕ → Store → List Call → Type 0
 LeavesShared session store [] = Unit {0}
 LeavesShared session store (call ∷ calls) =
