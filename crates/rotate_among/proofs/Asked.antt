@@ -1,8 +1,7 @@
 -- A request that is asked behind those of others, whole or in part; and what is heard of the replies to it.
-use Rattle.std.proofs.Common.{◌≡◌, ℕ, List, [], ◌∷◌, ◌++◌, Option, None, refl, sym, ◌∙◌, ap, subst, append-nil, arith, inr}
+use Rattle.std.proofs.Common.{◌≡◌, ℕ, List, [], ◌∷◌, ◌++◌, Option, None, refl, sym, ◌∙◌, ap, subst, append-nil, arith, inl, inr}
 use Rattle.std.specs.Borrow.{GName}
 use Rattle.ae_edge.specs.Devices.{WhereExposed, Adds, AddsPrefix}
-use Rattle.ae_edge.proofs.Interface.{adds_front_none}
 use Rattle.wire_frames.specs.Frames.{Placed}
 use Rattle.wire_messages.specs.Exchanges.{Exchange}
 use Rattle.wire_messages.specs.declared.replies.Reply.{Reply}
@@ -12,7 +11,8 @@ use Rattle.wire_encoding.specs.Spelling.{request_frame}
 use Rattle.conversation.specs.Paths.{Asked}
 use Rattle.run_effects.specs.Shares.{Queue, Wire, AreServed, queue_of}
 use Rattle.run_effects.specs.Ways.{AsksInPart, IsSilent}
-use Rattle.run_effects.proofs.Interface.{queued}
+use Rattle.run_effects.proofs.Interface.{queued, same_state}
+use Rattle.ae_edge.proofs.Interface.{adds_front_none, adds_none}
 use Rattle.script_run.specs.Connections.{Sends}
 use Rattle.script_run.specs.declared.connection.Sent.{Sent}
 use Rattle.script_run.specs.declared.connection.Sent.TheVariants as sent
@@ -35,17 +35,6 @@ module _ (request : Request) (replies : List Reply) (old : Wire) (unlogged : old
 
   silent : IsSilent old.stream (Asked request replies ∷ [])
   silent = subst (λ s. IsSilent s (Asked request replies ∷ [])) (sym unread) tt
-
-  -- of its frames nothing was put
-  pub lacked : AsksInPart request old (record old { names = names; state = state })
-  lacked = (
-    refl,
-    inr (
-      replies,
-      silent,
-      record { names = same; version = refl; tap = adds_front_none (Passed ++ []) old.tap; log = logged; state = served; count = omega arith; closed = refl },
-    ),
-  )
 
   -- it was asked, whole or in part
   pub sends_so : (result : Sent) (tap : Option (List ℕ)) (faults : ℕ) (waiting : List (Placed Reply)) (behind : ℕ)
@@ -77,5 +66,21 @@ module _ (request : Request) (replies : List Reply) (old : Wire) (unlogged : old
     ),
   )
 
-pub three_same : {A : Type 0} (a b c d e : A) → a ≡ b → c ≡ d → a ∷ c ∷ e ∷ [] ≡ b ∷ d ∷ e ∷ []
-three_same a b c d e f g = ap (λ x. x ∷ c ∷ e ∷ []) f ∙ ap (λ x. b ∷ x ∷ e ∷ []) g
+-- it wasn't asked
+pub unasked : (request : Request) (old : Wire) (names : List (List GName)) (state : Option Beside) → names ≡ old.names → state ≡ old.state
+    → AsksInPart request old (record old { names = names; state = state })
+unasked request old names state e f = (
+  refl,
+  inl (record {
+    names = e;
+    version = refl;
+    tap = adds_front_none [] old.tap;
+    log = adds_none old.log;
+    state = subst (WhereExposed (AreServed []) old.state) (sym f) (same_state old.state);
+    count = omega arith;
+    closed = refl;
+  }),
+)
+
+pub both_same : {A : Type 0} (a b c d : A) → a ≡ b → c ≡ d → a ∷ c ∷ [] ≡ b ∷ d ∷ []
+both_same a b c d f g = ap (λ x. x ∷ c ∷ []) f ∙ ap (λ x. b ∷ x ∷ []) g

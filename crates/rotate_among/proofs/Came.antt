@@ -1,6 +1,6 @@
 -- How a rotation came to what it answers.
-use Rattle.std.proofs.Common.{◌≡◌, ℕ, List, [], Option, None, Result, Ok, Err, Bool, false, refl, sym, subst}
-use Rattle.std.specs.Prelude.{IfOk, is_some}
+use Rattle.std.proofs.Common.{◌≡◌, ℕ, List, [], Option, Result, Ok, Err, refl, sym, subst}
+use Rattle.std.specs.Prelude.{IfOk}
 use Rattle.ae_base.specs.declared.frames.FrameVersion.{FrameVersion}
 use Rattle.wire_frames.specs.Frames.{Placed}
 use Rattle.wire_messages.specs.declared.replies.Reply.{Reply}
@@ -12,17 +12,18 @@ use Rattle.column_rotate.specs.Rotating.{Ends, beginning, rotating}
 use Rattle.driver.specs.declared.outcomes.Fault.{Fault}
 use Rattle.outcome_text.specs.Counting.{nothing}
 use Rattle.outcome_text.specs.declared.tallies.Tally.{Tally}
-use Rattle.run_effects.specs.Shares.{Outside}
-use Rattle.run_effects.specs.Ways.{Advances}
+use Rattle.run_effects.specs.Ways.{Advances, Breaks}
 use Rattle.run_effects.specs.declared.stops.Stop.{Stop}
 use Rattle.run_effects.specs.declared.stops.Stop.TheVariants as stop
 use Rattle.script_run.specs.Rotations.{rotated_as}
-use Rattle.rotate_among.specs.Beside.{lacking, told_beside}
-use Rattle.rotate_among.specs.Coming.{CameTo, Comes, IsBy, Kept, Lent, Names, outside, untouched}
-use Rattle.rotate_among.specs.declared.among_connection.Unasked.{Unasked}
+use Rattle.run_effects.proofs.Interface.{breaks_between}
+use Rattle.server_core.specs.Beside.{first_of}
+use Rattle.server_core.specs.Serve.{State}
+use Rattle.rotate_among.specs.Beside.{IsBehindSome}
+use Rattle.rotate_among.specs.Coming.{CameTo, Comes, IfEnded, IsBy, Kept, Lent, Names, outside, untouched}
 use Rattle.rotate_among.specs.declared.rotating.Rotated.{Rotated}
 use Rattle.rotate_among.specs.declared.rotating.Rotated.TheVariants as came
-use Rattle.rotate_among.proofs.Others.{none_came, none_lacks}
+use Rattle.rotate_among.proofs.Others.{told_is}
 
 -- a session that has a batch rotates nothing
 pub rotates_begins : (trusted : List (List ℕ)) (number : ℕ) (old new : List ℕ) (before : Session) (k : Ends) → beginning trusted number old new k before ≡ rotating trusted number old new before k
@@ -33,60 +34,95 @@ rotates_begins trusted number old new session.Sent k = refl
 rotates_begins trusted number old new (session.Reading columns keys count) k = refl
 rotates_begins trusted number old new (session.Skipping columns count) k = refl
 
--- what is told where a request may lack memory
-abbrev pub outside_of : FrameVersion → Names → Kept → Option Unasked → Lent → Outside
-outside_of version names k u l = record {
-  client = (outside version names k l).client;
-  wire = record (outside version names k l).wire { state = told_beside k.between u l.state };
-}
-
 -- nothing was kept before
-pub kept_so : (text frames : List ℕ) (waiting : List (Placed Reply)) (tally : Tally) (between : List (List Request)) → text ≡ [] → frames ≡ [] → waiting ≡ [] → tally ≡ nothing
-    → record { text = text; frames = frames; waiting = waiting; behind = 0; taken = 0; tally = tally; between = between } ≡ untouched between
-kept_so text frames waiting tally between e f q n = rw (e, f, q, n) refl
+pub kept_so : (text frames : List ℕ) (waiting : List (Placed Reply)) (tally : Tally) (started between : List (List Request))
+    → text ≡ [] → frames ≡ [] → waiting ≡ [] → tally ≡ nothing → started ≡ between
+    → record { text = text; frames = frames; waiting = waiting; behind = 0; taken = 0; tally = tally; between = started } ≡ untouched between
+kept_so text frames waiting tally started between e f q n b = rw (e, f, q, n, b) refl
+
+-- however it ended, where no stream of replies is read, it broke off there
+broken_off : (ended : Result (Result ℕ Fault) Stop) (t : Talk) (onward : Result ℕ Fault → Talk) (version : FrameVersion) (names names_after : Names) (k l : Kept) (a b : Lent)
+    → Advances ended t onward (outside version names k a) (outside version names_after l b) → Breaks t (outside version names k a) (outside version names_after l b)
+broken_off (Ok rotated) t onward version names names_after k l a b h = breaks_between t (onward rotated) _ _ h
+broken_off (Err (stop.BadReply place)) t onward version names names_after k l a b h = breaks_between t h.rest _ _ h.goes
+broken_off (Err stop.ReadFault) t onward version names names_after k l a b h = absurd h.1
+broken_off (Err stop.TooLong) t onward version names names_after k l a b h = absurd h.1
+broken_off (Err stop.EntropyFault) t onward version names names_after k l a b h = breaks_between t h.0.rest _ _ h.0.goes
+broken_off (Err stop.VaultFault) t onward version names names_after k l a b h = breaks_between t h.0.rest _ _ h.0.goes
+broken_off (Err stop.WriteFault) t onward version names names_after k l a b h = h.0
+broken_off (Err stop.OutOfMemory) t onward version names names_after k l a b h = h
 
 module _ (ended : Result (Result ℕ Fault) Stop) (trusted : List (List ℕ)) (number : ℕ) (old new : List ℕ) (before after : Session)
     (version : FrameVersion) (between : List (List Request)) (a b : Lent) where
-  abbrev pub Goes_by : Names → Names → Kept → Option Unasked → Kept → Option Unasked → Type 0
-  Goes_by names names_after k u l v =
-      (c : Ends) → Advances ended (beginning trusted number old new c before) (λ rotated. c (rotated_as rotated) after) (outside_of version names k u a) (outside_of version names_after l v b)
+  abbrev pub Goes_by : Names → Names → Kept → Kept → Type 0
+  Goes_by names names_after k l =
+      (c : Ends) → Advances ended (beginning trusted number old new c before) (λ rotated. c (rotated_as rotated) after) (outside version names k a) (outside version names_after l b)
 
-  pub came_so : (names names_after : Names) (k l : Kept) (v : Option Unasked) → k ≡ untouched between → is_some v ≡ false → Goes_by names names_after k None l v
+  came_so : (names names_after : Names) (k l : Kept) → k ≡ untouched between → Goes_by names names_after k l
       → CameTo ended (rotating trusted number old new before) after version between l.frames a b
-  came_so names names_after k l v e m h = record {
+  came_so names names_after k l e h = record {
     names = names;
     names_after = names_after;
     kept = l;
     is = refl;
     leads = λ c.
         let onward : Result ℕ Fault → Talk = λ rotated. c (rotated_as rotated) after in
-        let t = beginning trusted number old new c before in
         let last = outside version names_after l b in
         subst (λ w. Advances ended w onward (outside version names (untouched between) a) last) (rotates_begins trusted number old new before c)
-        (subst (λ w. Advances ended t onward (outside_of version names w None a) last) e
-        (subst (λ w. Advances ended t onward (outside_of version names k None a) (outside_of version names_after l w b)) (none_lacks v m) (h c)));
+        (subst (λ w. Advances ended (beginning trusted number old new c before) onward (outside version names w a) last) e (h c));
   }
 
--- by what it answers
-pub comes_by : {E : Type 0} (result : Result Rotated E) (ended : Result (Result ℕ Fault) Stop) (t : Ends → Talk) (after : Session)
-    (version : FrameVersion) (between : List (List Request)) (frames : List ℕ) (a b : Lent)
-    → IsBy result ended frames → CameTo ended t after version between frames a b → IfOk result (λ rotated. Comes rotated t after version between a b)
-comes_by (Ok (came.Ended rotated w)) ended t after version between frames a b i h =
-    subst (λ x. CameTo (Ok rotated) t after version between x a b) (sym i.1) (subst (λ x. CameTo x t after version between frames a b) i.0 h)
-comes_by (Ok came.EntropyFault) ended t after version between frames a b i h = (frames, subst (λ x. CameTo x t after version between frames a b) i h)
-comes_by (Ok came.VaultFault) ended t after version between frames a b i h = (frames, subst (λ x. CameTo x t after version between frames a b) i h)
-comes_by (Ok (came.BadReply place w)) ended t after version between frames a b i h =
-    subst (λ x. CameTo (Err (stop.BadReply place)) t after version between x a b) (sym i.1) (subst (λ x. CameTo x t after version between frames a b) i.0 h)
-comes_by (Ok came.OutOfMemory) ended t after version between frames a b i h = (frames, subst (λ x. CameTo x t after version between frames a b) i h)
-comes_by (Err why) ended t after version between frames a b i h = tt
+module _ (ended : Result (Result ℕ Fault) Stop) (t : Ends → Talk) (after : Session) (version : FrameVersion) (between : List (List Request)) (frames : List ℕ) (a b : Lent)
+    (told : Option State) (others : ℕ) where
+  abbrev Came : Lent → Result (Result ℕ Fault) Stop → List ℕ → Type 0
+  Came b ended frames = CameTo ended t after version between frames a b
 
--- by what it answers, where there was memory for each request
-pub comes_so : {E : Type 0} (result : Result Rotated E) (ended : Result (Result ℕ Fault) Stop) (trusted : List (List ℕ)) (number : ℕ) (old new : List ℕ) (before after : Session)
-    (version : FrameVersion) (between : List (List Request)) (a b : Lent) (names names_after : Names) (k l : Kept) (lacks : Bool) (unasked : Option Unasked)
-    → IsBy result ended l.frames → IfOk result (λ o. lacks ≡ false) → k ≡ untouched between
-    → Goes_by ended trusted number old new before after version between a b names names_after k None l (lacking lacks unasked)
-    → IfOk result (λ rotated. Comes rotated (rotating trusted number old new before) after version between a b)
-comes_so {E = E} (Ok rotated) ended trusted number old new before after version between a b names names_after k l lacks unasked i n e h =
-    comes_by {E = E} (Ok rotated) ended (rotating trusted number old new before) after version between l.frames a b i
-    (came_so ended trusted number old new before after version between a b names names_after k l (lacking lacks unasked) e (none_came lacks unasked n) h)
-comes_so (Err why) ended trusted number old new before after version between a b names names_after k l lacks unasked i n e h = tt
+  -- where the peer's state is the one that is told
+  stood : (h : Came (record b { state = told }) ended frames) → others ≡ 0 → IsBehindSome others (first_of h.kept.between) told b.state → Came b ended frames
+  stood h n i =
+      let g = subst (λ w. Came (record b { state = w }) ended frames) (told_is others (first_of h.kept.between) told b.state n i) h in
+      record { names = g.names; names_after = g.names_after; kept = g.kept; is = g.is; leads = g.leads }
+
+  -- by what it answers
+  pub comes_by : (result : Rotated) → IsBy result ended frames others → (h : Came (record b { state = told }) ended frames) → IsBehindSome others (first_of h.kept.between) told b.state
+      → Comes result t after version between a b
+  comes_by (came.Ended rotated w) i h s = subst (λ x. Came b (Ok rotated) x) (sym i.1) (subst (λ x. Came b x frames) i.0 (stood h i.2 s))
+  comes_by came.EntropyFault i h s = (frames, subst (λ x. Came b x frames) i.0 (stood h i.1 s))
+  comes_by came.VaultFault i h s = (frames, subst (λ x. Came b x frames) i.0 (stood h i.1 s))
+  comes_by (came.BadReply place w) i h s = subst (λ x. Came b (Err (stop.BadReply place)) x) (sym i.1) (subst (λ x. Came b x frames) i.0 (stood h i.2 s))
+  comes_by came.OutOfMemory i h s = record {
+    told = told;
+    frames = frames;
+    came = record {
+      names = h.names;
+      names_after = h.names_after;
+      kept = h.kept;
+      is = h.is;
+      leads = λ k. broken_off ended (t k) (λ rotated. k (rotated_as rotated) after) version h.names h.names_after (untouched between) h.kept a (record b { state = told }) (h.leads k);
+    };
+    others = others;
+    state = s;
+  }
+
+-- from what is known of a run
+pub comes_so : (result : Rotated) (ended : Result (Result ℕ Fault) Stop) (trusted : List (List ℕ)) (number : ℕ) (old new : List ℕ) (before after : Session)
+    (version : FrameVersion) (between : List (List Request)) (a b : Lent) (from told : Option State) (others : ℕ) (names names_after : Names) (k l : Kept)
+    → IsBy result ended l.frames others → IsBehindSome others (first_of l.between) told b.state → k ≡ untouched between → from ≡ a.state
+    → Goes_by ended trusted number old new before after version between (record a { state = from }) (record b { state = told }) names names_after k l
+    → Comes result (rotating trusted number old new before) after version between a b
+unfolding came_so
+comes_so result ended trusted number old new before after version between a b from told others names names_after k l i s e f h =
+    let stands : Lent = record b { state = told } in
+    let goes : Goes_by ended trusted number old new before after version between a stands names names_after k l =
+    subst (λ w. Goes_by ended trusted number old new before after version between (record a { state = w }) stands names names_after k l) f h in
+    comes_by ended (rotating trusted number old new before) after version between l.frames a b told others result i
+    (came_so ended trusted number old new before after version between a stands names names_after k l e goes) s
+
+-- where it ended, what holds at an end
+pub ended_so : (P : Type 0) (result : Rotated) (ended : Result (Result ℕ Fault) Stop) (frames : List ℕ) (others : ℕ)
+    → IsBy result ended frames others → IfOk ended (λ rotated. P) → IfEnded P result
+ended_so P (came.Ended rotated w) ended frames others i h = subst (λ x. IfOk x (λ rotated. P)) i.0 h
+ended_so P came.EntropyFault ended frames others i h = tt
+ended_so P came.VaultFault ended frames others i h = tt
+ended_so P (came.BadReply place w) ended frames others i h = tt
+ended_so P came.OutOfMemory ended frames others i h = tt

@@ -1,7 +1,7 @@
 -- What others ask, some of it and then the rest; and what is told of a server then.
-use Rattle.std.proofs.Common.{◌≡◌, ℕ, zero, suc, ◌+◌, ◌<◌, ◌≤◌, List, [], ◌∷◌, Option, Some, None, Bool, true, false, refl, sym, ◌∙◌, ap, subst, take, drop, drop-cons, get_or, length, arith, add-one}
+use Rattle.std.proofs.Common.{◌≡◌, ℕ, zero, suc, ◌+◌, ◌<◌, ◌≤◌, List, [], ◌∷◌, Option, Some, None, refl, sym, ◌∙◌, ap, subst, take, take_all, drop, drop-cons, get_or, length, arith, add-one}
 use Rattle.std.proofs.Math.ListN.{drop_of_length-le}
-use Rattle.std.specs.Prelude.{is_some}
+use Rattle.std.specs.Prelude.{option_map}
 use Rattle.ae_edge.specs.Devices.{WhereExposed}
 use Rattle.wire_messages.specs.Exchanges.{Served}
 use Rattle.wire_messages.specs.declared.replies.Reply.{Reply}
@@ -10,16 +10,10 @@ use Rattle.conversation.specs.Paths.{Asked}
 use Rattle.run_effects.specs.Shares.{AreServed}
 use Rattle.server_core.specs.Beside.{first_of, rest_of}
 use Rattle.server_core.specs.Serve.{State, serve, serve_all}
-use Rattle.rotate_among.specs.Beside.{beside, lacking, told_beside}
-use Rattle.rotate_among.specs.declared.among_connection.Unasked.{Unasked}
+use Rattle.served_rotation_laws.specs.Laws.{behind}
+use Rattle.rotate_among.specs.Beside.{IsBehindSome, beside}
 
 -- ---- one after another
-
--- some are asked, and then the rest
-asked_then : (k : ℕ) (requests : List Request) (s : State) → (serve_all (serve_all s (take k requests)).1 (drop k requests)).1 ≡ (serve_all s requests).1
-asked_then zero requests s = refl
-asked_then (suc k) [] s = refl
-asked_then (suc k) (request ∷ requests) s = asked_then k requests (serve s request).after
 
 one_more_of : (i : ℕ) (requests : List Request) (d : Request) (s : State) → i < length requests
     → (serve_all s (take (suc i) requests)).1 ≡ (serve (serve_all s (take i requests)).1 (get_or requests i d)).after
@@ -29,81 +23,55 @@ one_more_of (suc i) (request ∷ requests) d s lt = one_more_of i requests d (se
 
 -- one more is asked of a peer
 pub one_more : (i : ℕ) (requests : List Request) (d request : Request) (replies : List Reply) (a b c : Option State) → i < length requests → request ≡ get_or requests i d
-    → WhereExposed (λ old new. new ≡ (serve_all old (take i requests)).1) a b → WhereExposed (λ old new. serve old request ≡ record { replies = replies; after = new }) b c
-    → WhereExposed (λ old new. new ≡ (serve_all old (take (i + 1) requests)).1) a c
+    → IsBehindSome i requests a b → WhereExposed (λ old new. serve old request ≡ record { replies = replies; after = new }) b c
+    → IsBehindSome (i + 1) requests a c
 one_more i requests d request replies (Some x) (Some y) (Some z) lt e h g =
     let n : (serve y request).after ≡ z = ap (λ (s : Served State). s.after) g in
-    rw add-one (sym n ∙ ap (λ w. (serve w request).after) h ∙ ap (λ w. (serve (serve_all x (take i requests)).1 w).after) e ∙ sym (one_more_of i requests d x lt))
+    rw add-one (sym n ∙ ap (λ w. (serve w request).after) h ∙ ap (λ w. (serve (behind x (take i requests)) w).after) e ∙ sym (one_more_of i requests d x lt))
 one_more i requests d request replies None None None lt e h g = tt
 one_more i requests d request replies (Some x) (Some y) None lt e h g = absurd g
 one_more i requests d request replies (Some x) None c lt e h g = absurd h
 one_more i requests d request replies None (Some y) c lt e h g = absurd h
 one_more i requests d request replies None None (Some z) lt e h g = absurd g
 
-pub none_asked : (requests : List Request) (a : Option State) → WhereExposed (λ old new. new ≡ (serve_all old (take 0 requests)).1) a a
+pub none_asked : (requests : List Request) (a : Option State) → IsBehindSome 0 requests a a
 none_asked requests (Some x) = refl
 none_asked requests None = tt
 
--- all were asked, and then one more
-pub asked_behind : (others : List Request) (request : Request) (replies : List Reply) (a b c : Option State)
-    → WhereExposed (λ old new. new ≡ (serve_all old others).1) a b → WhereExposed (λ old new. serve old request ≡ record { replies = replies; after = new }) b c
-    → WhereExposed (λ old new. serve (serve_all old others).1 request ≡ record { replies = replies; after = new }) a c
-asked_behind others request replies (Some x) (Some y) (Some z) h g = ap (λ w. serve w request) (sym h) ∙ g
-asked_behind others request replies None None None h g = tt
-asked_behind others request replies (Some x) (Some y) None h g = absurd g
-asked_behind others request replies (Some x) None c h g = absurd h
-asked_behind others request replies None (Some y) c h g = absurd h
-asked_behind others request replies None None (Some z) h g = absurd g
+-- it is behind none of them
+pub told_is : (n : ℕ) (requests : List Request) (told state : Option State) → n ≡ 0 → IsBehindSome n requests told state → told ≡ state
+told_is n requests (Some x) (Some y) e h = ap Some (sym (h ∙ ap (λ m. behind x (take m requests)) e))
+told_is n requests None None e h = refl
+told_is n requests (Some x) None e h = absurd h
+told_is n requests None (Some y) e h = absurd h
 
--- ---- what is told
+pub behind_told : (n : ℕ) (requests : List Request) (told state : Option State) (s : State) → told ≡ Some s → IsBehindSome n requests told state → state ≡ Some (behind s (take n requests))
+behind_told n requests (Some x) (Some y) s e h = let same : x ≡ s = cc in ap Some (h ∙ ap (λ w. behind w (take n requests)) same)
+behind_told n requests (Some x) None s e h = absurd h
+behind_told n requests None state s e h = absurd cc
 
-pub none_came : (b : Bool) (u : Option Unasked) → b ≡ false → is_some (lacking b u) ≡ false
-none_came true u e = cc
-none_came false u e = refl
+-- all were asked, and then this session's request
+module _ (between : List (List Request)) (request : Request) (replies : List Reply) where
+  abbrev Serves : Option State → Option State → Type 0
+  Serves = WhereExposed (λ old new. serve old request ≡ record { replies = replies; after = new })
 
-pub none_lacks : (u : Option Unasked) → is_some u ≡ false → u ≡ None
-none_lacks None e = refl
-none_lacks (Some u) e = absurd cc
+  served_told : (n : ℕ) (a b c : Option State) → length (first_of between) ≤ n → IsBehindSome n (first_of between) a b → Serves b c
+      → WhereExposed (AreServed (Asked request replies ∷ [])) (option_map (beside between) a) (option_map (beside (rest_of between)) c)
+  served_told n (Some x) (Some y) (Some z) le h g =
+      let all : y ≡ behind x (first_of between) = h ∙ ap (behind x) (take_all n (first_of between) le) in
+      (beside (rest_of between) z, ap (λ (s : Served State). record { replies = s.replies; after = beside (rest_of between) s.after }) (ap (λ w. serve w request) (sym all) ∙ g), refl)
+  served_told n None None None le h g = tt
+  served_told n (Some x) (Some y) None le h g = absurd g
+  served_told n (Some x) None c le h g = absurd h
+  served_told n None (Some y) c le h g = absurd h
+  served_told n None None (Some z) le h g = absurd g
 
-module _ (between : List (List Request)) (request : Request) where
-  served_told : (replies : List Reply) (a b : Option State) → WhereExposed (λ old new. serve (serve_all old (first_of between)).1 request ≡ record { replies = replies; after = new }) a b
-      → WhereExposed (AreServed (Asked request replies ∷ [])) (told_beside between None a) (told_beside (rest_of between) None b)
-  served_told replies (Some x) (Some y) e =
-      (beside (rest_of between) y, ap (λ (s : Served State). record { replies = s.replies; after = beside (rest_of between) s.after }) e, refl)
-  served_told replies None None e = tt
-  served_told replies (Some x) None e = absurd e
-  served_told replies None (Some y) e = absurd e
-
-  -- it was served behind those of the others
-  pub served_so : (first : List Request) (rest : List (List Request)) → first ≡ first_of between → rest ≡ rest_of between → (u : Option Unasked) → is_some u ≡ false
-      → (replies : List Reply) (a b : Option State) → WhereExposed (λ old new. serve (serve_all old first).1 request ≡ record { replies = replies; after = new }) a b
-      → WhereExposed (AreServed (Asked request replies ∷ [])) (told_beside between u a) (told_beside rest u b)
-  served_so first rest e f u n replies a b h =
-      let g = served_told replies a b (subst (λ w. WhereExposed (λ old new. serve (serve_all old w).1 request ≡ record { replies = replies; after = new }) a b) e h) in
-      subst (λ w. WhereExposed (AreServed (Asked request replies ∷ [])) (told_beside between w a) (told_beside rest w b)) (sym (none_lacks u n))
-      (subst (λ w. WhereExposed (AreServed (Asked request replies ∷ [])) (told_beside between None a) (told_beside w None b)) (sym f) g)
-
-  lacks_told : (asked : ℕ) (a b : Option State) → WhereExposed (λ old new. new ≡ (serve_all old (take asked (first_of between))).1) a b
-      → (replies : List Reply) × WhereExposed (AreServed (Asked request replies ∷ [])) (told_beside between None a) (told_beside between (Some (record { request = request; others = asked })) b)
-  lacks_told asked (Some x) (Some y) e =
-      let s = serve (serve_all x (first_of between)).1 request in
-      let all : (serve_all y (drop asked (first_of between))).1 ≡ (serve_all x (first_of between)).1 =
-      ap (λ w. (serve_all w (drop asked (first_of between))).1) e ∙ asked_then asked (first_of between) x in
-      (s.replies, (beside (rest_of between) s.after, refl, ap (λ w. beside (rest_of between) (serve w request).after) all))
-  lacks_told asked None None e = ([], tt)
-  lacks_told asked (Some x) None e = absurd e
-  lacks_told asked None (Some y) e = absurd e
-
-  -- it wasn't asked
-  pub lacks_so : (first : List Request) → first ≡ first_of between → (u : Option Unasked) → is_some u ≡ false → (own : Request) → own ≡ request
-      → (asked : ℕ) (a b : Option State) → WhereExposed (λ old new. new ≡ (serve_all old (take asked first)).1) a b
-      → (replies : List Reply) × WhereExposed (AreServed (Asked request replies ∷ [])) (told_beside between u a) (told_beside between (Some (record { request = own; others = asked })) b)
-  lacks_so first e u n own f asked a b h =
-      let g = lacks_told asked a b (subst (λ w. WhereExposed (λ old new. new ≡ (serve_all old (take asked w)).1) a b) e h) in (
-        g.0,
-        subst (λ w. WhereExposed (AreServed (Asked request g.0 ∷ [])) (told_beside between w a) (told_beside between (Some (record { request = own; others = asked })) b)) (sym (none_lacks u n))
-            (subst (λ w. WhereExposed (AreServed (Asked request g.0 ∷ [])) (told_beside between None a) (told_beside between (Some (record { request = w; others = asked })) b)) (sym f) g.1),
-      )
+  pub served_so : (first : List Request) (rest : List (List Request)) → first ≡ first_of between → rest ≡ rest_of between
+      → (n : ℕ) (a b c : Option State) → length first ≤ n → IsBehindSome n first a b → Serves b c
+      → WhereExposed (AreServed (Asked request replies ∷ [])) (option_map (beside between) a) (option_map (beside rest) c)
+  served_so first rest e f n a b c le h g =
+      subst (λ w. WhereExposed (AreServed (Asked request replies ∷ [])) (option_map (beside between) a) (option_map (beside w) c)) (sym f)
+      (served_told n a b c (subst (λ w. length w ≤ n) e le) (subst (λ w. IsBehindSome n w a b) e h) g)
 
 -- ---- what others ask before the next request
 

@@ -1,10 +1,41 @@
 -- What passed over a server that others ask too, by how far a rotation's conversation was followed.
-use Rattle.std.proofs.Common.{◌≡◌, ◌≢◌, ◌≤◌, ℕ, List, [], ◌∷◌, ◌++◌, Option, Some, None, Result, Ok, Err, ◌⊎◌, inl, inr, refl, sym, ◌∙◌, ap, subst, append-nil, length, length-append, arith}
-use Rattle.std.specs.Prelude.{IfOk, flat_map, option_map}
+use Rattle.std.proofs.Common.{
+  ◌≡◌,
+  ◌≢◌,
+  ◌≤◌,
+  ℕ,
+  List,
+  [],
+  ◌∷◌,
+  ◌++◌,
+  Option,
+  Some,
+  None,
+  Result,
+  Ok,
+  Err,
+  ◌⊎◌,
+  inl,
+  inr,
+  refl,
+  sym,
+  ◌∙◌,
+  ap,
+  subst,
+  append-nil,
+  length,
+  length-append,
+  take,
+  drop,
+  arith,
+}
+use Rattle.std.specs.Prelude.{flat_map, option_map}
 use Rattle.std.specs.List.{All}
-use Rattle.std.proofs.lemmas.List.{map-append}
+use Rattle.std.proofs.lemmas.List.{map-append, take-append-drop}
+use Rattle.std.proofs.lemmas.List.Elements.{All-drop, All-head, All-nil, All-take}
 use Rattle.ae_base.specs.Sessions.{IsSession}
 use Rattle.ae_base.specs.declared.frames.FrameVersion.{FrameVersion}
+use Rattle.ae_edge.specs.Devices.{IsPrefix}
 use Rattle.ae_edge.specs.Vaults.{KeyMap}
 use Rattle.aes_block.specs.Bytes.{AreBytes}
 use Rattle.wire_frames.specs.Frames.{Placed}
@@ -25,7 +56,7 @@ use Rattle.column_rotate.specs.Rotating.{fault_as, rotating}
 use Rattle.driver.specs.declared.outcomes.Fault.{Fault}
 use Rattle.driver.specs.declared.outcomes.Fault.TheVariants.{OfServer, OfDriver}
 use Rattle.proper_value_laws.specs.Proper.{IsIdentifier}
-use Rattle.run_effects.specs.Shares.{Outside, exchanges_of, frames_of, messages_of}
+use Rattle.run_effects.specs.Shares.{AreServed, Outside, exchanges_of, frames_of, messages_of}
 use Rattle.run_effects.specs.Events.{stop_events}
 use Rattle.run_effects.specs.Ways.{Proceeds, IsStuck, StopsBy}
 use Rattle.run_effects.specs.declared.stops.Stop.{Stop}
@@ -33,17 +64,18 @@ use Rattle.run_effects.specs.declared.stops.Stop.TheVariants as stop
 use Rattle.run_effects.proofs.Interface.{Begins, Reached, Starts, ahead, beside_serves, reached, served_so, state_there, stops_begin, stops_left}
 use Rattle.run_command.specs.Transcript.{exchange_frames}
 use Rattle.script_run.specs.Rotations.{rotated_as}
-use Rattle.server_core.specs.Beside.{Beside, serve_beside}
+use Rattle.server_core.specs.Beside.{Beside, first_of, serve_beside}
 use Rattle.server_core.specs.Serve.{State, empty_state}
 use Rattle.served_rotation_laws.specs.Beside.{all_asked, others_asked, rotated_beside, rotation, session_of}
 use Rattle.served_rotation_laws.specs.Laws.{AskingLeavesNoTrace, FinishedIsWhole, IsFinished, RotationsTellOneOutcome, UnfinishedLeavesNoTrace, behind}
-use Rattle.rotate_among.specs.Beside.{beside, told_beside}
+use Rattle.rotate_among.specs.Beside.{IsBehindSome, beside}
 use Rattle.rotate_among.specs.Coming.{Comes, Kept, Lent, Names, outside, untouched}
 use Rattle.rotate_among.specs.Moving as moving
 use Rattle.rotate_among.specs.Moving.{AreOthers, HasFrames, HasNoTrace, HasNoTraceBehind, IsMovedWhole, Leaves, PassedSo, StoppedSo}
 use Rattle.rotate_among.specs.declared.rotating.Rotated.{Rotated}
 use Rattle.rotate_among.specs.declared.rotating.Rotated.TheVariants as came
-use Rattle.rotate_among.proofs.Served.{over_leaves, served_leaves}
+use Rattle.rotate_among.proofs.Others.{behind_told, none_asked}
+use Rattle.rotate_among.proofs.Served.{between_left, over_leaves, served_leaves}
 
 -- ---- plain lists
 
@@ -70,22 +102,33 @@ framed version (Drew bytes ∷ events) = framed version events
 framed version (Opened meta key ∷ events) = framed version events
 framed version (Printed comes ∷ events) = framed version events
 
--- the state that is told
-told_state : (between : List (List Request)) (after : Option State) (v : Beside) → told_beside between None after ≡ Some v → after ≡ Some v.state
+-- the state that is told, and what is to be asked
+told_state : (between : List (List Request)) (after : Option State) (v : Beside) → option_map (beside between) after ≡ Some v → after ≡ Some v.state
 told_state between (Some s) v e = ap (option_map (λ (b : Beside). b.state)) e
 told_state between None v e = absurd cc
 
+told_between : (between : List (List Request)) (after : Option State) (v : Beside) → option_map (beside between) after ≡ Some v → between ≡ v.between
+told_between between (Some s) v e = let same : beside between s ≡ v = cc in ap (λ (b : Beside). b.between) same
+told_between between None v e = absurd cc
+
+abbrev IsOfOther : ℕ → Request → Type 0
+IsOfOther session request = IsRequest request × (session_of request ≢ session)
+
 -- both hold of each
 pub all_both : (session : ℕ) (between : List (List Request)) → All (All IsRequest) between → AreOthers session between
-    → All (All (λ request. IsRequest request × (session_of request ≢ session))) between
+    → All (All (IsOfOther session)) between
 all_both session between a b i d lt j e less = (a i d lt j e less, b i d lt j e less)
+
+first_others : (session : ℕ) (between : List (List Request)) → All (All (IsOfOther session)) between → All (IsOfOther session) (first_of between)
+first_others session [] h = All-nil (IsOfOther session)
+first_others session (requests ∷ between) h = All-head (All (IsOfOther session)) requests between h
 
 -- ---- over a server
 
 module _ (once : RotationsTellOneOutcome) (traceless : UnfinishedLeavesNoTrace) (asking : AskingLeavesNoTrace) (whole : FinishedIsWhole)
     (keys : KeyMap) (trusted : List (List ℕ)) (session : ℕ) (old new : List ℕ) (history : List Request) (between : List (List Request))
     (numbered : IsSession session) (old_named : IsIdentifier old) (new_named : IsIdentifier new) (before : All IsRequest history)
-    (others : All (All (λ request. IsRequest request × (session_of request ≢ session))) between)
+    (others : All (All (IsOfOther session)) between)
     (after : Session) (version : FrameVersion) (a b : Lent) (told : a.keys ≡ Some keys) (from : a.state ≡ Some (behind empty_state history)) where
   abbrev start : Beside
   start = beside between (behind empty_state history)
@@ -96,12 +139,12 @@ module _ (once : RotationsTellOneOutcome) (traceless : UnfinishedLeavesNoTrace) 
   abbrev t : Talk
   t = rotation trusted session old new
 
-  module _ (names names_after : Names) (kept : Kept) where
+  module _ (names names_after : Names) (kept : Kept) (at : Option State) where
     abbrev first : Outside
     first = outside version names (untouched between) a
 
     abbrev last : Outside
-    last = outside version names_after kept b
+    last = outside version names_after kept (record b { state = at })
 
     starts : Starts keys start first
     starts = record { state = ap (option_map (beside between)) from; keys = told; waiting = refl; queue = refl }
@@ -131,8 +174,8 @@ module _ (once : RotationsTellOneOutcome) (traceless : UnfinishedLeavesNoTrace) 
       passed : p ≡ ahead g.events rest
       passed = way.is []
 
-      stays : b.state ≡ Some there.state
-      stays = told_state kept.between b.state there (state_there (λ (x : Beside). x) serve_beside beside_serves keys t start first starts u last g).1
+      stays : at ≡ Some there.state
+      stays = told_state kept.between at there (state_there (λ (x : Beside). x) serve_beside beside_serves keys t start first starts u last g).1
 
       -- nothing passes from there on
       record Halts (state : Beside) (outcomes : List Outcome) (end : End) : Type 0 where
@@ -142,7 +185,7 @@ module _ (once : RotationsTellOneOutcome) (traceless : UnfinishedLeavesNoTrace) 
         is_so : p ≡ ahead g.events (record { exchanges = []; outcomes = outcomes; entropy = []; state = there; end = end })
         is_so = passed ∙ ap (ahead g.events) h.nothing
 
-        state_so : b.state ≡ Some p.state.state
+        state_so : at ≡ Some p.state.state
         state_so = stays ∙ ap (λ (x : Passed Beside). Some x.state.state) (sym is_so)
 
         outcomes_so : p.outcomes ≡ flat_map outcome_in g.events ++ outcomes
@@ -157,7 +200,7 @@ module _ (once : RotationsTellOneOutcome) (traceless : UnfinishedLeavesNoTrace) 
             g.put.wire.tap ∙ framed version g.events ∙ ap (flat_map (exchange_frames version)) (sym (x ∙ append-nil (flat_map exchanges_of g.events)))
 
         unfinished : ¬ (IsFinished p) → HasNoTrace start p
-        unfinished not_so = of (traceless keys trusted session old new drawn history between numbered old_named new_named bytes others)
+        unfinished not_so = of (traceless keys trusted session old new drawn history between numbered old_named new_named bytes others [] (All-nil (IsOfOther session)))
           where
             of : IsFinished p ⊎ HasNoTrace start p → HasNoTrace start p
             of (inl f) = absurd (not_so f)
@@ -166,13 +209,13 @@ module _ (once : RotationsTellOneOutcome) (traceless : UnfinishedLeavesNoTrace) 
         so_many : length p.outcomes ≤ 1
         so_many = once keys trusted session old new drawn history between numbered old_named new_named bytes others
 
-        passed_so : (P : Passed Beside → Type 0) → P p → PassedSo keys trusted session old new start P b.state
+        passed_so : (P : Passed Beside → Type 0) → P p → PassedSo keys trusted session old new start P at
         passed_so P h = record { drawn = drawn; state = state_so; is = h }
 
     -- ---- it ended
 
     ended : (r : Result ℕ Fault) → Proceeds t (ending (rotated_as r) after) first last
-        → PassedSo keys trusted session old new start (λ p. moving.Ends keys old new start r p × HasFrames version kept.frames p) b.state
+        → PassedSo keys trusted session old new start (λ p. moving.Ends keys old new start r p × HasFrames version kept.frames p) at
     ended r g = by r g refl
       where
         one : (x : Outcome) (g : Proceeds t (ending x after) first last) (end : End) (h : Halts (ending x after) g (there (ending x after) g) (x ∷ []) end) → (p (ending x after) g).outcomes ≡ x ∷ []
@@ -185,7 +228,7 @@ module _ (once : RotationsTellOneOutcome) (traceless : UnfinishedLeavesNoTrace) 
         halts x g = (_, record { nothing = refl })
 
         by : (r : Result ℕ Fault) (g : Proceeds t (ending (rotated_as r) after) first last) → r ≡ r
-            → PassedSo keys trusted session old new start (λ p. moving.Ends keys old new start r p × HasFrames version kept.frames p) b.state
+            → PassedSo keys trusted session old new start (λ p. moving.Ends keys old new start r p × HasFrames version kept.frames p) at
         by (Ok n) g e =
             let u = ending (outcome.Rotated n) after in
             let h = halts (outcome.Rotated n) g in
@@ -211,7 +254,7 @@ module _ (once : RotationsTellOneOutcome) (traceless : UnfinishedLeavesNoTrace) 
     bad_not_done n sessions e h i = cc
 
     -- for want of random bytes
-    at_draw : (u : Talk) (g : Proceeds t u first last) → IsAtDraw u → PassedSo keys trusted session old new start (HasNoTrace start) b.state
+    at_draw : (u : Talk) (g : Proceeds t u first last) → IsAtDraw u → PassedSo keys trusted session old new start (HasNoTrace start) at
     at_draw (Draws f) g d =
         let h : Halts (Draws f) g (there (Draws f) g) [] Dry = record { nothing = refl } in
         passed_so (Draws f) g [] Dry h (HasNoTrace start)
@@ -225,18 +268,18 @@ module _ (once : RotationsTellOneOutcome) (traceless : UnfinishedLeavesNoTrace) 
     at_draw (Prints comes more) g d = absurd d
 
     stopped_so : (u : Talk) (g : Proceeds t u first last) (n : ℕ) → Halts u g (there u g) [] (BadReply n)
-        → PassedSo keys trusted session old new start (λ p. HasNoTrace start p × HasFrames version kept.frames p) b.state
+        → PassedSo keys trusted session old new start (λ p. HasNoTrace start p × HasFrames version kept.frames p) at
     stopped_so u g n h =
         passed_so u g [] (BadReply n) h _
         (unfinished u g [] (BadReply n) h (λ w. bad_not_done n _ (p u g).end (end_so u g [] (BadReply n) h) w.2), frames_so u g [] (BadReply n) h)
 
     -- at a reply that isn't awaited
-    at_reply : (u : Talk) (g : Proceeds t u first last) → IsStuck u kept.waiting → PassedSo keys trusted session old new start (λ p. HasNoTrace start p × HasFrames version kept.frames p) b.state
+    at_reply : (u : Talk) (g : Proceeds t u first last) → IsStuck u kept.waiting → PassedSo keys trusted session old new start (λ p. HasNoTrace start p × HasFrames version kept.frames p) at
     at_reply (Stops None) g d = stopped_so (Stops None) g _ (record { nothing = refl })
     at_reply (Ends sessions) g d = by kept.waiting d refl
       where
         by : (waiting : List (Placed Reply)) → IsStuck (Ends sessions) waiting → kept.waiting ≡ waiting
-            → PassedSo keys trusted session old new start (λ p. HasNoTrace start p × HasFrames version kept.frames p) b.state
+            → PassedSo keys trusted session old new start (λ p. HasNoTrace start p × HasFrames version kept.frames p) at
         by [] d e = absurd d
         by (x ∷ waiting) d e =
             stopped_so (Ends sessions) g _
@@ -269,10 +312,14 @@ module _ (once : RotationsTellOneOutcome) (traceless : UnfinishedLeavesNoTrace) 
       bytes_so_far : AreBytes drawn_so_far
       bytes_so_far = subst AreBytes (sym (append-nil (flat_map drawn_in so_far))) begins.bytes
 
-      state_so_far : b.state ≡ Some (behind start.state (all_asked between asked))
-      state_so_far =
-          let s = served_so (λ (x : Beside). x) serve_beside beside_serves so_far first.wire.state last.wire.state start starts.state (stops_left why t first last h).state in
-          told_state kept.between b.state s.0 s.1 ∙ ap Some (served_leaves so_far start s.0 s.2)
+      abbrev served : (v : Beside) × (option_map (beside kept.between) at ≡ Some v) × AreServed so_far start v
+      served = served_so (λ (x : Beside). x) serve_beside beside_serves so_far first.wire.state last.wire.state start starts.state (stops_left why t first last h).state
+
+      state_so_far : at ≡ Some (behind start.state (all_asked between asked))
+      state_so_far = told_state kept.between at served.0 served.1 ∙ ap Some (served_leaves so_far start served.0 served.2)
+
+      next_so_far : kept.between ≡ drop (length asked) between
+      next_so_far = told_between kept.between at served.0 served.1 ∙ between_left so_far start served.0 served.2
 
       abbrev left_of : List Request
       left_of = requests_in (begins.rest []).exchanges
@@ -280,30 +327,55 @@ module _ (once : RotationsTellOneOutcome) (traceless : UnfinishedLeavesNoTrace) 
       are_so : requests_in whole_way.exchanges ≡ asked ++ left_of
       are_so = ap (λ (x : Passed Beside). requests_in x.exchanges) (begins.is []) ∙ map-append (λ (e : Exchange). e.request) (flat_map exchanges_of so_far) (begins.rest []).exchanges
 
-      abbrev Stands : Type 0
-      Stands = HasNoTraceBehind start asked ⊎ ((n : ℕ) × (b.state ≡ Some whole_way.state.state) × IsMovedWhole keys old new start whole_way n)
+      -- behind some of what others ask then
+      module _ (n : ℕ) (state : Option State) (stands : IsBehindSome n (first_of kept.between) at state) where
+        abbrev further : List Request
+        further = take n (first_of kept.between)
 
-      stands : (left : List Request) → requests_in whole_way.exchanges ≡ asked ++ left → Stands
-      stands (next ∷ left) e = inl (asking keys trusted session old new drawn_so_far history between numbered old_named new_named bytes_so_far others asked next left e)
-      stands [] e = of (traceless keys trusted session old new drawn_so_far history between numbered old_named new_named bytes_so_far others)
-        where
-          all : requests_in whole_way.exchanges ≡ asked
-          all = e ∙ append-nil asked
+        further_others : All (IsOfOther session) further
+        further_others =
+            All-take (IsOfOther session) n (first_of kept.between)
+            (first_others session kept.between (subst (All (All (IsOfOther session))) (sym next_so_far) (All-drop (All (IsOfOther session)) (length asked) between others)))
 
-          state_last : whole_way.state.state ≡ behind start.state (all_asked between asked)
-          state_last = over_leaves keys t 0 drawn_so_far start [] ∙ ap (λ xs. behind start.state (all_asked between xs)) all
+        state_further : state ≡ Some (behind (behind start.state (all_asked between asked)) further)
+        state_further = behind_told n (first_of kept.between) at state _ state_so_far stands
 
-          of : IsFinished whole_way ⊎ HasNoTrace start whole_way → Stands
-          of (inl f) =
-              inr (
-                f.0,
-                state_so_far ∙ ap Some (sym state_last),
-                λ key_for fit. whole keys key_for trusted session old new drawn_so_far history between numbered old_named new_named bytes_so_far before others fit f.0 f.1,
-              )
-          of (inr n) = inl (ap (λ (s : State). s.shared) (sym state_last) ∙ n ∙ ap (λ xs. (behind start.state (others_asked between xs)).shared) all)
+        abbrev Stands : Type 0
+        Stands = HasNoTraceBehind start asked further ⊎ ((n : ℕ) × (state ≡ Some (behind whole_way.state.state further)) × IsMovedWhole keys old new start whole_way n)
 
-      stopped_there : StoppedSo keys trusted session old new start b.state
-      stopped_there = record { drawn = drawn_so_far; asked = asked; left = left_of; state = state_so_far; are = are_so; is = stands left_of are_so }
+        stands_so : (left : List Request) → requests_in whole_way.exchanges ≡ asked ++ left → Stands
+        stands_so (next ∷ left) e = inl (asking keys trusted session old new drawn_so_far history between numbered old_named new_named bytes_so_far others asked next left e further further_others)
+        stands_so [] e = of (traceless keys trusted session old new drawn_so_far history between numbered old_named new_named bytes_so_far others further further_others)
+          where
+            all : requests_in whole_way.exchanges ≡ asked
+            all = e ∙ append-nil asked
+
+            state_last : whole_way.state.state ≡ behind start.state (all_asked between asked)
+            state_last = over_leaves keys t 0 drawn_so_far start [] ∙ ap (λ xs. behind start.state (all_asked between xs)) all
+
+            of : IsFinished whole_way ⊎ ((behind whole_way.state.state further).shared ≡ (behind (behind start.state (others_asked between (requests_in whole_way.exchanges))) further).shared) → Stands
+            of (inl f) =
+                inr (
+                  f.0,
+                  state_further ∙ ap (λ (s : State). Some (behind s further)) (sym state_last),
+                  λ key_for fit. whole keys key_for trusted session old new drawn_so_far history between numbered old_named new_named bytes_so_far before others fit f.0 f.1,
+                )
+            of (inr n) = inl (ap (λ (s : State). (behind s further).shared) (sym state_last) ∙ n ∙ ap (λ xs. (behind (behind start.state (others_asked between xs)) further).shared) all)
+
+        stopped_there : (s : StoppedSo keys trusted session old new start state) × (s.further ≡ further)
+        stopped_there = (
+          record {
+            drawn = drawn_so_far;
+            asked = asked;
+            left = left_of;
+            further = further;
+            others = subst (λ w. IsPrefix further (first_of w)) next_so_far (record { rest = drop n (first_of kept.between); is = sym (take-append-drop n (first_of kept.between)) });
+            state = state_further;
+            are = are_so;
+            is = stands_so left_of are_so;
+          },
+          refl,
+        )
 
   -- by how it ended
   leaves_so : (r : Rotated) → Comes r (rotating trusted session old new Idle) after version between a b → Leaves version keys trusted session old new start r b.state
@@ -311,18 +383,17 @@ module _ (once : RotationsTellOneOutcome) (traceless : UnfinishedLeavesNoTrace) 
       subst (λ w. PassedSo keys trusted session old new start (λ p. moving.Ends keys old new start r p × HasFrames version w p) b.state) h.is
       (of r h.names h.names_after h.kept (h.leads ending))
     where
-      of : (r : Result ℕ Fault) (names names_after : Names) (kept : Kept) → Proceeds t (ending (rotated_as r) after) (first names names_after kept) (last names names_after kept)
+      of : (r : Result ℕ Fault) (names names_after : Names) (kept : Kept) → Proceeds t (ending (rotated_as r) after) (first names names_after kept b.state) (last names names_after kept b.state)
           → PassedSo keys trusted session old new start (λ p. moving.Ends keys old new start r p × HasFrames version kept.frames p) b.state
-      of r names names_after kept g = ended names names_after kept r g
-  leaves_so came.EntropyFault h = let c = h.1 in let g = (c.leads ending).0 in at_draw c.names c.names_after c.kept g.rest g.goes g.place
-  leaves_so came.VaultFault h = let c = h.1 in stopped_there c.names c.names_after c.kept stop.VaultFault (c.leads ending)
-  leaves_so came.OutOfMemory h = let c = h.1 in stopped_there c.names c.names_after c.kept stop.OutOfMemory (c.leads ending)
+      of r names names_after kept g = ended names names_after kept b.state r g
+  leaves_so came.EntropyFault h = let c = h.1 in let g = (c.leads ending).0 in at_draw c.names c.names_after c.kept b.state g.rest g.goes g.place
+  leaves_so came.VaultFault h =
+      let c = h.1 in stopped_there c.names c.names_after c.kept b.state stop.VaultFault (c.leads ending) 0 b.state (none_asked (first_of c.kept.between) b.state)
+  leaves_so came.OutOfMemory h = let c = h.came in (stopped_there c.names c.names_after c.kept h.told stop.OutOfMemory (c.leads ending) h.others b.state h.state).0
   leaves_so (came.BadReply place frames) h =
       let g = h.leads ending in
-      subst (λ w. PassedSo keys trusted session old new start (λ p. HasNoTrace start p × HasFrames version w p) b.state) h.is (at_reply h.names h.names_after h.kept g.rest g.goes g.place.0)
+      subst (λ w. PassedSo keys trusted session old new start (λ p. HasNoTrace start p × HasFrames version w p) b.state) h.is (at_reply h.names h.names_after h.kept b.state g.rest g.goes g.place.0)
 
-  pub leaves_if : {E : Type 0} (result : Result Rotated E) (first_session : Session) → first_session ≡ Idle
-      → IfOk result (λ r. Comes r (rotating trusted session old new first_session) after version between a b)
-      → IfOk result (λ r. Leaves version keys trusted session old new start r b.state)
-  leaves_if (Ok r) first_session e h = leaves_so r (subst (λ w. Comes r (rotating trusted session old new w) after version between a b) e h)
-  leaves_if (Err why) first_session e h = tt
+  pub leaves_if : (result : Rotated) (first_session : Session) → first_session ≡ Idle
+      → Comes result (rotating trusted session old new first_session) after version between a b → Leaves version keys trusted session old new start result b.state
+  leaves_if result first_session e h = leaves_so result (subst (λ w. Comes result (rotating trusted session old new w) after version between a b) e h)

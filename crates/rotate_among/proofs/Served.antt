@@ -1,5 +1,5 @@
 -- The state that requests lead to, each asked behind those of others.
-use Rattle.std.proofs.Common.{◌≡◌, ℕ, List, [], ◌∷◌, ◌++◌, Bool, true, false, refl, sym, ◌∙◌, ap, length, take, drop, nat_lt}
+use Rattle.std.proofs.Common.{◌≡◌, ℕ, zero, suc, List, [], ◌∷◌, ◌++◌, Bool, true, false, refl, sym, ◌∙◌, ap, length, take, drop, nat_lt}
 use Rattle.std.specs.Prelude.{flat_map}
 use Rattle.ae_edge.specs.Vaults.{KeyMap}
 use Rattle.wire_messages.specs.Exchanges.{Served}
@@ -11,7 +11,7 @@ use Rattle.conversation.specs.Paths.{Event, Asked, Took, Strayed, Drew, Opened, 
 use Rattle.conversation.specs.Talk.{Talk, Ends, Stops, Asks, Hears, Notes, Draws, Opens, Prints, Heard, broken, nothing_broken}
 use Rattle.run_effects.specs.Shares.{AreServed, exchanges_of}
 use Rattle.server_core.specs.Beside.{Beside, first_of, rest_of, serve_beside}
-use Rattle.server_core.specs.Serve.{State, serve, serve_all}
+use Rattle.server_core.specs.Serve.{State, serve}
 use Rattle.served_rotation_laws.specs.Beside.{all_asked}
 use Rattle.served_rotation_laws.specs.Laws.{behind}
 
@@ -36,6 +36,23 @@ served_leaves (Strayed next ∷ events) b v h = served_leaves events b v h
 served_leaves (Drew bytes ∷ events) b v h = served_leaves events b v h
 served_leaves (Opened meta key ∷ events) b v h = served_leaves events b v h
 served_leaves (Printed comes ∷ events) b v h = served_leaves events b v h
+
+-- what others ask before the requests that are to come then
+drop_rest : (n : ℕ) (xs : List (List Request)) → drop n (rest_of xs) ≡ drop (suc n) xs
+drop_rest zero [] = refl
+drop_rest (suc n) [] = refl
+drop_rest n (x ∷ xs) = refl
+
+pub between_left : (events : List Event) (b v : Beside) → AreServed events b v → v.between ≡ drop (length (requests_in (flat_map exchanges_of events))) b.between
+between_left [] b v e = ap (λ (x : Beside). x.between) e
+between_left (Asked request replies ∷ events) b v h =
+    let n = length (requests_in (flat_map exchanges_of events)) in
+    between_left events h.0 v h.2 ∙ ap (λ (s : Served Beside). drop n s.after.between) (sym h.1) ∙ drop_rest n b.between
+between_left (Took reply ∷ events) b v h = between_left events b v h
+between_left (Strayed next ∷ events) b v h = between_left events b v h
+between_left (Drew bytes ∷ events) b v h = between_left events b v h
+between_left (Opened meta key ∷ events) b v h = between_left events b v h
+between_left (Printed comes ∷ events) b v h = between_left events b v h
 
 -- those that pass
 abbrev Leads : Beside → Passed Beside → Type 0

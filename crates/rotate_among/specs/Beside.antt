@@ -1,23 +1,27 @@
 -- What is told of a server that others ask too.
-use Rattle.std.specs.Prelude.{List, Option, Some, None, Bool, true, false, drop, option_map}
+use Rattle.std.specs.Prelude.{◌≡◌, ℕ, List, Option, option_map, take}
+use Rattle.std.specs.Borrow.{GName}
+use Rattle.ae_edge.specs.Devices.{WhereExposed}
 use Rattle.wire_messages.specs.declared.requests.Request.{Request}
-use Rattle.server_core.specs.Beside.{Beside, first_of, rest_of}
-use Rattle.server_core.specs.Serve.{State, serve, serve_all}
-use Rattle.rotate_among.specs.declared.among_connection.Unasked.{Unasked}
+use Rattle.server_core.specs.Beside.{Beside}
+use Rattle.server_core.specs.Serve.{State}
+use Rattle.served_rotation_laws.specs.Laws.{behind}
 
 abbrev pub beside : List (List Request) → State → Beside
 beside between s = record { state = s; between = between }
 
--- as if it had been asked, behind those of the others, of which so many were
-abbrev pub beside_unasked : List (List Request) → Unasked → State → Beside
-beside_unasked between u s = beside (rest_of between) (serve (serve_all s (drop u.others (first_of between))).1 u.request).after
+-- where it is told, a state is that behind so many of some requests
+abbrev pub IsBehindSome : ℕ → List Request → Option State → Option State → Type 0
+IsBehindSome n requests = WhereExposed (λ old new. new ≡ behind old (take n requests))
 
--- the request for which there was no memory, if that came
-abbrev pub lacking : Bool → Option Unasked → Option Unasked
-lacking true unasked = unasked
-lacking false unasked = None
+-- a peer: what it is lent, the state that is told behind the session's last request, the one by which it serves now, what others ask before each request
+-- that is to come, and how many of those before the next one they asked
+pub record Standing : Type 0 where
+  pub names : List GName
+  pub told : Option State
+  pub state : Option State
+  pub between : List (List Request)
+  pub others : ℕ
 
--- where there was no memory for a request, nothing more is asked
-abbrev pub told_beside : List (List Request) → Option Unasked → Option State → Option Beside
-told_beside between None state = option_map (beside between) state
-told_beside between (Some u) state = option_map (beside_unasked between u) state
+abbrev pub told_beside : Standing → Option Beside
+told_beside s = option_map (beside s.between) s.told

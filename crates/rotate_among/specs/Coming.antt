@@ -1,11 +1,12 @@
 -- What a rotation comes to, over any peer.
-use Rattle.std.specs.Prelude.{◌≡◌, ℕ, List, [], Option, Some, None, Result, Ok, Err, false}
+use Rattle.std.specs.Prelude.{◌≡◌, ℕ, List, [], Option, Some, None, option_map, Result, Ok, Err, false}
 use Rattle.std.specs.Borrow.{GName}
 use Rattle.ae_base.specs.declared.frames.FrameVersion.{FrameVersion}
 use Rattle.ae_edge.specs.Vaults.{KeyMap}
 use Rattle.wire_frames.specs.Frames.{Placed}
 use Rattle.wire_messages.specs.declared.replies.Reply.{Reply}
 use Rattle.wire_messages.specs.declared.requests.Request.{Request}
+use Rattle.server_core.specs.Beside.{first_of}
 use Rattle.server_core.specs.Serve.{State}
 use Rattle.conversation.specs.declared.sessions.Session.{Session}
 use Rattle.conversation.specs.Talk.{Talk}
@@ -18,7 +19,7 @@ use Rattle.run_effects.specs.Ways.{Advances}
 use Rattle.run_effects.specs.declared.stops.Stop.{Stop}
 use Rattle.run_effects.specs.declared.stops.Stop.TheVariants as stop
 use Rattle.script_run.specs.Rotations.{rotated_as}
-use Rattle.rotate_among.specs.Beside.{told_beside}
+use Rattle.rotate_among.specs.Beside.{IsBehindSome, beside}
 use Rattle.rotate_among.specs.declared.rotating.Rotated.{Rotated}
 use Rattle.rotate_among.specs.declared.rotating.Rotated.TheVariants as came
 
@@ -70,7 +71,7 @@ outside version names k l = record {
     names = names.wire;
     tap = Some k.frames;
     log = None;
-    state = told_beside k.between None l.state;
+    state = option_map (beside k.between) l.state;
     version = version;
     waiting = k.waiting;
     behind = k.behind;
@@ -93,22 +94,29 @@ pub record CameTo (ended : Result (Result ℕ Fault) Stop) (t : Ends → Talk) (
 abbrev pub Stopped : Stop → (Ends → Talk) → Session → FrameVersion → List (List Request) → Lent → Lent → Type 0
 Stopped why t after version between old new = (frames : List ℕ) × CameTo (Err why) t after version between frames old new
 
+-- There was no memory: so far it came to the state that is told, and behind that the peer served some of what others ask before the next request.
+pub record LackedMemory (t : Ends → Talk) (after : Session) (version : FrameVersion) (between : List (List Request)) (old new : Lent) : Type 0 where
+  pub told : Option State
+  pub frames : List ℕ
+  pub came : CameTo (Err stop.OutOfMemory) t after version between frames old (record new { state = told })
+  pub others : ℕ
+  pub state : IsBehindSome others (first_of came.kept.between) told new.state
+
 -- by how it ended
 abbrev pub Comes : Rotated → (Ends → Talk) → Session → FrameVersion → List (List Request) → Lent → Lent → Type 0
 Comes (came.Ended rotated frames) t after version between old new = CameTo (Ok rotated) t after version between frames old new
 Comes came.EntropyFault t after version between old new = Stopped stop.EntropyFault t after version between old new
 Comes came.VaultFault t after version between old new = Stopped stop.VaultFault t after version between old new
 Comes (came.BadReply place frames) t after version between old new = CameTo (Err (stop.BadReply place)) t after version between frames old new
-Comes came.OutOfMemory t after version between old new = Stopped stop.OutOfMemory t after version between old new
+Comes came.OutOfMemory t after version between old new = LackedMemory t after version between old new
 
--- it is answered so
-abbrev pub IsBy : {E : Type 0} → Result Rotated E → Result (Result ℕ Fault) Stop → List ℕ → Type 0
-IsBy (Ok (came.Ended rotated w)) ended frames = (ended ≡ Ok rotated) × (w ≡ frames)
-IsBy (Ok came.EntropyFault) ended frames = ended ≡ Err stop.EntropyFault
-IsBy (Ok came.VaultFault) ended frames = ended ≡ Err stop.VaultFault
-IsBy (Ok (came.BadReply place w)) ended frames = (ended ≡ Err (stop.BadReply place)) × (w ≡ frames)
-IsBy (Ok came.OutOfMemory) ended frames = ended ≡ Err stop.OutOfMemory
-IsBy (Err why) ended frames = Unit {0}
+-- it is answered so; where others were asked before a request for which there was no memory, no other answer comes
+abbrev pub IsBy : Rotated → Result (Result ℕ Fault) Stop → List ℕ → ℕ → Type 0
+IsBy (came.Ended rotated w) ended frames others = (ended ≡ Ok rotated) × (w ≡ frames) × (others ≡ 0)
+IsBy came.EntropyFault ended frames others = (ended ≡ Err stop.EntropyFault) × (others ≡ 0)
+IsBy came.VaultFault ended frames others = (ended ≡ Err stop.VaultFault) × (others ≡ 0)
+IsBy (came.BadReply place w) ended frames others = (ended ≡ Err (stop.BadReply place)) × (w ≡ frames) × (others ≡ 0)
+IsBy came.OutOfMemory ended frames others = Unit {0}
 
 -- it ended, and so this holds
 abbrev pub IfEnded : Type 0 → Rotated → Type 0

@@ -1,13 +1,14 @@
 -- What a rotation leaves of a server that others ask too.
-use Rattle.std.specs.Prelude.{◌≡◌, ◌≢◌, ◌⊎◌, ℕ, List, ◌++◌, flat_map, Option, Some, Result, Ok, Err}
+use Rattle.std.specs.Prelude.{◌≡◌, ◌≢◌, ◌⊎◌, ℕ, List, [], ◌++◌, drop, length, flat_map, Option, Some, Result, Ok, Err}
 use Rattle.std.specs.List.{All}
 use Rattle.ae_base.specs.declared.frames.FrameVersion.{FrameVersion}
+use Rattle.ae_edge.specs.Devices.{IsPrefix}
 use Rattle.ae_edge.specs.Vaults.{KeyMap}
 use Rattle.wire_messages.specs.declared.requests.Request.{Request}
 use Rattle.conversation.specs.Drive.{Passed, requests_in}
 use Rattle.driver.specs.declared.outcomes.Fault.{Fault}
 use Rattle.run_command.specs.Transcript.{exchange_frames}
-use Rattle.server_core.specs.Beside.{Beside}
+use Rattle.server_core.specs.Beside.{Beside, first_of}
 use Rattle.server_core.specs.Serve.{State}
 use Rattle.served_rotation_laws.specs.Beside.{all_asked, others_asked, rotated_beside, session_of}
 use Rattle.served_rotation_laws.specs.Laws.{FitMeanwhile, IsWhole, behind}
@@ -39,19 +40,23 @@ pub record PassedSo (keys : KeyMap) (trusted : List (List ℕ)) (session : ℕ) 
   pub state : after ≡ Some (rotated_beside keys trusted session old new drawn start).state.state
   pub is : P (rotated_beside keys trusted session old new drawn start)
 
--- the same behind some of its requests
-abbrev pub HasNoTraceBehind : Beside → List Request → Type 0
-HasNoTraceBehind start asked = (behind start.state (all_asked start.between asked)).shared ≡ (behind start.state (others_asked start.between asked)).shared
+-- the same behind some of its requests, and some that others ask then
+abbrev pub HasNoTraceBehind : Beside → List Request → List Request → Type 0
+HasNoTraceBehind start asked further =
+    (behind (behind start.state (all_asked start.between asked)) further).shared ≡ (behind (behind start.state (others_asked start.between asked)) further).shared
 
--- it stopped on its way, with some of its requests left: it has no trace so far, or all passed and the table was moved whole
+-- It stopped on its way, with some of its requests left, behind some of what others ask before the next one: it has no trace so far, or all passed and
+-- the table was moved whole.
 pub record StoppedSo (keys : KeyMap) (trusted : List (List ℕ)) (session : ℕ) (old new : List ℕ) (start : Beside) (after : Option State) : Type 0 where
   pub drawn : List ℕ
   pub asked : List Request
   pub left : List Request
-  pub state : after ≡ Some (behind start.state (all_asked start.between asked))
+  pub further : List Request
+  pub others : IsPrefix further (first_of (drop (length asked) start.between))
+  pub state : after ≡ Some (behind (behind start.state (all_asked start.between asked)) further)
   pub are : requests_in (rotated_beside keys trusted session old new drawn start).exchanges ≡ asked ++ left
   pub is : let p = rotated_beside keys trusted session old new drawn start in
-      HasNoTraceBehind start asked ⊎ ((n : ℕ) × (after ≡ Some p.state.state) × IsMovedWhole keys old new start p n)
+      HasNoTraceBehind start asked further ⊎ ((n : ℕ) × (after ≡ Some (behind p.state.state further)) × IsMovedWhole keys old new start p n)
 
 abbrev pub HasFrames : FrameVersion → List ℕ → Passed Beside → Type 0
 HasFrames version frames p = frames ≡ flat_map (exchange_frames version) p.exchanges
@@ -63,5 +68,5 @@ Leaves version keys trusted session old new start (came.Ended rotated frames) af
 Leaves version keys trusted session old new start came.EntropyFault after = PassedSo keys trusted session old new start (HasNoTrace start) after
 Leaves version keys trusted session old new start (came.BadReply place frames) after =
     PassedSo keys trusted session old new start (λ p. HasNoTrace start p × HasFrames version frames p) after
-Leaves version keys trusted session old new start came.VaultFault after = StoppedSo keys trusted session old new start after
+Leaves version keys trusted session old new start came.VaultFault after = (s : StoppedSo keys trusted session old new start after) × (s.further ≡ [])
 Leaves version keys trusted session old new start came.OutOfMemory after = StoppedSo keys trusted session old new start after

@@ -1,12 +1,13 @@
 //! A peer that other sessions ask too.
 
-ghost use Rattle.std.specs.Prelude.{◌≡◌, ◌∷◌, [], None, false, MatchResult, drop, take};
+ghost use Rattle.std.specs.Prelude.{◌≡◌, ◌≤◌, ◌∷◌, [], Option, None, false, IfOk, MatchResult, drop, length};
 ghost use Rattle.ae_edge.specs.Devices.{WhereExposed};
-ghost use Rattle.run_effects.specs.Shares.{Wire};
+ghost use Rattle.conversation.specs.Paths.{Asked};
+ghost use Rattle.run_effects.specs.Shares.{AreServed, Wire};
 ghost use Rattle.run_command.specs.Queues.{all_placed};
 ghost use Rattle.server_core.specs.Beside.{first_of, rest_of};
-ghost use Rattle.server_core.specs.Serve.{serve, serve_all};
-ghost use Rattle.rotate_among.specs.Beside.{lacking, told_beside};
+ghost use Rattle.server_core.specs.Serve.{State};
+ghost use Rattle.rotate_among.specs.Beside.{IsBehindSome, told_beside};
 
 use ae_base::frames::FrameVersion;
 use ae_base::lists::Seq;
@@ -16,42 +17,119 @@ use run_command::peer_connection::{Places, Waiting, join, put_exchange};
 use script_run::connection::{Connection, EndFault, Front, LentReply, ReplyFault, Sent};
 use server_core::peers::Peer;
 use std::alloc::{AllocError, Global};
+use std::marker::Model;
+use std::snapshot::Snapshot;
 use wire_messages::replies::Reply;
 use wire_messages::requests::Request;
 
-/// A request for which there was no memory: it wasn't asked, and of those that others ask before it
-/// so many were.
+/// A peer that others ask too, as it stands behind this session's last request and some of those
+/// that others ask before the next one.
 #[derive(Drop)]
-pub struct Unasked {
-    pub request: Request<'static>,
+pub struct Stand<'d, P: Peer> {
+    pub peer: P,
+    /// The peer behind this session's last request.
+    pub asked: Snapshot<P>,
+    /// What others ask before each request.
+    pub between: &'d [Seq<Request<'static>>],
+    /// The place of what they ask before the next one.
+    pub at: usize,
+    /// How many of these were asked.
     pub others: usize,
 }
 
-/// The request for which there was no memory, if that came.
-pub struct Lack {
-    pub unasked: Option<Unasked>,
+/// A peer that was asked so many of what others ask before the next request.
+#[derive(Drop)]
+pub struct AskedPeer<P: Peer> {
+    pub peer: P,
+    pub others: usize,
 }
 
-impl Drop for Lack {
-    fn drop(self) {
-        let Lack { unasked: _ } = self;
+impl<'d, P: Peer> Model for Stand<'d, P> {
+    ghost use Rattle.std.specs.Prelude.{drop};
+    ghost use Rattle.server_core.specs.Beside.{first_of};
+    ghost use Rattle.rotate_among.specs.Beside.{IsBehindSome, Standing};
+
+    ghost Value = { Standing };
+
+    ghost view = { λ s. record {
+      names = P.names s.peer;
+      told = P.state s.asked.value;
+      state = P.state s.peer;
+      between = drop s.at s.between.now;
+      others = s.others;
+    } };
+
+    ghost invariant = { λ s. IsBehindSome s.others (first_of (drop s.at s.between.now))
+        (P.state s.asked.value) (P.state s.peer) };
+}
+
+impl<'d, P: Peer> Stand<'d, P> {
+    /// None of them was asked. It takes no memory.
+    pub fn new(peer: P, between: &'d [Seq<Request<'static>>]) -> Stand<'d, P>
+        ensures { result ≡ record {
+          names = P.names peer;
+          told = P.state peer;
+          state = P.state peer;
+          between = between.now;
+          others = 0;
+        } }
+    {
+        Stand {
+            asked: Snapshot::of(&peer),
+            peer,
+            between,
+            at: 0,
+            others: 0,
+        }
+    }
+
+    /// The peer, which was asked so many of what others ask before the next request.
+    pub fn into_peer(self) -> AskedPeer<P>
+        ensures names { P.names result.peer ≡ self.entry.names }
+        ensures state { P.state result.peer ≡ self.entry.state }
+        ensures stands { IsBehindSome result.others (first_of self.entry.between) self.entry.told
+            self.entry.state }
+    {
+        let Stand {
+            peer,
+            asked: _,
+            between: _,
+            at: _,
+            others,
+        } = self;
+        AskedPeer { peer, others }
+    }
+
+    /// Asks a request behind the rest of the others: the replies to it. Without memory, it wasn't
+    /// asked.
+    fn ask(
+        &mut self,
+        alloc: Global,
+        request: &Request<'_>,
+    ) -> Result<Seq<Reply<'static>>, AllocError>
+        ensures same { self.new.names ≡ self.old.names }
+        ensures asked { MatchResult result
+            (λ replies. WhereExposed (AreServed (Asked request.now replies ∷ []))
+            (told_beside self.old) (told_beside self.new))
+            (λ _. told_beside self.new ≡ told_beside self.old) }
+    {
+        let others = others_at(self.between, self.at);
+        ask_rest(alloc, &mut self.peer, others, &mut self.others)?;
+        let replies = self.peer.ask(alloc, request)?;
+        self.asked = Snapshot::of(&self.peer);
+        self.at = next_at(self.between, self.at);
+        self.others = 0;
+        Ok(replies)
     }
 }
 
 /// A peer behind a tap, of which others ask some requests before each of this session's; nobody
 /// here hears the replies to theirs.
 #[derive(Drop)]
-pub struct AmongConnection<'a, 'b, 'c, 'd, T: Sink, P: Peer> {
+pub struct AmongConnection<'a, 'd, T: Sink, P: Peer> {
     pub tap: T,
-    pub peer: P,
+    pub stand: Stand<'d, P>,
     pub waiting: &'a mut Waiting,
-    /// Whether there was no memory for a request. Nothing is asked behind it.
-    pub lacks: &'b mut bool,
-    pub lack: &'c mut Lack,
-    /// What others ask before each request.
-    pub between: &'d [Seq<Request<'static>>],
-    /// The place of what they ask before the next one.
-    pub at: usize,
     pub version: FrameVersion,
     /// How many replies were taken.
     pub taken: u64,
@@ -76,59 +154,33 @@ fn next_at(between: &[Seq<Request<'static>>], at: usize) -> usize
     if at < between.len() { at + 1 } else { at }
 }
 
-/// Asks requests, and lets their replies go; without memory for one, how many were asked.
-fn ask_all<P: Peer>(alloc: Global, peer: &mut P, requests: &[Request<'static>]) -> Result<(), usize>
+/// Asks the rest of some requests, of which so many were asked, and lets their replies go. Without
+/// memory for one, none behind it is asked.
+fn ask_rest<P: Peer>(
+    alloc: Global,
+    peer: &mut P,
+    requests: &[Request<'static>],
+    asked: &mut usize,
+) -> Result<(), AllocError>
     ensures same { P.names peer.new ≡ P.names peer.old }
-    ensures state { MatchResult result
-        (λ _. WhereExposed (λ old new. new ≡ (serve_all old requests.now).1)
-        (P.state peer.old) (P.state peer.new))
-        (λ asked. WhereExposed (λ old new. new ≡ (serve_all old (take asked requests.now)).1)
-        (P.state peer.old) (P.state peer.new)) }
+    ensures state { (told : Option State)
+        → IsBehindSome asked.old requests.now told (P.state peer.old)
+        → IsBehindSome asked.new requests.now told (P.state peer.new) }
+    ensures whole { IfOk result (λ _. length requests.now ≤ asked.new) }
 {
-    let mut asked = 0;
-    for request in requests {
-        match peer.ask(alloc, request) {
-            Ok(_) => asked += 1,
-            Err(_) => return Err(asked),
-        }
+    'rest: while let Some(request) = requests.get(*asked) {
+        let _ = peer.ask(alloc, request)?;
+        *asked += 1;
     }
     Ok(())
 }
 
-/// Asks a request behind those of others: the replies to it; without memory, how many of the others
-/// were asked.
-fn ask_behind<P: Peer>(
-    alloc: Global,
-    peer: &mut P,
-    others: &[Request<'static>],
-    request: &Request<'_>,
-) -> Result<Seq<Reply<'static>>, usize>
-    ensures same { P.names peer.new ≡ P.names peer.old }
-    ensures state { MatchResult result
-        (λ replies. WhereExposed (λ old new. serve (serve_all old others.now).1 request.now ≡ record {
-          replies = replies;
-          after = new;
-        }) (P.state peer.old) (P.state peer.new))
-        (λ asked. WhereExposed (λ old new. new ≡ (serve_all old (take asked others.now)).1)
-        (P.state peer.old) (P.state peer.new)) }
-{
-    match ask_all(alloc, peer, others) {
-        Ok(()) => {}
-        Err(asked) => return Err(asked),
-    }
-    match peer.ask(alloc, request) {
-        Ok(replies) => Ok(replies),
-        Err(_) => Err(others.len()),
-    }
-}
-
-impl<T: Sink, P: Peer> Connection for AmongConnection<'_, '_, '_, '_, T, P> {
+impl<T: Sink, P: Peer> Connection for AmongConnection<'_, '_, T, P> {
     ghost wire = { λ l. record {
-      names = T.names l.tap ∷ P.names l.peer ∷ (l.lacks.ghost_name ∷ []) ∷ [];
+      names = T.names l.tap ∷ l.stand.names ∷ [];
       tap = T.held l.tap;
       log = None;
-      state = told_beside (drop l.at l.between.now)
-          (lacking l.lacks.now l.lack.now.unasked) (P.state l.peer);
+      state = told_beside l.stand;
       version = l.version;
       waiting = all_placed l.waiting.now.replies.items;
       behind = l.behind;
@@ -141,25 +193,9 @@ impl<T: Sink, P: Peer> Connection for AmongConnection<'_, '_, '_, '_, T, P> {
     ghost is_ended = { λ l. Unit {0} };
 
     fn ask(&mut self, alloc: Global, request: &Request<'_>) -> Sent {
-        if *self.lacks {
-            return Sent::OutOfMemory;
-        }
-        let Ok(own) = request.to_own(alloc) else {
+        let Ok(replies) = self.stand.ask(alloc, request) else {
             return Sent::OutOfMemory;
         };
-        let others = others_at(self.between, self.at);
-        let replies = match ask_behind(alloc, &mut self.peer, others, request) {
-            Ok(replies) => replies,
-            Err(asked) => {
-                *self.lacks = true;
-                self.lack.unasked = Some(Unasked {
-                    request: own,
-                    others: asked,
-                });
-                return Sent::OutOfMemory;
-            }
-        };
-        self.at = next_at(self.between, self.at);
         let mut places = Places {
             noted: Vec::new(alloc),
             behind: self.behind,

@@ -1,6 +1,6 @@
 //! The rotation of a table, among other sessions.
 
-ghost use Rattle.std.specs.Prelude.{◌≡◌, List, IfOk, Some, false};
+ghost use Rattle.std.specs.Prelude.{◌≡◌, List, Some};
 ghost use Rattle.std.specs.List.{All};
 ghost use Rattle.ae_edge.specs.Vaults.{KeyMap};
 ghost use Rattle.wire_messages.specs.Conditions.{IsRequest};
@@ -15,7 +15,7 @@ ghost use Rattle.rotate_among.specs.Beside.{beside};
 ghost use Rattle.rotate_among.specs.Coming.{Comes, IfEnded, IsBy};
 ghost use Rattle.rotate_among.specs.Moving.{AreOthers, Leaves};
 
-use crate::among_connection::{AmongConnection, Lack};
+use crate::among_connection::{AmongConnection, AskedPeer, Stand};
 use crate::frames::Frames;
 use ae_base::frames::FrameVersion;
 use ae_base::lists::Seq;
@@ -34,7 +34,7 @@ use served_rotation_laws::laws::{
     unfinished_rotations_leave_no_trace,
 };
 use server_core::peers::Peer;
-use std::alloc::{AllocError, Global};
+use std::alloc::Global;
 use wire_messages::requests::Request;
 
 /// How a rotation ended.
@@ -50,32 +50,34 @@ pub enum Rotated {
     /// The reply at this place among the bytes of the replies to the rotation isn't awaited; and
     /// its requests in order, each followed by the replies to it.
     BadReply(u64, Frames),
-    /// There was no memory, but there was for each request that was asked.
+    /// There was no memory. Some of what others ask before the next request may have been asked.
     OutOfMemory,
 }
 
-/// How a rotation ended, by what it came to or why it stopped, unless a request that was asked
-/// lacked memory. It doesn't stop for a stream of replies or for a text, since it has none.
-fn rotated_by(
-    ended: Result<Result<u64, Fault>, Stop>,
-    frames: Frames,
-    lacks: bool,
-) -> Result<Rotated, AllocError>
-    ensures by { IsBy result ended frames }
-    ensures whole { IfOk result (λ _. lacks ≡ false) }
+/// How a rotation ended, by what it came to or why it stopped, where so many of the others'
+/// requests were asked before one for which there was no memory. It doesn't stop for a stream of
+/// replies or for a text, since it has none.
+fn rotated_by(ended: Result<Result<u64, Fault>, Stop>, frames: Frames, others: usize) -> Rotated
+    ensures { IsBy result ended frames others }
 {
-    if lacks {
-        return Err(AllocError);
+    if others > 0 {
+        return Rotated::OutOfMemory;
     }
     match ended {
-        Ok(rotated) => Ok(Rotated::Ended(rotated, frames)),
-        Err(Stop::EntropyFault) => Ok(Rotated::EntropyFault),
-        Err(Stop::VaultFault) => Ok(Rotated::VaultFault),
-        Err(Stop::BadReply(place)) => Ok(Rotated::BadReply(place, frames)),
-        Err(Stop::OutOfMemory) => Ok(Rotated::OutOfMemory),
-        Err(Stop::ReadFault | Stop::TooLong | Stop::WriteFault) => Err(AllocError),
+        Ok(rotated) => Rotated::Ended(rotated, frames),
+        Err(Stop::EntropyFault) => Rotated::EntropyFault,
+        Err(Stop::VaultFault) => Rotated::VaultFault,
+        Err(Stop::BadReply(place)) => Rotated::BadReply(place, frames),
+        Err(Stop::OutOfMemory | Stop::ReadFault | Stop::TooLong | Stop::WriteFault) => {
+            Rotated::OutOfMemory
+        }
     }
 }
+
+/// Gives back what was lent, as it is: so a proof knows what its lender has then.
+fn give_back<T>(lent: &mut T)
+    ensures { lent.new ≡ lent.old }
+{}
 
 /// Moves the rows of a table to another, which takes its place, while others ask the same peer.
 fn rotate<P: Peer, V: Vault, E: Entropy>(
@@ -89,11 +91,11 @@ fn rotate<P: Peer, V: Vault, E: Entropy>(
     old: &Name,
     new: &Name,
     between: &[Seq<Request<'static>>],
-) -> Result<Rotated, AllocError>
+) -> Rotated
     requires { IsOfVault (V.keys vault.old) driver.old }
-    ensures leaves { IfOk result
-        (IfEnded (onward.Leaves session driver.old driver.new (V.keys vault.new))) }
-    ensures comes { IfOk result (λ rotated. Comes rotated
+    ensures leaves { IfEnded (onward.Leaves session driver.old driver.new (V.keys vault.new))
+        result }
+    ensures comes { Comes result
         (rotating_as.rotating driver.old.trusted session old.now new.now
         (session_of driver.old session))
         (session_of driver.new session) version between.now
@@ -110,13 +112,12 @@ fn rotate<P: Peer, V: Vault, E: Entropy>(
           state = P.state peer.new;
           entropy_faults = E.faults entropy.new;
           vault_faults = V.faults vault.new;
-        })) }
+        }) }
 {
     let mut frames = Frames::new(alloc);
     let mut text = Frames::new(alloc);
     let mut waiting = Waiting::new(alloc);
-    let mut lacks = false;
-    let mut lack = Lack { unasked: None };
+    let stand = Stand::new(peer, between);
     let mut env = Env {
         out: &mut text,
         entropy,
@@ -124,27 +125,34 @@ fn rotate<P: Peer, V: Vault, E: Entropy>(
         tally: Tally::nothing(),
         connection: AmongConnection {
             tap: &mut frames,
-            peer,
+            stand,
             waiting: &mut waiting,
-            lacks: &mut lacks,
-            lack: &mut lack,
-            between,
-            at: 0,
             version,
             taken: 0,
             behind: 0,
         },
     };
     let ended = rotate_lent(alloc, &mut env, driver, session, old, new);
-    rotated_by(ended, frames, lacks)
+    let Env {
+        entropy,
+        vault,
+        connection,
+        ..
+    } = env;
+    let AmongConnection { tap, stand, .. } = connection;
+    let AskedPeer { peer, others } = stand.into_peer();
+    give_back(tap);
+    give_back(entropy);
+    give_back(vault);
+    give_back(peer);
+    rotated_by(ended, frames, others)
 }
 
 /// Moves the rows of the table `old` to the table `new`, which takes its place and its name, in a
 /// session of this driver, while others ask the same peer: `between` holds what they ask before
 /// each request of the rotation, none where it is shorter. Nobody here hears the replies to theirs,
 /// and none of them is of this session. The driver keeps keys of this vault alone. The frames are
-/// in this version. Want of memory for a request that is asked is the only other answer. Unless it
-/// ended, the session may still have its transaction.
+/// in this version. Unless it ended, the session may still have its transaction.
 pub fn rotate_among<P: Peer, V: Vault, E: Entropy>(
     alloc: Global,
     peer: &mut P,
@@ -156,12 +164,12 @@ pub fn rotate_among<P: Peer, V: Vault, E: Entropy>(
     old: &Name,
     new: &Name,
     between: &[Seq<Request<'static>>],
-) -> Result<Rotated, AllocError>
+) -> Rotated
     requires of_vault { IsOfVault (V.keys vault.old) driver.old }
     requires others { AreOthers session between.now }
-    ensures leaves { IfOk result
-        (IfEnded (onward.Leaves session driver.old driver.new (V.keys vault.new))) }
-    ensures comes { IfOk result (λ rotated. Comes rotated
+    ensures leaves { IfEnded (onward.Leaves session driver.old driver.new (V.keys vault.new))
+        result }
+    ensures comes { Comes result
         (rotating_as.rotating driver.old.trusted session old.now new.now
         (session_of driver.old session))
         (session_of driver.new session) version between.now
@@ -178,13 +186,13 @@ pub fn rotate_among<P: Peer, V: Vault, E: Entropy>(
           state = P.state peer.new;
           entropy_faults = E.faults entropy.new;
           vault_faults = V.faults vault.new;
-        })) }
+        }) }
     ensures rotated { (keys : KeyMap) (history : List Request) → V.keys vault.old ≡ Some keys
         → P.state peer.old ≡ Some (behind empty_state history)
         → session_of driver.old session ≡ Idle → All IsRequest history
-        → All (All IsRequest) between.now → IfOk result (λ rotated.
-        Leaves version keys driver.old.trusted session old.now new.now
-        (beside between.now (behind empty_state history)) rotated (P.state peer.new)) }
+        → All (All IsRequest) between.now
+        → Leaves version keys driver.old.trusted session old.now new.now
+        (beside between.now (behind empty_state history)) result (P.state peer.new) }
 {
     rotations_tell_one_outcome();
     unfinished_rotations_leave_no_trace();

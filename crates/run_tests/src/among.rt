@@ -131,7 +131,7 @@ fn rotated(
     let random = Vec::from_slice(alloc, &[DRAWN; 64])?;
     let mut entropy = MemEntropy::new(random, Vec::new(alloc));
     let (old, new) = (name(alloc, "u")?, name(alloc, "u2")?);
-    rotate_among(
+    Ok(rotate_among(
         alloc,
         peer,
         driver,
@@ -142,7 +142,7 @@ fn rotated(
         &old,
         &new,
         between,
-    )
+    ))
 }
 
 /// What a rotation came to, among one request of another session, and what is there then.

@@ -124,13 +124,15 @@ module _ (stay : ProperTablesStay) (keys : KeyMap) (trusted : List (List ℕ)) (
     pub before : (asked : List Request) (next : Request) (left : List Request) → requests_in p.exchanges ≡ asked ++ next ∷ left
         → AlikeBut number (serve_all w.beside.state (all_asked w.beside.between asked)).1 (others_behind w.alone w.beside.between asked)
 
-  pub shared_of : (w : Walk) (p : Passed Beside) → IsFine w p → IsFinished p ⊎ (p.state.state.shared ≡ (others_behind w.alone w.beside.between (requests_in p.exchanges)).shared)
-  shared_of w p h = of h.fine
+  -- whatever others request then
+  pub shared_of : (w : Walk) (p : Passed Beside) → IsFine w p → (more : List Request) → All (IsOther number) more
+      → IsFinished p ⊎ ((serve_all p.state.state more).1.shared ≡ (serve_all (others_behind w.alone w.beside.between (requests_in p.exchanges)) more).1.shared)
+  shared_of w p h more o = of h.fine
     where
       of : IsFinished p ⊎ AlikeBut number p.state.state (others_behind w.alone w.beside.between (requests_in p.exchanges))
-          → IsFinished p ⊎ (p.state.state.shared ≡ (others_behind w.alone w.beside.between (requests_in p.exchanges)).shared)
+          → IsFinished p ⊎ ((serve_all p.state.state more).1.shared ≡ (serve_all (others_behind w.alone w.beside.between (requests_in p.exchanges)) more).1.shared)
       of (inl f) = inl f
-      of (inr a) = inr a.shared
+      of (inr a) = inr (others_alike number p.state.state (others_behind w.alone w.beside.between (requests_in p.exchanges)) more some o a).shared
 
   fine_passes : Passes IsFine
   fine_passes w request p stops h = record { one = h.one; fine = of h.fine; before = at }

@@ -13,9 +13,9 @@ use Rattle.proper_value_laws.specs.Proper.{HasProperTables, IsIdentifier, IsProp
 use Rattle.rotation_laws.specs.Laws.{BeginsCommitsAndRollsBack, ReadingIsWhole, TextsParse}
 use Rattle.server_core.specs.Serve.{catalog_of, empty_state}
 use Rattle.transactions.specs.Stores.{Transaction, seen_by}
-use Rattle.served_rotation_laws.specs.Beside.{rotated_beside, session_of}
+use Rattle.served_rotation_laws.specs.Beside.{all_asked, others_asked, rotated_beside, session_of}
 use Rattle.served_rotation_laws.specs.Laws.{AskingLeavesNoTrace, RotationsTellOneOutcome, UnfinishedLeavesNoTrace, behind}
-use Rattle.served_rotation_laws.proofs.Apart.{alike_itself, all_long}
+use Rattle.served_rotation_laws.proofs.Apart.{alike_itself, all_long, others_alike}
 use Rattle.served_rotation_laws.proofs.Batches.{Walk}
 use Rattle.served_rotation_laws.proofs.Nothing.{IsFine, rotation_fine, shared_of, tidy_all}
 
@@ -58,5 +58,6 @@ module _ (stay : ProperTablesStay) (parse : TextsParse) (controls : BeginsCommit
       (fine_so keys trusted number old new entropy history between session old_named new_named bytes others)
 
   pub asking : AskingLeavesNoTrace
-  asking keys trusted number old new entropy history between session old_named new_named bytes others asked next left e =
-      ((fine_so keys trusted number old new entropy history between session old_named new_named bytes others).before asked next left e).shared
+  asking keys trusted number old new entropy history between session old_named new_named bytes others asked next left e more o =
+      let h = (fine_so keys trusted number old new entropy history between session old_named new_named bytes others).before asked next left e in
+      (others_alike number (behind (behind empty_state history) (all_asked between asked)) (behind (behind empty_state history) (others_asked between asked)) more session.0 o h).shared

@@ -37,7 +37,7 @@ RotationsTellOneOutcome = (keys : KeyMap) (trusted : List (List ℕ)) (number : 
     length (rotated_beside keys trusted number old new entropy start).outcomes ≤ 1
 
 -- and it is finished; or, because it failed, or because it was stopped for want of random bytes or by a reply that wasn't awaited, the shared world
--- is what the others' requests alone give
+-- is what the others' requests alone give, whatever they request then
 abbrev pub UnfinishedLeavesNoTrace : Type 0
 UnfinishedLeavesNoTrace = (keys : KeyMap) (trusted : List (List ℕ)) (number : ℕ) (old new : List ℕ) (entropy : List ℕ)
     (history : List Request) (between : List (List Request))
@@ -45,9 +45,10 @@ UnfinishedLeavesNoTrace = (keys : KeyMap) (trusted : List (List ℕ)) (number : 
     → All (All (λ request. IsRequest request × (session_of request ≢ number))) between
     → let start : Beside = record { state = behind empty_state history; between = between } in
     let p = rotated_beside keys trusted number old new entropy start in
-    IsFinished p ⊎ (p.state.state.shared ≡ (behind start.state (others_asked between (requests_in p.exchanges))).shared)
+    (more : List Request) → All (λ request. IsRequest request × (session_of request ≢ number)) more
+    → IsFinished p ⊎ ((behind p.state.state more).shared ≡ (behind (behind start.state (others_asked between (requests_in p.exchanges))) more).shared)
 
--- and as long as one more of its requests is to come, the shared world is what the others' requests so far alone give
+-- and as long as one more of its requests is to come, the shared world is what the others' requests so far alone give, whatever they request then
 abbrev pub AskingLeavesNoTrace : Type 0
 AskingLeavesNoTrace = (keys : KeyMap) (trusted : List (List ℕ)) (number : ℕ) (old new : List ℕ) (entropy : List ℕ)
     (history : List Request) (between : List (List Request))
@@ -56,7 +57,8 @@ AskingLeavesNoTrace = (keys : KeyMap) (trusted : List (List ℕ)) (number : ℕ)
     → let start : Beside = record { state = behind empty_state history; between = between } in
     let p = rotated_beside keys trusted number old new entropy start in
     (asked : List Request) (next : Request) (left : List Request) → requests_in p.exchanges ≡ asked ++ next ∷ left
-    → (behind start.state (all_asked between asked)).shared ≡ (behind start.state (others_asked between asked)).shared
+    → (more : List Request) → All (λ request. IsRequest request × (session_of request ≢ number)) more
+    → (behind (behind start.state (all_asked between asked)) more).shared ≡ (behind (behind start.state (others_asked between asked)) more).shared
 
 -- ---- one that is finished
 

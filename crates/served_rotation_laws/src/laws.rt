@@ -25,8 +25,9 @@ pub fn rotations_tell_one_outcome()
 }
 
 /// Whatever was requested of a server before, and whatever other sessions request between any two
-/// requests of a rotation: the rotation is finished; or, because it failed or was stopped on its way,
-/// the shared world is what the other sessions' requests alone give.
+/// requests of a rotation: the rotation is finished; or, because it failed or was stopped on its
+/// way, the shared world is what the other sessions' requests alone give, whatever they request
+/// then.
 pub fn unfinished_rotations_leave_no_trace()
     ensures { UnfinishedLeavesNoTrace }
 {
@@ -38,7 +39,7 @@ pub fn unfinished_rotations_leave_no_trace()
 
 /// Whatever was requested of a server before, and whatever other sessions request between any two
 /// requests of a rotation: as long as one more of the rotation's requests is to come, the shared
-/// world is what the other sessions' requests alone give.
+/// world is what the other sessions' requests alone give, whatever they request then.
 pub fn asking_rotations_leave_no_trace()
     ensures { AskingLeavesNoTrace }
 {

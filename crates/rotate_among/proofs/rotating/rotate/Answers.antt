@@ -1,11 +1,13 @@
 -- It came to what it answers.
-use Rattle.std.proofs.Common.{◌≡◌, drop, false, rules, subst}
-use Rattle.std.specs.Prelude.{IfOk}
+use Rattle.std.proofs.Common.{Option, ap, rules, subst}
+use Rattle.ae_edge.specs.Vaults.{KeyMap}
 use Rattle.column_rotate.specs.Rotating.{rotating}
 use Rattle.driver.specs.Clients.{session_of}
 use Rattle.run_command.specs.Queues.{all_placed}
-use Rattle.rotate_among.specs.Coming.{Comes, IsBy, Kept, Lent}
-use Rattle.rotate_among.proofs.Came.{comes_so, kept_so}
+use Rattle.script_run.specs.Onward.{Leaves}
+use Rattle.rotate_among.specs.Beside.{Standing}
+use Rattle.rotate_among.specs.Coming.{Comes, IfEnded, IsBy, Kept, Lent}
+use Rattle.rotate_among.proofs.Came.{comes_so, ended_so, kept_so}
 use Rattle.rotate_among.proofs.rotating.rotate.Goals as goal
 
 pub returns-clause-comes : goal.returns-clause-comes
@@ -27,7 +29,7 @@ returns-clause-comes g c =
     let b : Lent = record {
       entropy = g.E.Entropy.to_come env.entropy.now;
       keys = g.V.Vault.keys env.vault.now;
-      state = g.P.Peer.state wire.peer.now;
+      state = wire.stand.state;
       entropy_faults = g.E.Entropy.faults env.entropy.now;
       vault_faults = g.V.Vault.faults env.vault.now;
     } in
@@ -38,11 +40,19 @@ returns-clause-comes g c =
       behind = wire.behind;
       taken = wire.taken;
       tally = env.tally;
-      between = drop wire.at wire.between.now;
+      between = wire.stand.between;
     } in
-    let by : IsBy c.rotated_by.result c.rotate_lent-ended.result wire.tap.now = search (rules, c.rotated_by.ensures.by) in
-    let whole : IfOk c.rotated_by.result (λ o. wire.lacks.now ≡ false) = search (rules, c.rotated_by.ensures.whole) in
-    let begun = kept_so _ _ _ _ c.args.between.now c.new-text.ensures c.new-frames.ensures c.new-waiting.ensures c.nothing.ensures in
-    subst (λ (w : Lent). IfOk c.rotated_by.result (λ o. Comes o (rotating trusted number c.args.old.now c.args.new.now first) last c.args.version c.args.between.now a w)) (search rules)
-    (comes_so c.rotated_by.result c.rotate_lent-ended.result trusted number c.args.old.now c.args.new.now first last c.args.version c.args.between.now a b _ _ _ kept
-    wire.lacks.now wire.lack.now.unasked by whole begun c.rotate_lent-ended.ensures.leads)
+    let stand = c.new-stand.ensures in
+    let begun = kept_so _ _ _ _ c.new-stand.result.between c.args.between.now c.new-text.ensures c.new-frames.ensures
+    c.new-waiting.ensures c.nothing.ensures (ap (λ (s : Standing). s.between) stand) in
+    let by : IsBy c.rotated_by.result c.rotate_lent-ended.result wire.tap.now c.into_peer-peer.result.others = search (rules, c.rotated_by.ensures) in
+    subst (λ (w : Lent). Comes c.rotated_by.result (rotating trusted number c.args.old.now c.args.new.now first) last c.args.version c.args.between.now a w) (search rules)
+    (comes_so c.rotated_by.result c.rotate_lent-ended.result trusted number c.args.old.now c.args.new.now first last c.args.version c.args.between.now a b
+    c.new-stand.result.told wire.stand.told c.into_peer-peer.result.others _ _ _ kept by c.into_peer-peer.ensures.stands begun (ap (λ (s : Standing). s.told) stand) c.rotate_lent-ended.ensures.leads)
+
+pub returns-clause-leaves : goal.returns-clause-leaves
+returns-clause-leaves g c =
+    let after = c.rotate_lent-ended.new in
+    let by : IsBy c.rotated_by.result c.rotate_lent-ended.result after.env.connection.tap.now c.into_peer-peer.result.others = search (rules, c.rotated_by.ensures) in
+    subst (λ (w : Option KeyMap). IfEnded (Leaves c.args.session c.args.driver.now after.driver w) c.rotated_by.result) (search rules)
+    (ended_so _ c.rotated_by.result c.rotate_lent-ended.result after.env.connection.tap.now c.into_peer-peer.result.others by c.rotate_lent-ended.ensures.leaves)
