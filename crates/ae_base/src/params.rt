@@ -53,8 +53,8 @@ impl<P: Named> ParamList<P> {
         }
     }
 
-    /// The parameters that are listed, where they are at most 128 and their names differ. It takes no
-    /// memory.
+    /// The parameters that are listed, where they are at most 128 and their names differ. It takes
+    /// no memory.
     pub fn from_seq(items: Seq<P>) -> Option<ParamList<P>>
         ensures items { IfSome result (λ list. list ≡ items) }
         ensures exactly { IsSome result

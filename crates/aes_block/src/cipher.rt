@@ -37,8 +37,8 @@ impl Model for Aes256 {
 }
 
 impl Aes256 {
-    /// The cipher under `key`, whose key words are computed here, once, for both directions (sections 5.2 and
-    /// 5.3.5).
+    /// The cipher under `key`, whose key words are computed here, once, for both directions
+    /// (sections 5.2 and 5.3.5).
     pub fn new(key: &[u8; 32]) -> Aes256
         ensures { result ≡ key.now }
     {
@@ -85,7 +85,8 @@ impl Aes256 {
         }
     }
 
-    /// Eight blocks, each decrypted under the key. For more than eight, `decryptor` makes the round keys once.
+    /// Eight blocks, each decrypted under the key. For more than eight, `decryptor` makes the round
+    /// keys once.
     pub fn decrypt8(&self, blocks: &[[u8; 16]; 8]) -> [[u8; 16]; 8]
         ensures value { result ≡ map (decryption self.now) blocks.now }
         ensures undoes { map (encryption self.now) result ≡ blocks.now }

@@ -40,8 +40,8 @@ fn row_3(column: u32) -> usize
     ((column >> 24) % 256) as usize
 }
 
-/// The column that SubBytes and MixColumns make of row 0 of `a`, row 1 of `b`, row 2 of `c` and row 3 of `d`,
-/// and the key word added to it.
+/// The column that SubBytes and MixColumns make of row 0 of `a`, row 1 of `b`, row 2 of `c` and
+/// row 3 of `d`, and the key word added to it.
 pub(crate) fn mixed_column(a: u32, b: u32, c: u32, d: u32, key: u32) -> u32
     ensures { word_of result
         ≡ word_sum (word_product mix_polynomial (map sub_byte (diagonal a b c d))) (word_of key) }

@@ -1,7 +1,7 @@
 //! Eight blocks decrypted side by side.
 
-// The equivalent inverse cipher (FIPS 197, section 5.3.5) of eight blocks at once, bit by bit: no table is read, so
-// neither the time nor the memory that is touched depends on the blocks.
+// The equivalent inverse cipher (FIPS 197, section 5.3.5) of eight blocks at once, bit by bit: no
+// table is read, so neither the time nor the memory that is touched depends on the blocks.
 
 ghost use Rattle.std.specs.Prelude.{◌≡◌, List, ℕ, map};
 ghost use Rattle.std.specs.List.{All};

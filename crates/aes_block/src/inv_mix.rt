@@ -1,7 +1,7 @@
 //! InvMixColumns on planes.
 
-// InvMixColumns is MixColumns after a product by {04}x^2 + {05}. So a column needs products by 2 and 4 alone, and on planes
-// these are other places of the planes and a few sums.
+// InvMixColumns is MixColumns after a product by {04}x^2 + {05}. So a column needs products by 2
+// and 4 alone, and on planes these are other places of the planes and a few sums.
 
 ghost use Rattle.std.specs.Prelude.{◌≡◌, ℕ, ◌+◌, ◌%◌, ◌<◌};
 ghost use Rattle.aes_block.specs.Aes.{inv_mix_polynomial, word_product};

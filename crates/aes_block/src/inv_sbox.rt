@@ -1,7 +1,7 @@
 //! The inverse S-box on planes.
 
-// The circuit, in stages. The names of planes are its authors': u0 is plane 7, and w0 plane 7 of the result. A gate that
-// two stages want stands in both, and the compiler makes one of them.
+// The circuit, in stages. The names of planes are its authors': u0 is plane 7, and w0 plane 7 of
+// the result. A gate that two stages want stands in both, and the compiler makes one of them.
 
 ghost use Rattle.std.specs.Prelude.{◌≡◌, ℕ, bit_xor};
 ghost use Rattle.aes_block.specs.Aes.{inv_sub_byte};
@@ -10,8 +10,8 @@ ghost use Rattle.aes_block.specs.Planes.{bits, byte};
 
 use crate::planes::Plane;
 
-/// InvSubBytes of bytes to which 0x63 was added (FIPS 197, section 5.3.2), by the circuit of Boyar and Peralta
-/// ("A depth-16 circuit for the AES S-box", 2012).
+/// InvSubBytes of bytes to which 0x63 was added (FIPS 197, section 5.3.2), by the circuit of Boyar
+/// and Peralta ("A depth-16 circuit for the AES S-box", 2012).
 #[inline(always)]
 pub(crate) fn inv_substituted(planes: [Plane; 8]) -> [Plane; 8]
     ensures { (r c j : ℕ) → byte result r c j ≡ inv_sub_byte (bit_xor (byte planes r c j) 0x63) }

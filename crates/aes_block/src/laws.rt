@@ -5,8 +5,8 @@
 ghost use Rattle.std.specs.Prelude.{◌≡◌, ℕ, List};
 ghost use Rattle.aes_block.specs.Aes.{IsBlock, IsKey, decryption, encryption};
 
-/// Under every key, decryption undoes encryption and encryption undoes decryption, and both make blocks of
-/// blocks.
+/// Under every key, decryption undoes encryption and encryption undoes decryption, and both make
+/// blocks of blocks.
 pub fn each_undoes_the_other()
     ensures decrypts { (key block : List ℕ) → IsKey key → IsBlock block
         → decryption key (encryption key block) ≡ block }

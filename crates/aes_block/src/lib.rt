@@ -1,5 +1,5 @@
-//! AES-256, the block cipher of FIPS 197 with keys of 32 bytes, proved equal to the standard's definitions
-//! both ways. Nothing here takes memory or fails.
+//! AES-256, the block cipher of FIPS 197 with keys of 32 bytes, proved equal to the standard's
+//! definitions both ways. Nothing here takes memory or fails.
 #![tactic(auto)]
 
 mod bytes;

@@ -10,8 +10,8 @@ use std::marker::Model;
 use std::ops::{BitAnd, BitXor};
 use std::simd::u8x16;
 
-/// One bit of each byte of eight blocks: lane 4r + c is for row r and column c of a state (FIPS 197, section 3.4), and
-/// bit j of a lane for block j.
+/// One bit of each byte of eight blocks: lane 4r + c is for row r and column c of a state
+/// (FIPS 197, section 3.4), and bit j of a lane for block j.
 #[derive(Clone, Copy)]
 pub(crate) struct Plane {
     lanes: u8x16,

@@ -1,6 +1,7 @@
 //! The rounds of both directions.
 
-// The cipher and the equivalent inverse cipher over the key words (FIPS 197, sections 5.1 and 5.3.5).
+// The cipher and the equivalent inverse cipher over the key words
+// (FIPS 197, sections 5.1 and 5.3.5).
 
 ghost use Rattle.std.specs.Prelude.{◌≡◌};
 ghost use Rattle.aes_block.specs.Aes.{cipher};

@@ -1,7 +1,7 @@
 //! The tables of a round, computed from the S-box.
 
-// The tables of the cipher: the S-box, its inverse and the round constants, and the products of their bytes
-// that a round adds up. A column is a number of 32 bits, whose lowest byte is row 0.
+// The tables of the cipher: the S-box, its inverse and the round constants, and the products of
+// their bytes that a round adds up. A column is a number of 32 bits, whose lowest byte is row 0.
 
 // A table of what the macro $entry makes of each byte, and of the words after it.
 macro_rules! table {
@@ -79,7 +79,8 @@ macro_rules! mixed {
     };
 }
 
-// The byte times x^2, and times x^3: each bit that comes in at x^8 or above is reduced (section 4.2).
+// The byte times x^2, and times x^3: each bit that comes in at x^8 or above is reduced
+// (section 4.2).
 macro_rules! times_x_2 {
     ($byte:literal) => {
         ($byte << 2) ^ ((($byte >> 6) & 1) * 0x11b) ^ (($byte >> 7) * 0x236)
@@ -95,8 +96,9 @@ macro_rules! times_x_3 {
     };
 }
 
-// The byte's products by InvMixColumns' polynomial (section 5.3.3): x^3 stands in each of its coefficients, x^2
-// in the first and the third, x in the first and the last, 1 in all but the first.
+// The byte's products by InvMixColumns' polynomial (section 5.3.3): x^3 stands in each of its
+// coefficients, x^2 in the first and the third, x in the first and the last, 1 in all but the
+// first.
 macro_rules! inv_mixed {
     ($byte:literal [$p:literal $q:literal $r:literal $s:literal]) => {
         (times_x_3!($byte) * 0x01010101)
@@ -124,7 +126,8 @@ pub(crate) static MIXED: [[u32; 256]; 4] = [
     over_sbox!(mixed [24 0 8 16]),
 ];
 
-/// What a byte gives to its column in InvMixColumns, once its substitution is undone: a table for each row.
+/// What a byte gives to its column in InvMixColumns, once its substitution is undone: a table for
+/// each row.
 pub(crate) static INV_MIXED: [[u32; 256]; 4] = [
     over_inv_sbox!(inv_mixed [0 8 16 24]),
     over_inv_sbox!(inv_mixed [8 16 24 0]),

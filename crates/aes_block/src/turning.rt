@@ -1,7 +1,7 @@
 //! Eight blocks as planes, and back.
 
-// A plane has one bit of each byte, and eight of them have eight blocks. So the planes are the blocks with rows for
-// columns, in which the 8 by 8 bits of each place are turned.
+// A plane has one bit of each byte, and eight of them have eight blocks. So the planes are the
+// blocks with rows for columns, in which the 8 by 8 bits of each place are turned.
 
 ghost use Rattle.std.specs.Prelude.{◌≡◌, ℕ, [], ◌∷◌, ◌+◌, ◌-◌, ◌*◌, ◌/◌, ◌%◌, ◌<◌, length, slice_index, slice_index_or};
 ghost use Rattle.std.specs.List.{All};
@@ -91,7 +91,8 @@ fn layer(planes: [Plane; 8], n: u8, mask: u8) -> [Plane; 8]
     [a, e, b, f, c, g, d, h]
 }
 
-/// Exchanges the first plane's bits that the mask lacks and the second's that it has, n places apart.
+/// Exchanges the first plane's bits that the mask lacks and the second's that it has, n places
+/// apart.
 #[inline(always)]
 fn exchanged(low: Plane, high: Plane, n: u8, mask: u8) -> (Plane, Plane)
     requires { ExchangeMask n mask }

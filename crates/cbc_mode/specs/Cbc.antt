@@ -1,3 +1,4 @@
+-- Cipher block chaining (SP 800-38A, section 6.2) with AES-256, and the padding of RFC 5652.
 use Rattle.std.specs.Prelude.{
   ◌≡◌,
   ℕ,

@@ -1,4 +1,5 @@
-//! Cipher block chaining (SP 800-38A, section 6.2) with AES-256, and the padding of RFC 5652, section 6.3.
+//! Cipher block chaining (SP 800-38A, section 6.2) with AES-256, and the padding of RFC 5652,
+//! section 6.3.
 #![tactic(auto)]
 
 ghost use Rattle.std.specs.Prelude.{◌≡◌, ◌==◌, ℕ, ◌+◌, ◌-◌, ◌*◌, ◌/◌, ◌%◌, ◌<◌, ◌≤◌, ◌↔◌, List, length, take, None, Some, Ok, IfOk, IsErrOf, MatchOption};
@@ -46,7 +47,8 @@ fn padded_block(rest: &[u8]) -> [u8; 16]
     block
 }
 
-/// The ciphertext of `bytes`, which are padded first: 1 to 16 bytes are always added, up to whole blocks.
+/// The ciphertext of `bytes`, which are padded first: 1 to 16 bytes are always added, up to whole
+/// blocks.
 ///
 /// `iv` is the initialization vector. The only error is out of memory; memory is taken once.
 pub fn encrypt(
@@ -93,8 +95,8 @@ fn unchained8(key: &Decryptor<'_>, previous: &[u8; 16], blocks: &[[u8; 16]; 8]) 
     plain
 }
 
-// Puts what the blocks decrypt to at the end, and gives the block that the next one is added to. A short ciphertext has no
-// eight blocks, and its cipher isn't made ready for them.
+// Puts what the blocks decrypt to at the end, and gives the block that the next one is added to. A
+// short ciphertext has no eight blocks, and its cipher isn't made ready for them.
 fn append_eights(
     plaintext: &mut Vec<u8>,
     key: &Aes256,
@@ -193,9 +195,10 @@ fn is_whole_blocks(bytes: &[u8]) -> bool
 
 /// The bytes whose ciphertext `bytes` is.
 ///
-/// `iv` is the initialization vector. `BadLength` comes exactly where the length is 0 or no multiple of 16; else
-/// `NotPadded` exactly where the last decrypted byte is not 1 to 16, or as many bytes at the end are not that byte;
-/// else `OutOfMemory` where memory runs out, which may come in place of `NotPadded` too.
+/// `iv` is the initialization vector. `BadLength` comes exactly where the length is 0 or no
+/// multiple of 16; else `NotPadded` exactly where the last decrypted byte is not 1 to 16, or as
+/// many bytes at the end are not that byte; else `OutOfMemory` where memory runs out, which may
+/// come in place of `NotPadded` too.
 pub fn decrypt(
     alloc: Global,
     key: &Aes256,
@@ -217,7 +220,8 @@ pub fn decrypt(
     Ok(plaintext)
 }
 
-/// Decryption undoes encryption, and encryption decryption, under every key and initialization vector.
+/// Decryption undoes encryption, and encryption decryption, under every key and initialization
+/// vector.
 pub fn each_undoes_the_other()
     ensures decrypts { (key iv bytes : List ℕ) → IsKey key → IsBlock iv → AreBytes bytes
         → decrypted_cbc key iv (cbc key iv bytes) ≡ Ok bytes }

@@ -339,8 +339,8 @@ impl Rotation {
         }
     }
 
-    /// What comes next. The outcome is that of the batch that was sent last, which the driver ran in
-    /// the rotation's session; none stands in the first call alone. There is no call after
+    /// What comes next. The outcome is that of the batch that was sent last, which the driver ran
+    /// in the rotation's session; none stands in the first call alone. There is no call after
     /// `Finished`, `Failed` or want of memory.
     pub fn next(
         &mut self,

@@ -145,8 +145,8 @@ fn wrap_in(alloc: Global, matches: &ArgMatches<'_>) -> Result<Command, Refusal<T
     }
 }
 
-/// `clap` has tested the number, so the second arm isn't reached. The contract of `clap` doesn't say
-/// so, and that arm answers out of memory.
+/// `clap` has tested the number, so the second arm isn't reached. The contract of `clap` doesn't
+/// say so, and that arm answers out of memory.
 fn gen_in(matches: &ArgMatches<'_>) -> Result<Command, Refusal<Txt>>
     ensures { FindsSize (rows_of (found_of matches.now)) result }
 {

@@ -73,7 +73,8 @@ pub trait Disk {
         requires inside { IfSome (told self.old) (λ disk. at ≤ length disk.now.seen) }
         requires end { at + length bytes.now < 2 ^ 64 }
         ensures same { names self.new ≡ names self.old }
-        ensures content { WhereExposed (Writes result at bytes.now) (told self.old) (told self.new) }
+        ensures content { WhereExposed (Writes result at bytes.now)
+            (told self.old) (told self.new) }
         ensures count { faults self.old ≤ faults self.new }
         ensures counts { CountsStored result (faults self.old) (faults self.new) };
 

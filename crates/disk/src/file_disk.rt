@@ -17,9 +17,10 @@ use std::io::{ErrorKind, Read, Seek, SeekFrom, Write};
 use std::os::unix::fs::MetadataExt;
 use std::path::Path;
 
-/// A file of std as a disk. It is opened at the first call, and made where it isn't there; a link to
-/// a file that isn't there is refused. From then on it is held, and a file that is held elsewhere
-/// isn't opened, nor one whose name was given to another file meanwhile. It doesn't tell what it holds: that such a file is a disk is trusted.
+/// A file of std as a disk. It is opened at the first call, and made where it isn't there; a link
+/// to a file that isn't there is refused. From then on it is held, and a file that is held
+/// elsewhere isn't opened, nor one whose name was given to another file meanwhile. It doesn't tell
+/// what it holds: that such a file is a disk is trusted.
 #[derive(Drop)]
 pub struct FileDisk<'a, R: LockedFiles> {
     files: R,

@@ -19,8 +19,9 @@ const MAC_LABEL: &[u8; 107] =
 const IV_LABEL: &[u8; 106] =
     b"Microsoft SQL Server cell IV key with encryption algorithm:AEAD_AES_256_CBC_HMAC_SHA256 and key length:256";
 
-/// The three keys that are derived from a column encryption key for the cells of its columns. What each
-/// cell takes of them is made once: the cipher's key words, and the HMACs' pads, which are hashed.
+/// The three keys that are derived from a column encryption key for the cells of its columns. What
+/// each cell takes of them is made once: the cipher's key words, and the HMACs' pads, which are
+/// hashed.
 #[derive(Drop)]
 pub struct CellKeys {
     enc_key: [u8; 32],

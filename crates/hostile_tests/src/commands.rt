@@ -19,7 +19,7 @@ use server_core::server::Server;
 use std::alloc::{AllocError, Global};
 use wrap_command::commands::wrap;
 
-/// The result of a command: its end, and what stands at the output and at the tap.
+/// The result of a command: its end, the output and the tap.
 #[derive(Drop)]
 pub(crate) struct Left {
     pub(crate) end: String,

@@ -32,7 +32,8 @@ pub(crate) fn put_in<K: Same>(
     requires indexed { All (IndexesRows stored.now.numbers stored.now.rows) indexes.old.items }
     ensures keys { keys_of indexes.new.items ≡ keys_of indexes.old.items }
     ensures answer { Answers result
-        (unless_twins (first_twins 1 (keys_of indexes.old.items) (stored.now.rows ++ rows.now)) tt) }
+        (unless_twins
+        (first_twins 1 (keys_of indexes.old.items) (stored.now.rows ++ rows.now)) tt) }
     ensures indexed { All
         (IndexesRows
         (standing_rows result stored.now.numbers (counted stored.now.next (length rows.now)))

@@ -149,7 +149,8 @@ impl<K: Same> Table<K> {
         changes: Seq<Change<Row<K>>>,
     ) -> Result<(), Refusal>
         requires few { length self.old.keys ≤ 8 }
-        requires placed { AreRising 0 (length self.old.rows) (map (λ change. change.place) changes) }
+        requires placed { AreRising 0 (length self.old.rows)
+            (map (λ change. change.place) changes) }
         requires kept { AreKept (map assignment_of assignments.now) self.old.rows
             (written self.old.rows changes) }
         ensures answer { Answers result
@@ -175,8 +176,8 @@ impl<K: Same> Table<K> {
         }
     }
 
-    /// Drops the rows at some places, which rise, or without memory none; those behind them move up.
-    /// The work is that of these rows; where there is none, it takes no memory.
+    /// Drops the rows at some places, which rise, or without memory none; those behind them move
+    /// up. The work is that of these rows; where there is none, it takes no memory.
     pub fn drop_at(&mut self, alloc: Global, places: &[usize]) -> Result<(), AllocError>
         requires { AreRising 0 (length self.old.rows) places.now }
         ensures ok { OnOk result (self.new ≡ record {

@@ -9,7 +9,7 @@ use Rattle.enc_types.specs.declared.rules.Rule.TheVariants.{Same, NotRnd, PlainO
 use Rattle.inference.specs.Steps.{way_back}
 use Rattle.inference.specs.declared.steps.Step.{Step}
 
--- the first list turned round, in front of the second
+-- the first list reversed, before the second
 abbrev pub onto : List Rule → List Rule → List Rule
 onto [] rules = rules
 onto (rule ∷ back) rules = onto back (rule ∷ rules)

@@ -14,7 +14,7 @@ use server_core::server::Server;
 use std::alloc::Global;
 use wire_frames::{Decoded, decode_request, one_reading};
 
-/// What came of the request that stands at the front of a record.
+/// The result of serving a record's first request.
 #[derive(Clone, Copy)]
 enum Front {
     /// It was done; its frame has so many bytes.

@@ -16,7 +16,7 @@ use disk::disks::Disk;
 use frame_feed::{FrameFeed, Message, Next};
 use std::alloc::Global;
 
-/// What came of what stands next.
+/// The result of one step of the loop.
 #[derive(Clone, Copy)]
 enum Turn {
     /// A request was answered, whose frame has so many bytes.

@@ -51,7 +51,8 @@ fn opened_record(alloc: Global, entry: &[u8]) -> Result<Vec<u8>, AllocError>
 fn put_behind<E: Disk>(disk: &mut E, at: u64, bytes: &[u8]) -> Stored
     requires end { IfSome (E.told disk.old) (HasAt at) }
     requires room { at + length bytes.now < 2 ^ 64 }
-    ensures content { WhereExposed (PutsBehind result bytes.now) (E.told disk.old) (E.told disk.new) }
+    ensures content { WhereExposed (PutsBehind result bytes.now)
+        (E.told disk.old) (E.told disk.new) }
     ensures same { E.names disk.new ≡ E.names disk.old }
     ensures counts { CountsStored result (E.faults disk.old) (E.faults disk.new) }
 {

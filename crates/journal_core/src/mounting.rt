@@ -84,8 +84,8 @@ fn settle_short<D: Disk>(alloc: Global, disk: &mut D) -> Mounted
     }
 }
 
-/// Makes the closed gate at a place the last byte of a file of two bytes or more, and puts it on the
-/// disk.
+/// Makes the closed gate at a place the last byte of a file of two bytes or more, and puts it on
+/// the disk.
 fn repair_long<D: Disk>(disk: &mut D, gate: u64, last: u64) -> Stored
     requires kept { IfSome (D.told disk.old) (IsKeptTo last) }
     requires long { 1 ≤ last }

@@ -1,4 +1,5 @@
-//! The key wrap of RFC 3394 (section 2.2, by indices) for keys of 32 bytes under AES-256. Nothing here takes memory.
+//! The key wrap of RFC 3394 (section 2.2, by indices) for keys of 32 bytes under AES-256. Nothing
+//! here takes memory.
 #![tactic(auto)]
 
 ghost use Rattle.std.specs.Prelude.{◌≡◌, ◌≢◌, ℕ, ◌+◌, ◌-◌, ◌*◌, ◌<◌, ◌≤◌, ◌↔◌, ◌++◌, List, [], ◌∷◌, length, take, drop, Some, IfSome, IsNone};
@@ -135,8 +136,8 @@ fn unwrapped_registers(kek: &Aes256, bytes: &[u8; 40]) -> [[u8; 8]; 5]
     registers
 }
 
-/// The key that `bytes` wrap under `kek`, the key encryption key (section 2.2.2): `None` exactly where the register A
-/// does not end as the initial value.
+/// The key that `bytes` wrap under `kek`, the key encryption key (section 2.2.2): `None` exactly
+/// where the register A does not end as the initial value.
 pub fn unwrap(kek: &Aes256, bytes: &[u8; 40]) -> Option<[u8; 32]>
     ensures exact { result ≡ unwrapping_of kek.now bytes.now }
     ensures undoes { IfSome result (λ key. wrapping_of kek.now key ≡ bytes.now) }

@@ -80,7 +80,8 @@ fn pin_of_comparison<'a>(
     right: &'a BoundOperand,
 ) -> Option<&'a BoundOperand>
     ensures { option_map (λ v. operand_of v.now) result
-        ≡ pin_of_comparison width place comparison.now (operand_of left.now) (operand_of right.now) }
+        ≡ pin_of_comparison width place comparison.now
+        (operand_of left.now) (operand_of right.now) }
 {
     match comparison {
         Comparison::Equal => pin_between(width, place, left, right),
@@ -186,7 +187,8 @@ fn choice_of<'a>(
     list: &'a [BoundOperand],
 ) -> Option<&'a [BoundOperand]>
     ensures { (at : ℕ) → option_map (λ list. map operand_of list.now) result
-        ≡ choice_in width place (conditions.In at negated (operand_of operand.now) (map operand_of list.now)) }
+        ≡ choice_in width place
+        (conditions.In at negated (operand_of operand.now) (map operand_of list.now)) }
 {
     if !negated && is_column(width, place, operand) && all_known(width, list) {
         Some(list)

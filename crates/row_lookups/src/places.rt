@@ -31,7 +31,8 @@ pub(crate) fn places_found<K: Same>(
         (operands_listed keys.now) }
     ensures { IfOk result (λ places. places.items
         ≡ places_where (is_found params.now
-        (record { places = columns.now; keys = operands_listed keys.now }) row.now) 0 table.now.rows) }
+        (record { places = columns.now; keys = operands_listed keys.now }) row.now)
+        0 table.now.rows) }
 {
     let mut places = places_of_each(alloc, table, columns, keys, row, params)?;
     places.sort_unstable();

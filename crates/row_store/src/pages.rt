@@ -230,7 +230,8 @@ impl<T: Drop> Holding<T> {
     /// Puts the rows at the end of others. It takes no memory.
     fn move_to(self, rows: &mut Vec<T>)
         requires own { (owned_of self).own ≡ true }
-        requires fits { length rows.old.items + length (owned_of self).value ≤ vec_capacity rows.old }
+        requires fits { length rows.old.items + length
+            (owned_of self).value ≤ vec_capacity rows.old }
         ensures rows { rows.new.items ≡ rows.old.items ++ (owned_of self).value }
         ensures capacity { vec_capacity rows.old ≤ vec_capacity rows.new }
     {

@@ -1,4 +1,4 @@
--- What is told of all that a run touches, and what each device has of the events of a conversation.
+-- The exposed state of a run's devices, and the effect of each event on them.
 use Rattle.std.specs.Prelude.{◌≡◌, ℕ, ◌+◌, ◌≤◌, List, [], ◌∷◌, ◌++◌, length, map, flat_map, drop, Option, Some, None, IfSome, Bool}
 use Rattle.std.specs.Borrow.{GName}
 use Rattle.ae_base.specs.declared.frames.FrameVersion.{FrameVersion}

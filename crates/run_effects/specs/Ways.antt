@@ -1,4 +1,4 @@
--- How far a conversation was followed, what all that a run touches has of it, and why it was followed no further.
+-- How much of a conversation took place, its effect on each device, and why it stopped.
 use Rattle.std.specs.Prelude.{◌≡◌, ◌⊎◌, ℕ, ◌+◌, ◌≤◌, List, [], ◌∷◌, ◌++◌, length, map, flat_map, Option, Some, None, IfSome, Result, Ok, Err}
 use Rattle.ae_base.specs.declared.frames.FrameVersion.{FrameVersion}
 use Rattle.ae_edge.specs.Devices.{Rose, Adds, AddsPrefix, Removes}

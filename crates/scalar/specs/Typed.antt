@@ -34,7 +34,7 @@ abbrev mutual
   AreTermsOpen columns params (operands.PlusThen at operand more) = StandsAt columns params Open operand × AreSumsOpen columns params operand × AreTermsOpen columns params more
   AreTermsOpen columns params (operands.MinusThen at operand more) = StandsAt columns params Open operand × AreSumsOpen columns params operand × AreTermsOpen columns params more
 
--- sameness may be asked where nothing is randomized, and order at an open place
+-- `=` needs operands that aren't randomized, `<` plain ones
 abbrev pub IsNotRandomized : Class → Type 0
 IsNotRandomized Open = Unit {0}
 IsNotRandomized (Det key ty) = Unit {0}

@@ -12,7 +12,7 @@ use frame_feed::{FrameFeed, Message, Next};
 use server_core::server::Server;
 use std::alloc::Global;
 
-/// What came of what stands next.
+/// The result of one step of the loop.
 #[derive(Clone, Copy)]
 enum Turn {
     /// A request was answered, whose frame has so many bytes.

@@ -1,4 +1,4 @@
-//! Whoever answers requests.
+//! The server as a client sees it.
 
 ghost use Rattle.std.specs.Prelude.{◌≡◌, ◌∷◌, [], List, Option, None, Some, IfOk, MatchResult};
 ghost use Rattle.std.specs.Borrow.{GName};

@@ -6,6 +6,7 @@ use ae_base::lists::Seq;
 use std::alloc::{AllocError, Global};
 use wire_messages::replies::Reply;
 
+/// A list of one reply. The only error is out of memory.
 pub fn one_reply(alloc: Global, reply: Reply<'static>) -> Result<Seq<Reply<'static>>, AllocError>
     ensures { IfOk result (λ replies. replies ≡ reply.entry ∷ []) }
 {

@@ -50,6 +50,7 @@ impl Model for Cursor {
     ghost invariant = { λ c. first_wide 9223372036854775807 c.rest.items ≡ None };
 }
 
+/// The refusal of a text that the grammar doesn't have: the fault `Syntax`.
 pub fn syntax() -> Refusal
     ensures { result ≡ Fault fault.Syntax }
 {
@@ -114,6 +115,7 @@ fn is_the_text(lexeme: &Lexeme, text: &str) -> bool
 }
 
 impl Cursor {
+    /// All these tokens, of which none is read yet. Their numbers are at most `MOST_NUMBER`.
     pub fn new(tokens: Seq<Token>) -> Cursor
         requires { first_wide MOST_NUMBER tokens ≡ None }
         ensures { result ≡ tokens }

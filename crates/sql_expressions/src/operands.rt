@@ -98,7 +98,7 @@ fn column_or_leaf(tokens: &mut Cursor) -> Result<OperandTree, Refusal>
     })
 }
 
-/// An operand, in which so many parentheses may be open.
+/// An operand with at most `depth` open parentheses.
 #[cycle(operand)]
 #[tactic(auto, using(crate::proofs::Chosen::operand_in_is))]
 pub(crate) fn operand_in(

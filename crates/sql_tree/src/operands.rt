@@ -18,8 +18,8 @@ impl Drop for ColumnRef {
     }
 }
 
-/// A value that a statement computes. `C` is what names a column, and `P` what names a parameter. Places are
-/// offsets in the statement's text.
+/// A value that a statement computes. `C` is what names a column, and `P` what names a parameter.
+/// Places are offsets in the statement's text.
 #[derive(Drop)]
 #[cycle(operand)]
 pub enum Operand<C, P> {

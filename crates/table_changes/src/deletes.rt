@@ -60,7 +60,8 @@ fn dropped_walked<K: Same>(
     params: &[Atom<K>],
 ) -> Result<Seq<usize>, Refusal>
     requires { All
-        (λ row. IsPlacedFilter (length row) (length params.now) (option_map condition_of filter.now))
+        (λ row. IsPlacedFilter (length row) (length params.now)
+        (option_map condition_of filter.now))
         table.now.rows }
     ensures hits { AnswersAs
         (λ places. all_tested table.now.rows (marked 0 (length table.now.rows) places)) result
@@ -88,7 +89,8 @@ fn dropped_found<K: Same>(
         × (lookup_of_filter table.now.keys width (option_map condition_of filter.now)
         ≡ Some (lookup_made lookup.now)) }
     requires placed { All
-        (λ row. IsPlacedFilter (length row) (length params.now) (option_map condition_of filter.now))
+        (λ row. IsPlacedFilter (length row) (length params.now)
+        (option_map condition_of filter.now))
         table.now.rows }
     ensures hits { AnswersAs
         (λ places. all_tested table.now.rows (marked 0 (length table.now.rows) places)) result

@@ -26,9 +26,9 @@ use row_store::changes::Change;
 use sql_tree::bound::BoundUpdate;
 use std::alloc::{AllocError, Global};
 
-/// The rows of a table with these columns and unique keys that an UPDATE changes, with their places,
-/// which rise; or the first fault. Where its filter gives a unique key, the rows of that key alone
-/// are asked.
+/// The rows of a table with these columns and unique keys that an UPDATE changes, with their
+/// places, which rise; or the first fault. Where its filter gives a unique key, the rows of that
+/// key alone are asked.
 pub fn changes_in<K: Same>(
     alloc: Global,
     columns: &[ColumnDef],

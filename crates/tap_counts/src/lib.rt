@@ -1,5 +1,5 @@
-//! What one without a key can count in a recording: how many NULLs, plain values and cells there were
-//! of each class, and which cells of a deterministic class came most often.
+//! What one without a key can count in a recording: how many NULLs, plain values and cells there
+//! were of each class, and which cells of a deterministic class came most often.
 #![tactic(auto)]
 
 mod lines;

@@ -90,7 +90,7 @@ impl<K: Same> Transaction<K> {
         self.used.len()
     }
 
-    /// Forgets the tables that it has used behind the first so many.
+    /// Keeps the first `used` of the tables that it has used.
     pub(crate) fn forget(&mut self, used: usize)
         ensures { self.new ≡ record self.old { used = take used self.old.used } }
     {
@@ -152,8 +152,8 @@ impl<K: Same> Transaction<K> {
         conflict(shared, self.used.as_slice())
     }
 
-    /// Has its own world, laid over the shared one, take the place of that, and raises the counts of
-    /// the tables that it has changed. It takes no memory.
+    /// Has its own world, laid over the shared one, take the place of that, and raises the counts
+    /// of the tables that it has changed. It takes no memory.
     pub(crate) fn commit(self, shared: &mut Counted<K>)
         requires shape { IsInShape shared.old }
         requires noted { IsNoted shared.old self }

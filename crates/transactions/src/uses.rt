@@ -57,8 +57,8 @@ fn note_joins<K: Same>(
     Ok(())
 }
 
-/// Notes the tables that a statement reads or changes, or that REPLACE BY names, in the order of its
-/// text, or without memory some of them.
+/// Notes the tables that a statement reads or changes, or that REPLACE BY names, in the order of
+/// its text, or without memory some of them.
 fn note_some<K: Same>(
     used: &mut Vec<Used>,
     own: &Counted<K>,
@@ -85,8 +85,8 @@ fn note_some<K: Same>(
     }
 }
 
-/// Notes the tables that a statement reads or changes, or that REPLACE BY names, in the order of its
-/// text. Without memory nothing changes.
+/// Notes the tables that a statement reads or changes, or that REPLACE BY names, in the order of
+/// its text. Without memory nothing changes.
 pub(crate) fn note_tables<K: Same>(
     used: &mut Vec<Used>,
     own: &Counted<K>,

@@ -12,8 +12,9 @@ use plaintext_laws::laws::laws_below;
 /// outcomes are equal but for values of rows, which are paired as the scripts' are, each at the
 /// class of its column. So what a server is sent, class by class and up to such a renaming, depends
 /// on protected values through NULL, their length and their sameness within a deterministic class
-/// alone. Nothing is said of a script with `:rotate`, which has no twins: a rotation may move values
-/// of a randomized class into a deterministic one, where a server sees which of them are equal.
+/// alone. Nothing is said of a script with `:rotate`, which has no twins: a rotation may move
+/// values of a randomized class into a deterministic one, where a server sees which of them are
+/// equal.
 pub fn twins_alike()
     ensures { TwinsAlike }
 {

@@ -77,11 +77,11 @@ impl fmt::Display for Viewed {
     }
 }
 
-/// Reads a recording of frames, and puts it to the output, as lines of text or as a page: each frame
-/// as it comes, up to the first place that is no frame; behind the last how many NULLs, plain values
-/// and cells there were of each class, with the commonest cells, and how the recording ended. Of the
-/// input at most a frame and a piece are held, with the different cells that were seen. Up to the
-/// limit all whole frames are put, before a byte past it is asked for.
+/// Reads a recording of frames, and puts it to the output, as lines of text or as a page: each
+/// frame as it comes, up to the first place that is no frame; behind the last how many NULLs, plain
+/// values and cells there were of each class, with the commonest cells, and how the recording
+/// ended. Of the input at most a frame and a piece are held, with the different cells that were
+/// seen. Up to the limit all whole frames are put, before a byte past it is asked for.
 pub fn view<S: Source, W: Sink>(alloc: Global, page: bool, input: &mut S, out: &mut W) -> Viewed
     // What was taken of the input, and what was put for it, by how it ended.
     ensures content { ViewsInput page result (S.left input.old) (S.left input.new) (W.held out.old)

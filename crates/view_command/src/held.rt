@@ -32,7 +32,7 @@ impl Held {
     }
 }
 
-/// What came of what stands next.
+/// The result of one step of the loop.
 #[derive(Clone, Copy)]
 enum Turn {
     /// A frame was put, of so many bytes.

@@ -19,6 +19,7 @@ use wire_parts::parts::{BlobPart, CellPart, TxtPart};
 use wire_parts::texts::{NamePart, ParamNamePart, PathPart, StatementPart, TitlePart};
 use wire_payloads::payloads::RowBatch;
 
+/// The session of a number, or `None` where the number is not 1 to 64.
 pub fn session(number: u16) -> Option<SessionId>
     ensures { result ≡ read.when (read.is_within 1 64) number }
 {
@@ -43,30 +44,38 @@ pub(crate) fn binary_size(bytes: u16) -> Option<BinarySize>
     BinarySize::from_number(bytes)
 }
 
+/// The number of a unique key of a table, or `None` where it is not 1 to 8.
 pub fn unique_number(number: u8) -> Option<UniqueNumber>
     ensures { result ≡ read.when (read.is_within 1 8) number }
 {
     UniqueNumber::from_number(number)
 }
 
+/// The version of the catalog that was seen and the one that stands, or `None` where both are the
+/// same.
 pub fn versions(seen: u64, now: u64) -> Option<Versions>
     ensures { result ≡ read.when read.differ (record { seen = seen; now = now }) }
 {
     Versions::that_differ(seen, now)
 }
 
+/// The change count of a table that was seen and the one that stands, or `None` where the second
+/// isn't greater.
 pub fn counts(seen: u64, now: u64) -> Option<ChangeCounts>
     ensures { result ≡ read.when read.rose (record { seen = seen; now = now }) }
 {
     ChangeCounts::that_rose(seen, now)
 }
 
+/// The text as a name, or `None` where it has not 1 to 128 characters.
 pub fn name(text: &str) -> Option<NamePart<'_>>
     ensures { result ≡ read.when read.is_word (chars text.now) }
 {
     NamePart::from_part(TxtPart::lent(text))
 }
 
+/// The text as the name of a parameter, without its `@`, or `None` where it has not 1 to 128
+/// characters, all of them ASCII letters, digits or `_`.
 pub fn param_name(text: &str) -> Option<ParamNamePart<'_>>
     ensures { result ≡ read.when read.is_param_name (chars text.now) }
 {
@@ -76,18 +85,21 @@ pub fn param_name(text: &str) -> Option<ParamNamePart<'_>>
     }
 }
 
+/// The text as the title of a column, or `None` where it has more than 128 characters.
 pub fn title(text: &str) -> Option<TitlePart<'_>>
     ensures { result ≡ read.when read.is_title (chars text.now) }
 {
     TitlePart::from_part(TxtPart::lent(text))
 }
 
+/// The text as the path of a master key, or `None` where it has not 1 to 1,024 bytes in UTF-8.
 pub fn path(text: &str) -> Option<PathPart<'_>>
     ensures { result ≡ read.when read.is_path (chars text.now) }
 {
     PathPart::from_part(TxtPart::lent(text))
 }
 
+/// The text as that of a statement, or `None` where it has more than 65,536 bytes in UTF-8.
 pub fn statement(text: &str) -> Option<StatementPart<'_>>
     ensures { result ≡ read.when (read.is_text_within 65536) (chars text.now) }
 {
@@ -112,18 +124,24 @@ pub(crate) fn sealed_atom(bytes: &[u8]) -> Option<AtomPart<'_>>
     AtomPart::sealed(CellPart::lent(bytes))
 }
 
+/// The value of a column key: the path of a master key, and the bytes of the key wrapped under it.
+/// `None` where these are not 1 to 1,024 bytes.
 pub fn value<'a>(path: PathPart<'a>, wrapped: &'a [u8]) -> Option<ValuePart<'a>>
     ensures { result ≡ read.made_when read.is_wrapped (read.value_of path.entry) wrapped.now }
 {
     ValuePart::new(path, BlobPart::lent(wrapped))
 }
 
+/// The parameters as a list, or `None` where there are more than 128 or two have the same name.
 pub fn params<P: Named>(parts: Seq<P>) -> Option<ParamList<P>>
     ensures { result ≡ read.when (read.are_params P.called) parts }
 {
     ParamList::from_seq(parts)
 }
 
+/// A described statement: the version of the catalog, the keys, and the parameters that it uses.
+/// `None` where the keys are not those of the parameters in the order of their first use, or have
+/// more than 128 values.
 pub fn description<'a>(
     version: u64,
     keys: Seq<KeyPart<'a>>,
@@ -136,6 +154,8 @@ pub fn description<'a>(
     Description::new(version, keys, params)
 }
 
+/// The columns of an answer with their keys. `None` where the columns are not 1 to 512, or the keys
+/// are not theirs in the order of their first use, or have more than 128 values.
 pub fn header<'a>(keys: Seq<KeyPart<'a>>, columns: Seq<SentColumn<'a>>) -> Option<Header<'a>>
     ensures { result
         ≡ read.when read.is_header (record { keys = keys.entry; columns = columns.entry }) }
@@ -143,12 +163,14 @@ pub fn header<'a>(keys: Seq<KeyPart<'a>>, columns: Seq<SentColumn<'a>>) -> Optio
     Header::new(keys, columns)
 }
 
+/// The atoms as a row of an answer, or `None` where they are not 1 to 512.
 pub fn row<'a>(atoms: Seq<AtomPart<'a>>) -> Option<RowParts<'a>>
     ensures { result ≡ read.when read.is_few atoms.entry }
 {
     RowParts::new(atoms)
 }
 
+/// The rows as those of one frame, or `None` where they are not 1 to 4,096, each of as many atoms.
 pub fn batch<'a>(rows: Seq<RowParts<'a>>) -> Option<RowBatch<'a>>
     ensures { result ≡ read.when read.is_batch rows.entry }
 {

@@ -262,7 +262,8 @@ pub enum Done {
     Answered(u64),
 }
 
-/// What the server answers. Each reply has a frame, since each part meets its condition by its type.
+/// What the server answers. Each reply has a frame, since each part meets its condition by
+/// its type.
 #[derive(Drop)]
 pub enum Reply<'a> {
     Described(Description<'a>),

@@ -1,4 +1,5 @@
-//! Texts that meet a condition, own or borrowed, which contracts see as the list of their characters.
+//! Texts that meet a condition, own or borrowed, which contracts see as the list of their
+//! characters.
 
 ghost use Rattle.std.specs.Prelude.{◌≡◌, IfOk, IfSome, IsSome, ◌↔◌, IsTrue, encode_utf8_all};
 ghost use Rattle.std.specs.Str.{chars, all_scalars};

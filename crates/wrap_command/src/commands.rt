@@ -60,8 +60,16 @@ fn put_line<W: Sink>(out: &mut W, line: &[u8]) -> Wrapped
 fn wrap_input<V: Vault, W: Sink>(path: &Txt, input: &[u8], vault: &mut V, out: &mut W) -> Wrapped
     requires { length input.now ≤ most_script_bytes }
     ensures content { Wraps result path.now input.now
-        (record { keys = V.keys vault.old; vault_faults = V.faults vault.old; out = W.held out.old })
-        (record { keys = V.keys vault.new; vault_faults = V.faults vault.new; out = W.held out.new }) }
+        (record {
+          keys = V.keys vault.old;
+          vault_faults = V.faults vault.old;
+          out = W.held out.old;
+        })
+        (record {
+          keys = V.keys vault.new;
+          vault_faults = V.faults vault.new;
+          out = W.held out.new;
+        }) }
     ensures read { IsRead result }
     ensures vault { result ≡ Wrapped.VaultFault → Rose (V.faults vault.old) (V.faults vault.new) }
     ensures write { result ≡ Wrapped.WriteFault → Rose (W.faults out.old) (W.faults out.new) }
@@ -90,8 +98,16 @@ pub fn wrap<S: Source, V: Vault, W: Sink>(
     // There are bytes, the input's where it tells them, of which this is what the command makes.
     ensures content { (bytes : List ℕ) × IfSome (S.left input.old) (λ left. bytes ≡ left)
         × Wraps result path.now bytes
-        (record { keys = V.keys vault.old; vault_faults = V.faults vault.old; out = W.held out.old })
-        (record { keys = V.keys vault.new; vault_faults = V.faults vault.new; out = W.held out.new }) }
+        (record {
+          keys = V.keys vault.old;
+          vault_faults = V.faults vault.old;
+          out = W.held out.old;
+        })
+        (record {
+          keys = V.keys vault.new;
+          vault_faults = V.faults vault.new;
+          out = W.held out.new;
+        }) }
     // What was taken of the input.
     ensures taken { WhereExposed (Takes result) (S.left input.old) (S.left input.new) }
     // The faults of the outside come only where a count rose.

@@ -14,6 +14,7 @@ pub struct RngEntropy<T> {
 }
 
 impl<T: TryRng> RngEntropy<T> {
+    /// The generator as a random source, none of whose calls has failed yet.
     pub fn new(rng: T) -> RngEntropy<T>
         ensures rng { result.rng ≡ rng }
         ensures fresh { ⟦<RngEntropy<T> as Entropy>⟧.faults result ≡ 0 }
