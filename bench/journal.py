@@ -30,24 +30,34 @@ def timed(words):
     return least
 
 
-def syncs(words):
-    """How often the program synced a file, if strace is installed."""
-    if not shutil.which("strace"):
-        return "-"
+def calls(words):
+    """The calls of the program in their order: S and W where it syncs and writes a file, R where it writes replies."""
     if os.path.exists("journal.bin"):
         os.remove("journal.bin")
     with open("requests", "rb") as given:
-        traced = ["strace", "-f", "-c", "-e", "trace=fsync,fdatasync", *words]
-        ran = subprocess.run(traced, stdin=given, stdout=subprocess.DEVNULL, stderr=subprocess.PIPE, check=True)
-    return sum(int(it) for it in re.findall(r"^ *[\d.]+ +[\d.]+ +\d+ +(\d+) .*sync$", ran.stderr.decode(), re.M))
+        traced = ["strace", "-f", "-o", "calls", "-e", "trace=fsync,fdatasync,write,pwrite64", *words]
+        subprocess.run(traced, stdin=given, stdout=subprocess.DEVNULL, stderr=subprocess.DEVNULL, check=True)
+    with open("calls", encoding="utf-8", errors="replace") as lines:
+        made = [re.match(r"(\d+) +(\w+)\((\d+)", line) for line in lines]
+    # (the launcher's other processes aren't those that reply)
+    server = next(it[1] for it in reversed(made) if it and it[3] == "1")
+    return "".join("S" if it[2].endswith("sync") else "R" if it[3] == "1" else "W" for it in made if it and it[1] == server)
+
+
+def syncs(words):
+    """How often the program synced a file, if strace is installed."""
+    return calls(words).count("S") if shutil.which("strace") else "-"
 
 
 def durable_syncs():
-    """How often a durable server synced: three times at its start and twice for each record, or it isn't durable."""
-    count = syncs([program, "serve", "--journal"])
-    if count not in ("-", 3 + 2 * (inserts + 1)):
-        sys.exit(f"{count} syncs for {inserts + 1} records")
-    return count
+    """The same of a durable server. It isn't durable unless it syncs the folder and the file, and then for each request the record, its
+    gate, and only then replies."""
+    if not shutil.which("strace"):
+        return "-"
+    made = calls([program, "serve", "--journal"])
+    if not re.fullmatch(r"SSWS(WSWSR+)*", made) or made.count("WSWSR") != inserts + 1:
+        sys.exit(f"calls in another order: {made[:40]}..")
+    return made.count("S")
 
 
 def row(what, seconds, count):

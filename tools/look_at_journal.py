@@ -1,12 +1,15 @@
 #!/usr/bin/env python3
 """Lists a journal without a server: its records and their places, by kind, and what follows its closed gate.
 
-Usage: ae journal < journal.bin. Nothing is written but the list. Only the first line of a text is shown, and no value of a parameter;
-literals in a text are shown as they are. Ends with status 1 if the file is damaged, or if more follows the closed gate than one
-record that was being written leaves. A start cuts that off, so copy the file first.
-A frame is measured by its header here; a server also reads its body, and serves it again.
+Usage: ae journal < journal.bin, where it is built: look_at_journal.py PROGRAM. The file isn't changed. Only the first line of a text is
+shown, and no value of a parameter; literals in a text are shown as they are. Ends with status 1 if the file is damaged, if a record
+isn't accepted, or if more follows the closed gate than one record that was being written leaves. A start cuts that off, so copy the
+file first. A frame is measured by its header here; the program, which is started over a copy of the records, also reads its body, and
+serves it again.
 """
+import subprocess
 import sys
+import tempfile
 
 MOST_TEXT = 60  # characters of a text that are shown
 EXECUTE = 2  # the kind of the frame of a request to execute
@@ -64,7 +67,33 @@ def is_one_staged(rest):
     return len(rest) < 8 or len(rest) <= 9 + int.from_bytes(rest[:8], "big")
 
 
-def look(data, out):
+def ending_over(data, program):
+    """The status of a server that is started over a copy of a file, and what it says on standard error."""
+    with tempfile.TemporaryDirectory() as folder:
+        with open(f"{folder}/journal.bin", "wb") as copy:
+            copy.write(data)
+        words = [program, "serve", "--journal"]
+        ran = subprocess.run(words, cwd=folder, stdin=subprocess.DEVNULL, stdout=subprocess.DEVNULL, stderr=subprocess.PIPE, check=False)
+        return ran.returncode, ran.stderr.decode("utf-8", "replace").strip()
+
+
+def try_records(data, program, out):
+    """Says whether a server accepts all records, and returns the status."""
+    try:
+        status, said = ending_over(data, program)
+    except OSError as why:  # a full disk, say
+        status, said = None, why
+    if status == 0:
+        print("a server accepts all records", file=out)
+        return 0
+    if status == 13:
+        print(f"a server doesn't accept all records; a start ends with status 13, {said}", file=out)
+    else:
+        print(f"not known whether a server accepts all records: {said}", file=out)
+    return 1
+
+
+def look(data, out, program=None):
     """Writes the list, and returns the status."""
     if len(data) <= 1:
         print("no records: a start makes a new journal of this file", file=out)
@@ -82,9 +111,9 @@ def look(data, out):
     print(f"closed gate at {end}, {len(rest)} bytes behind it" + (", which a start cuts off" if rest else ""), file=out)
     if rest and not is_one_staged(rest):
         print("these are more than a record that was being written leaves: a gate may have become 00. Copy the file first.", file=out)
-        return 1
-    return 0
+    accepted = try_records(data[: end + 1], program, out) if program else 0
+    return 1 if accepted or rest and not is_one_staged(rest) else 0
 
 
 if __name__ == "__main__":
-    sys.exit(look(sys.stdin.buffer.read(), sys.stdout))
+    sys.exit(look(sys.stdin.buffer.read(), sys.stdout, *sys.argv[1:]))

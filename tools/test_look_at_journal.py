@@ -1,6 +1,8 @@
 #!/usr/bin/env python3
 """Tests look_at_journal.py without the program, over the worked journal of docs/formats.md. Usage: tools/test_look_at_journal.py"""
 import io
+import os
+import tempfile
 import unittest
 
 from look_at_journal import look
@@ -18,11 +20,21 @@ def framed(*frames):
     return len(entry).to_bytes(8, "big") + entry
 
 
-def seen(data):
+def seen(data, program=None):
     """The list of a file, and the status."""
     out = io.StringIO()
-    status = look(data, out)
+    status = look(data, out, program)
     return out.getvalue(), status
+
+
+def seen_by(ending, data):
+    """The last line of the list, and the status, where the program is a script that ends so, over a copy of some bytes."""
+    with tempfile.TemporaryDirectory() as folder:
+        with open(f"{folder}/server", "w", encoding="ascii") as file:
+            file.write(f"#!/bin/sh\n[ \"$*\" = 'serve --journal' ] && [ $(wc -c <journal.bin) = {len(data)} ] && {ending}\n")
+        os.chmod(f"{folder}/server", 0o700)
+        said, status = seen(data, f"{folder}/server")
+    return said.splitlines()[-1], status
 
 
 class Tests(unittest.TestCase):
@@ -62,6 +74,14 @@ class Tests(unittest.TestCase):
         said, status = seen(b"\1" + RECORD + b"\0" + framed(INSERT) + b"\1" + RECORD + b"\0")
         self.assertIn("a gate may have become 00", said)
         self.assertEqual(status, 1)
+
+    def test_a_server_is_tried_over_a_copy(self):
+        data = b"\1" + RECORD + b"\0"
+        self.assertEqual(seen_by("exit 0", data), ("a server accepts all records", 0))
+        said = "a server doesn't accept all records; a start ends with status 13, ae: bad journal at 0"
+        self.assertEqual(seen_by("echo 'ae: bad journal at 0' >&2 && exit 13", data), (said, 1))
+        said = "not known whether a server accepts all records: ae: out of memory"
+        self.assertEqual(seen_by("echo 'ae: out of memory' >&2 && exit 5", data), (said, 1))
 
 
 if __name__ == "__main__":

@@ -1,14 +1,17 @@
 """Tries the care of a journal, as tools/attacks/care.sh says. Usage: care.py PROGRAM COPIES, in an empty folder."""
 import os
+import random
 import shutil
+import signal
 import subprocess
 import sys
 
 from wire import execute, frames_in, is_last, numbers_in
 
 program, copies = os.path.abspath(sys.argv[1]), int(sys.argv[2])
+rng = random.Random(1)
 WORDS = [program, "serve", "--journal"]
-LOAD = 50  # INSERTs between two copies
+LOAD = 50  # INSERTs between two copies, or two starts
 
 
 class Server:
@@ -31,6 +34,11 @@ class Server:
             found.append(self.reply())
             left -= is_last(found[-1])
         return found
+
+    def load(self, first):
+        """Gives INSERTs of some numbers, and waits for no answer."""
+        self.run.stdin.write(b"".join(execute(f"INSERT INTO t (a) VALUES ({first + it})", 1) for it in range(LOAD)))
+        self.run.stdin.flush()
 
     def define(self):
         """Makes the table."""
@@ -72,8 +80,7 @@ print("two servers over one journal: the second ended with status 14, and the fi
 running, asked, found = Server(), 1, []
 os.mkdir("copy")
 for _ in range(copies):
-    running.run.stdin.write(b"".join(execute(f"INSERT INTO t (a) VALUES ({asked + it})", 1) for it in range(LOAD)))
-    running.run.stdin.flush()
+    running.load(asked)
     shutil.copyfile("journal.bin", "copy/journal.bin")
     rows = rows_of("copy")
     assert rows == list(range(len(rows))) and asked <= len(rows) <= asked + LOAD, f"a copy has {len(rows)} rows at {asked}"
@@ -83,6 +90,36 @@ for _ in range(copies):
     asked += LOAD
 assert running.end()[0] == 0 and rows_of(".") == list(range(asked)), "rows were lost"
 print(f"{copies} copies of a running journal: each started, with {min(found)} to {max(found)} of {LOAD} changes under way")
+
+# A supervisor starts the next server at once, while one that was told to end still has the journal, and again until it serves.
+def started(rows):
+    """Starts servers until one answers, which has at least so many rows. Returns it, its rows and how many have ended."""
+    ended = 0
+    while True:
+        server = Server()
+        try:
+            found = numbers_in(server.ask("SELECT a FROM t"))
+        except (BrokenPipeError, IndexError):  # it has ended, and answered nothing
+            status, said = server.run.wait(), server.run.stderr.read().decode()
+            assert status == 14 and "another server ha" in said, (status, said)
+            ended += 1
+            continue
+        assert found == list(range(len(found))) and rows <= len(found), f"{len(found)} rows of {rows} that were answered"
+        return server, len(found), ended
+
+
+running, rows, refused = started(asked)
+for _ in range(copies):
+    running.load(rows)
+    old, killed = running, rng.choice([signal.SIGKILL, signal.SIGTERM])
+    subprocess.Popen(["sh", "-c", f"sleep {rng.uniform(0, 1):.3f}; kill -{killed:d} {old.run.pid}"])
+    running, found, ended = started(rows)
+    refused += ended
+    answered = sum(is_last(it) for it in frames_in(old.run.stdout.read()))
+    assert rows + answered <= found <= rows + LOAD, f"{found} rows of {rows}, and {answered} of {LOAD} more were answered"
+    rows = found
+assert running.end()[0] == 0 and rows_of(".") == list(range(rows)), "rows were lost"
+print(f"{copies} servers that a supervisor replaced: nothing was lost, {refused} were started too early and ended with status 14")
 
 # What is no journal.
 os.mkdir("linked")

@@ -1,5 +1,5 @@
-"""Refuses each request for memory in turn, as tools/attacks/no_memory.sh says. Usage: no_memory.py PROGRAM SCRIPT, in a folder with keys/,
-refuse.so, requests.bin and replies.bin."""
+"""Refuses each request for memory in turn, as tools/attacks/no_memory.sh says. Usage: no_memory.py PROGRAM SCRIPT [COMPACT], in a folder
+with keys/, refuse.so, requests.bin and replies.bin."""
 import os
 import subprocess
 import sys
@@ -21,7 +21,34 @@ def left_by(program, word, script, refused):
         return ran.returncode, ran.stdout, marks.read() != b""
 
 
-def main(program, script):
+def read(path):
+    with open(path, "rb") as file:
+        return file.read()
+
+
+def compact(program, compaction):
+    """A compaction over the journal of the requests, which stays where memory is refused."""
+    if left_by(program, "serve --journal", "requests.bin", 0)[0] != 0:
+        sys.exit("serve --journal: another status than 0 with all its memory")
+    old, refused, same, ended = read("journal.bin"), 1, 0, 0
+    if left_by(compaction, "", "requests.bin", 0)[0] != 0:
+        sys.exit("compact: another status than 0 with all its memory")
+    new = read("journal.bin")
+    while True:
+        with open("journal.bin", "wb") as file:
+            file.write(old)
+        status, _, was_refused = left_by(compaction, "", "requests.bin", refused)
+        if not was_refused:
+            break
+        if (status, read("journal.bin")) not in ((0, new), (5, old)) or os.path.exists("journal.new"):
+            sys.exit(f"compact: status {status} where request {refused} is refused, and another file")
+        same, ended, refused = same + (status == 0), ended + (status == 5), refused + 1
+    print(f"compact: {refused - 1} requests for memory; status 5: {ended}, the whole: {same}", flush=True)
+
+
+def main(program, script, compaction=None):
+    if compaction:
+        compact(program, compaction)
     for word in ("run", "check", "drive", "serve"):
         source = "requests.bin" if word == "serve" else script
         status, whole, _ = left_by(program, word, source, 0)
@@ -42,4 +69,4 @@ def main(program, script):
         print(f"{word}: {refused - 1} requests for memory; status 5: {ended}, the whole: {same}", flush=True)
 
 
-main(sys.argv[1], sys.argv[2])
+main(*sys.argv[1:])
