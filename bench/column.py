@@ -3,7 +3,9 @@ import hashlib
 import hmac
 
 from cryptography.hazmat.primitives.ciphers import Cipher, algorithms, modes
+from cryptography.hazmat.primitives.keywrap import aes_key_unwrap
 
+WRAPPED = "220c697988644e355dd40228bdd25f9b9d4c66402a54b592cd1a9f896ebe365b7de76170401d9ef2"
 LABEL = "Microsoft SQL Server cell %s key with encryption algorithm:AEAD_AES_256_CBC_HMAC_SHA256 and key length:256"
 
 
@@ -31,3 +33,9 @@ class Column:
         cipher = Cipher(algorithms.AES(self.enc), modes.CBC(iv)).decryptor()
         data = cipher.update(body) + cipher.finalize()
         return data[: -data[-1]]
+
+
+def column_of(path):
+    """A column under the first column key of the example payroll, whose master key is in a file."""
+    with open(path, encoding="ascii") as it:
+        return Column(aes_key_unwrap(bytes.fromhex(it.read()), bytes.fromhex(WRAPPED)))

@@ -8,10 +8,7 @@ import sqlite3
 import sys
 import time
 
-from column import Column
-from cryptography.hazmat.primitives.keywrap import aes_key_unwrap
-
-WRAPPED = "220c697988644e355dd40228bdd25f9b9d4c66402a54b592cd1a9f896ebe365b7de76170401d9ef2"
+from column import column_of
 
 
 def steps(column, count):
@@ -31,9 +28,7 @@ def steps(column, count):
 
 def main():
     path, few, many, groups = sys.argv[1:]
-    with open(path, encoding="ascii") as it:
-        master = bytes.fromhex(it.read())
-    column = Column(aes_key_unwrap(master, bytes.fromhex(WRAPPED)))
+    column = column_of(path)
     took = []
     for count in (int(few), int(many)):
         least = None

@@ -1,11 +1,20 @@
 """Frames of requests and replies, as docs/formats.md spells them, for the scripts of this folder and of tools/attacks."""
 
 
-def execute(text, version, session=1):
-    """The frame of a request to execute a text without parameters."""
+def execute(text, version, session=1, parameters=b"\0"):
+    """The frame of a request to execute a text, without parameters if none are given."""
     said = text.encode()
-    body = session.to_bytes(2, "big") + version.to_bytes(8, "big") + len(said).to_bytes(4, "big") + said + b"\0"
+    body = session.to_bytes(2, "big") + version.to_bytes(8, "big") + len(said).to_bytes(4, "big") + said + parameters
     return b"\1\2" + len(body).to_bytes(4, "big") + body
+
+
+def sealed(cells):
+    """Parameters @c0, @c1 and so on of the type BIGINT, with these cells of the first column key, deterministic ones."""
+    parts = [len(cells).to_bytes(1, "big")]
+    for number, cell in enumerate(cells):
+        name = f"c{number}".encode()
+        parts.append(len(name).to_bytes(2, "big") + name + b"\2\1\0\0\0\1\4" + len(cell).to_bytes(2, "big") + cell)
+    return b"".join(parts)
 
 
 def record(*frames):
