@@ -2,11 +2,13 @@
 # Runs each example with the program, in a copy of its folder, and compares what it prints with the stored text. An
 # example with a file replies.bin is driven over it; of one with a file listing the recording is listed, too. The days
 # of two_machines are run over one journal. Also compares each script that is run with its copy among the scripts of
-# the gate. Prints a line for each example; ends with status 1 if one differs.
+# the gate, and its text with what the gate wants of that copy. Prints a line for each example; ends with status 1 if
+# one differs.
 # Usage: tools/compare_examples.sh [PROGRAM], which is ./ae if it is left out; with - for PROGRAM nothing is run.
 set -u
 top=$(CDPATH="" cd -- "$(dirname -- "$0")/.." && pwd) || exit 1
 program=${1:-$top/ae}
+tests=$top/crates/script_tests
 folder=$(mktemp -d) || exit 1
 trap 'rm -rf "$folder"' EXIT
 differ=0
@@ -24,8 +26,10 @@ for script in "$top"/examples/*/script.sql "$top"/examples/*/*/script.sql; do
     if [ -f "$example/replies.bin" ]; then
         command=drive
     else
-        gate=$top/crates/script_tests/data/$(echo "$name" | tr - _).sql
-        cmp -s "$script" "$gate" || says "the script differs from ${gate#"$top/"}"
+        copy=$(echo "$name" | tr - _).sql
+        cmp -s "$script" "$tests/data/$copy" || says "the script differs from its copy in script_tests"
+        awk -v head="== $copy" '$0 == head { on = 1; next } on && /^status [0-9]+$/ { exit } on' "$tests/stdout" |
+            cmp -s - "$example/text" || says "the text differs from that of its copy in script_tests"
     fi
     if [ "$program" != - ]; then
         rm -rf "$folder/at" && cp -r "$example" "$folder/at"
