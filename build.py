@@ -1,12 +1,12 @@
 #!/usr/bin/env python3
 """Proves and builds a program and every crate below it, side by side on all processors.
 
-Usage: build.py TOP PROGRAM NAME [WORD ..], where TOP/crates.txt lists the crates. TOP/built gets the program under this name, a
-stamp with the toolchain's version, and the logs. The folders of the crates belong to `rt`.
+Usage: build.py TOP PROGRAM NAME [WORD ..], where TOP/crates.txt lists the crates. TOP/built gets the program under
+this name, a stamp with the toolchain's version, and the logs. The folders of the crates belong to `rt`.
 With words, it shows meanwhile what an unproved trial run of the program on these words prints for standard input.
-The gate's command (`rt ci`) proves the crates. It keeps what is proved beside the kit, and gives what any checkout on this machine
-has proved. Where nothing can be kept there, each crate is built by `rt lib` as soon as those that it uses are built, the longest
-chain first, and kept in the checkout. So an interrupted build resumes where it stopped.
+The gate's command (`rt ci`) proves the crates. It keeps what is proved beside the kit, and gives what any checkout on
+this machine has proved. Where nothing can be kept there, each crate is built by `rt lib` as soon as those that it uses
+are built, the longest chain first, and kept in the checkout. So an interrupted build resumes where it stopped.
 On a terminal one line tells how far it is; in a log there is a line for each crate.
 """
 import os
@@ -18,20 +18,19 @@ import sys
 import tempfile
 import time
 
-# Processor seconds of each proof, as measured; a crate that is not listed counts as OTHER. They serve the time left and the order
-# alone.
+# Processor seconds of each proof, as measured; a crate that is not listed counts as OTHER. They serve the time left and
+# the order alone.
 SECONDS = {
-    "ae_base": 141, "ae_cli": 200, "ae_edge": 91, "aes_block": 120, "catalog": 95, "cell_codec": 33, "check_command": 70,
-    "command_words": 103, "conversation": 36, "disk": 63, "drive_command": 100, "driver": 198, "enc_types": 61, "engine": 169,
-    "expression_binding": 78, "frame_feed": 48, "indexed_tables": 95, "inference": 58, "journal_command": 111,
-    "journal_core": 40, "key_index": 92, "key_store": 40, "hash_joins": 121, "lookups": 60, "operators": 107, "outcome_text": 59,
-    "executor": 150, "planner": 76, "query_results": 75, "resolve": 225, "row_changes": 120, "row_lookups": 90, "row_store": 68,
-    "run_command": 80,
-    "scalar": 99, "script_lang": 100, "script_run": 127, "semantic_checks": 87, "serve_command": 62, "server_core": 121,
+    "ae_base": 141, "ae_cli": 200, "ae_edge": 91, "aes_block": 120, "catalog": 95, "cell_codec": 33,
+    "check_command": 70, "command_words": 103, "conversation": 36, "disk": 63, "drive_command": 100, "driver": 198,
+    "enc_types": 61, "engine": 169, "executor": 150, "expression_binding": 78, "frame_feed": 48, "hash_joins": 121,
+    "indexed_tables": 95, "inference": 58, "journal_command": 111, "journal_core": 40, "key_index": 92,
+    "key_store": 40, "lookups": 60, "operators": 107, "outcome_text": 59, "planner": 76, "query_results": 75,
+    "resolve": 225, "row_changes": 120, "row_lookups": 90, "row_store": 68, "run_command": 80, "scalar": 99,
+    "script_lang": 100, "script_run": 127, "semantic_checks": 87, "serve_command": 62, "server_core": 121,
     "sql_ddl": 112, "sql_expressions": 152, "sql_parse": 137, "sql_tree": 108, "statement_analysis": 93,
-    "table_changes": 95, "transactions": 203,
-    "unique_keys": 61, "value_norm": 36, "wire_bodies": 83, "wire_messages": 87, "wire_parts": 65, "wire_payloads": 33,
-    "wire_decoding": 89, "wire_encoding": 134,
+    "table_changes": 95, "transactions": 203, "unique_keys": 61, "value_norm": 36, "wire_bodies": 83,
+    "wire_decoding": 89, "wire_encoding": 134, "wire_messages": 87, "wire_parts": 65, "wire_payloads": 33,
 }
 OTHER = 18
 MEMORY = 2 << 30  # bytes that a proof may take; few take more
@@ -54,7 +53,7 @@ class Crate:
 
 
 def start(verb, folder, path):
-    """Starts a command of `rt` in a folder, with what it says in a log, at a lower priority: the preview comes first."""
+    """Starts a command of `rt` in a folder, with a log, at a lower priority: the preview comes first."""
     os.makedirs(os.path.dirname(path), exist_ok=True)
     with open(path, "wb") as log:
         return subprocess.Popen(
@@ -125,7 +124,8 @@ class Preview:
         self.said.seek(0)
         said = self.said.readlines()[1:]  # the first line is the launcher's
         if not any(line.startswith("run=ended") for line in said):
-            print(f"ae: no preview, since the trial run gave no answer: {said[-1].strip() if said else ''}", file=sys.stderr)
+            last = said[-1].strip() if said else ""
+            print(f"ae: no preview, since the trial run gave no answer: {last}", file=sys.stderr)
             return
         print("ae: UNPROVED PREVIEW of the output:", file=sys.stderr)
         for line in [*(it for it in said if it.startswith("ae: ")), *self.text]:
@@ -213,7 +213,10 @@ def take(program, made):
 
 
 def build_by_gate(top, crates, program, preview, made):
-    """Proves the crates by the gate's command, over a copy without wrong bodies. Raises Failed if that ends before the program."""
+    """Proves the crates by the gate's command, over a copy without wrong bodies.
+
+    Raises Failed if that ends before the program.
+    """
     log = crates[program].log
     room = tempfile.mkdtemp(prefix="ae-build-")
     copy_crates(top, crates, room)

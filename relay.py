@@ -1,7 +1,8 @@
 """The relay of `ae over` and `ae shell`: hands whole frames on between a client here and a server that a command starts.
 
-The client is `PROGRAM drive --frames 2`, in a private folder whose files tap.bin and replies.bin are named pipes. The relay is
-trusted with bytes alone: it knows the lengths and kinds of frames, no key and no cell, and the client checks every reply.
+The client is `PROGRAM drive --frames 2`, in a private folder whose files tap.bin and replies.bin are named pipes. The
+relay is trusted with bytes alone: it knows the lengths and kinds of frames, no key and no cell, and the client checks
+every reply.
 """
 import ctypes
 import os
@@ -72,8 +73,9 @@ class Server:
         return self.answer(gone)
 
     def answer(self, gone=None):
-        """Gives what is still to come of the last answer: to a Describe one reply, to an Execute all up to Done or Refused. It is
-        less where the server ends before, or the process whose pipe `gone` is."""
+        """Gives what is still to come of the last answer: to a Describe one reply, to an Execute all up to Done or Refused.
+
+        It is less where the server ends before, or the process whose pipe `gone` is."""
         while self.asked and (reply := self.replies.next(gone)):
             if self.asked[1] == DESCRIBE or reply[1] in (DONE, REFUSED):
                 self.asked = None

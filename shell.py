@@ -2,8 +2,8 @@
 
 Usage: shell.py PROGRAM COMMAND ..
 
-Lines are read until GO. Each batch is then a client's run over the one server (relay.py), in the session and with the trusted paths
-that were named before. Nothing that is typed is kept in a file.
+Lines are read until GO. Each batch is then a client's run over the one server (relay.py), in the session and with the
+trusted paths that were named before. Nothing that is typed is kept in a file.
 """
 import io
 import itertools
@@ -41,7 +41,7 @@ HEAD = re.compile(r"[ \t]*(--|$)")  # a line that may stand between batches
 
 
 def whole_lines(lines):
-    """Gives the lines of an answer without their ends: that of the titles, then each row, whose texts may have line ends."""
+    """Gives the lines of an answer without their ends: the titles, then each row, whose texts may have line ends."""
     row = ""
     for at, line in enumerate(lines):
         row += line
