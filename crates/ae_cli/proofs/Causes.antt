@@ -4,17 +4,21 @@ use Rattle.std.specs.Prelude.{IsTrue}
 use Rattle.ae_base.specs.declared.frames.FrameVersion.{FrameVersion}
 use Rattle.ae_edge.specs.Devices.{Rose}
 use Rattle.command_words.specs.declared.commands.Command.TheVariants as command
+use Rattle.check_command.specs.Ends.{CountsChecked, read_by}
 use Rattle.check_command.specs.declared.steps.Checked.{Checked}
 use Rattle.check_command.specs.declared.steps.Checked.TheVariants as checked
+use Rattle.gen_command.specs.Generating.{PutsScript}
 use Rattle.gen_command.specs.declared.commands.Generated.{Generated}
 use Rattle.gen_command.specs.declared.commands.Generated.TheVariants as generated
 use Rattle.journal_command.specs.declared.endings.Ended.{Ended}
 use Rattle.journal_command.specs.declared.endings.Ended.TheVariants as ended
 use Rattle.serve_command.specs.declared.commands.Served.{Served}
 use Rattle.serve_command.specs.declared.commands.Served.TheVariants as served
+use Rattle.wrap_command.specs.Wrapping.{CountsInput, Makes}
 use Rattle.wrap_command.specs.declared.commands.Wrapped.{Wrapped}
 use Rattle.wrap_command.specs.declared.commands.Wrapped.TheVariants as wrapped
 use Rattle.run_effects.specs.declared.stops.Stop.TheVariants as stop
+use Rattle.script_source.specs.Scripts.{CountsScript}
 use Rattle.script_source.specs.declared.Unread.TheVariants as unread
 use Rattle.script_run.specs.declared.runs.Ran.{Ran}
 use Rattle.script_run.specs.declared.runs.Ran.TheVariants as ran
@@ -69,12 +73,12 @@ module _ (old new : Seen) where
   drive_caused version (ran.Unread (unread.BadLine line)) s l w e v = tt
   drive_caused version (ran.Unread unread.OutOfMemory) s l w e v = tt
 
-  pub check_caused : (c : Checked) → (c ≡ checked.ReadFault → Rose old.script.faults new.script.faults) → (c ≡ checked.WriteFault → Rose old.out.faults new.out.faults)
-      → IsCaused (uses (Some command.Check)) (status_of_checking c) old new
+  pub check_caused : (c : Checked) → CountsScript (read_by c) old.script.faults new.script.faults
+      → CountsChecked c old.out.faults new.out.faults → IsCaused (uses (Some command.Check)) (status_of_checking c) old new
   check_caused checked.Done s w = tt
   check_caused checked.Refusals s w = tt
-  check_caused checked.ReadFault s w = inl (refl, s refl)
-  check_caused checked.WriteFault s w = inl (refl, w refl)
+  check_caused checked.ReadFault s w = inl (refl, s)
+  check_caused checked.WriteFault s w = inl (refl, w)
   check_caused checked.OutOfMemory s w = tt
   check_caused (checked.BadLine line) s w = tt
   check_caused checked.TooLong s w = tt
@@ -100,21 +104,21 @@ module _ (old new : Seen) where
   journal_caused (ended.Damaged place) s w d = tt
   journal_caused ended.JournalFull s w d = tt
 
-  pub wrap_caused : (path : List ℕ) (r : Wrapped) → (r ≡ wrapped.ReadFault → Rose old.script.faults new.script.faults) → (r ≡ wrapped.VaultFault → Rose old.vault.faults new.vault.faults)
-      → (r ≡ wrapped.WriteFault → Rose old.out.faults new.out.faults) → IsCaused (uses (Some (command.Wrap path))) (status_of_wrapping path r) old new
-  wrap_caused path wrapped.Done s v w = tt
-  wrap_caused path wrapped.ReadFault s v w = inl (refl, s refl)
-  wrap_caused path wrapped.WriteFault s v w = inl (refl, w refl)
-  wrap_caused path wrapped.OutOfMemory s v w = tt
-  wrap_caused path wrapped.VaultFault s v w = (refl, v refl)
-  wrap_caused path wrapped.BadLine s v w = tt
-  wrap_caused path wrapped.TooLong s v w = tt
-  wrap_caused path wrapped.NoMasterKey s v w = tt
+  pub wrap_caused : (path : List ℕ) (r : Wrapped) (bytes : List ℕ) → CountsInput r old.script.faults new.script.faults → Makes r path bytes old.vault new.vault old.out new.out
+      → IsCaused (uses (Some (command.Wrap path))) (status_of_wrapping path r) old new
+  wrap_caused path wrapped.Done bytes s m = tt
+  wrap_caused path wrapped.ReadFault bytes s m = inl (refl, s)
+  wrap_caused path wrapped.WriteFault bytes s m = inl (refl, m.3.counts)
+  wrap_caused path wrapped.OutOfMemory bytes s m = tt
+  wrap_caused path wrapped.VaultFault bytes s m = (refl, m.1.counts)
+  wrap_caused path wrapped.BadLine bytes s m = tt
+  wrap_caused path wrapped.TooLong bytes s m = tt
+  wrap_caused path wrapped.NoMasterKey bytes s m = tt
 
-  pub gen_caused : (size : ℕ) (r : Generated) → (r ≡ generated.WriteFault → Rose old.out.faults new.out.faults) → IsCaused (uses (Some (command.Gen size))) (status_of_generating r) old new
-  gen_caused size generated.Done w = tt
-  gen_caused size generated.WriteFault w = inl (refl, w refl)
-  gen_caused size generated.OutOfMemory w = tt
+  pub gen_caused : (size : ℕ) (r : Generated) → PutsScript r size old.out new.out → IsCaused (uses (Some (command.Gen size))) (status_of_generating r) old new
+  gen_caused size generated.Done p = tt
+  gen_caused size generated.WriteFault p = inl (refl, p.counts)
+  gen_caused size generated.OutOfMemory p = tt
 
 -- that status comes of no other end
 pub bad_reply : (r : Ran) (place : ℕ) → status_of r ≡ status.BadReply place → r ≡ ran.Stopped (stop.BadReply place)

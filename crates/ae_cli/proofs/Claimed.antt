@@ -156,9 +156,9 @@ module _ (version : FrameVersion) (keys : KeyMap) (steps : List Step) (old new :
   -- its output and its tap are as they were, and no byte was drawn
   untouched : (end : Status) → IsStop end old new → run_devices version new ≡ run_devices version old → Ends end
   untouched end cause e =
-      let out : new.out.content ≡ old.out.content = ap (λ (x : RunDevices). x.out) e in
-      let entropy : new.entropy.content ≡ old.entropy.content = ap (λ (x : RunDevices). x.entropy) e in
-      let tap : new.tap.content ≡ old.tap.content = ap (λ (x : RunDevices). x.tap) e in
+      let out : new.out.content ≡ old.out.content = ap (λ (x : RunDevices). x.out.content) e in
+      let entropy : new.entropy.content ≡ old.entropy.content = ap (λ (x : RunDevices). x.entropy.content) e in
+      let tap : new.tap.content ≡ old.tap.content = ap (λ (x : RunDevices). x.tap.content) e in
       inr (record {
         cause = cause;
         text = subst (λ x. AddsPrefix (print (meaning keys steps)) old.out.content x) (sym out) (adds_front_none (print (meaning keys steps)) old.out.content);
@@ -198,11 +198,12 @@ module _ (version : FrameVersion) (keys : KeyMap) (steps : List Step) (old new :
       → (bytes : List ℕ) → old.script.content ≡ Some bytes → IsScript bytes steps → old.vault.content ≡ Some keys → Alike keys steps → Ends end
   asked_so words end did state bytes told script keys_told alike =
       let d = did.0.run in
-      let is : d.bytes ≡ bytes = subst (λ o. IfSome o (λ left. d.bytes ≡ left)) told d.told in
-      let s : IsScript d.bytes steps = subst (λ bs. IsScript bs steps) (sym is) script in
-      let r : IsRunOf d.how d.bytes (run_devices version old) (run_devices version new) = d.did in
+      let read = d.reads in
+      let is : read.bytes ≡ bytes = subst (λ o. IfSome o (λ left. read.bytes ≡ left)) told read.told in
+      let s : IsScript read.bytes steps = subst (λ bs. IsScript bs steps) (sym is) script in
+      let r : IsRunOf d.how read.bytes (run_devices version old) (run_devices version new) = read.holds in
       subst Ends (sym d.ends)
-      (ends_so d.how r.count d.bytes r.content (r.complete state steps s) (r.plain state steps s keys keys_told alike) (r.transcript state steps s keys keys_told)
+      (ends_so d.how r.count read.bytes r.content (r.complete state steps s) (r.plain state steps s keys keys_told alike) (r.transcript state steps s keys keys_told)
       (subst (λ x. IsCaused (uses (Some (command.Run false version))) x old new) d.ends did.1))
 
   does_so : (words : List (List ℕ)) → command_in words ≡ Some (command.Run false version) → (end : Status) → Does words end old new → old.peer.state ≡ Some empty_state

@@ -1,12 +1,13 @@
 -- What the words of a command line do.
-use Rattle.std.specs.Prelude.{◌≡◌, ◌≢◌, ◌⊎◌, ℕ, List, Option, Some, None, IfSome, IsTrue, Bool, true, false, take}
-use Rattle.ae_edge.specs.Devices.{Rose, WhereExposed}
+use Rattle.std.specs.Prelude.{◌≡◌, ◌≢◌, ◌⊎◌, ℕ, List, Option, Some, None, IsTrue, Bool, true, false, take}
+use Rattle.ae_edge.specs.Devices.{Calls, Device, Rose, WhereExposed}
+use Rattle.ae_edge.specs.Streams.{Reads}
 use Rattle.command_words.specs.Words.{are_taken, command_in}
 use Rattle.command_words.specs.declared.commands.Command.{Command}
 use Rattle.command_words.specs.declared.commands.Command.TheVariants as command
 use Rattle.server_core.specs.Serve.{State, empty_state}
 use Rattle.wire_frames.specs.Frames.{End}
-use Rattle.script_source.specs.Scripts.{TakesScript}
+use Rattle.script_source.specs.Scripts.{CountsScript, TakesScript}
 use Rattle.script_run.specs.declared.runs.Ran.{Ran}
 use Rattle.script_run.specs.declared.status.Status.{Status}
 use Rattle.script_run.specs.declared.status.Status.TheVariants as status
@@ -15,12 +16,12 @@ use Rattle.run_command.specs.RunOf.{IsRunOf}
 use Rattle.run_command.specs.SummaryOf.{IsSummaryOf}
 use Rattle.drive_command.specs.DriveOf.{IsDriveOf}
 use Rattle.check_command.specs.Ends as checks
-use Rattle.check_command.specs.Ends.{ChecksScript}
+use Rattle.check_command.specs.Ends.{ChecksScript, CountsChecked}
 use Rattle.serve_command.specs.ServeAll.{ServeAll}
 use Rattle.serve_command.specs.Serving.{IsServed, ServesStream, most_stream_bytes}
 use Rattle.serve_command.specs.declared.commands.Served.{Served}
 use Rattle.wrap_command.specs.Wrapping as wraps
-use Rattle.wrap_command.specs.Wrapping.{Wraps}
+use Rattle.wrap_command.specs.Wrapping.{Makes}
 use Rattle.journal_command.specs.Exact.{ServesExactly}
 use Rattle.journal_command.specs.Journaling.{ServesJournal}
 use Rattle.journal_command.specs.Servable.{IsntDamaged, StaysServable}
@@ -28,22 +29,20 @@ use Rattle.journal_command.specs.declared.endings.Ended.{Ended}
 use Rattle.gen_command.specs.Generating.{PutsScript}
 use Rattle.gen_command.specs.declared.commands.Generated.{Generated}
 use Rattle.ae_cli.specs.Endings.{status_of, status_of_checking, status_of_generating, status_of_journaling, status_of_serving, status_of_wrapping}
-use Rattle.ae_cli.specs.Seen.{Device, Seen, drive_devices, run_devices, wrap_devices}
+use Rattle.ae_cli.specs.Seen.{Seen, drive_devices, run_devices}
 
 -- ---- what a command did, by how it ended
 
--- It read a script and did this with some bytes: the script's, if it exposes them. So much of them was taken.
-pub record DidScript {How : Type 0} (status_by : How → Status) (Did : How → List ℕ → Type 0) (Takes : How → List ℕ → List ℕ → Type 0) (end : Status) (old new : Seen) : Type 0 where
+-- It read a script and did this with some bytes: the script's, if it exposes them. So much of them was taken, and so many calls failed.
+pub record DidScript {How : Type 0} (status_by : How → Status) (Did : How → List ℕ → Type 0)
+    (Takes : How → List ℕ → List ℕ → Type 0) (Counts : How → ℕ → ℕ → Type 0) (end : Status) (old new : Seen) : Type 0 where
   pub how : How
   pub ends : end ≡ status_by how
-  pub bytes : List ℕ
-  pub told : IfSome old.script.content (λ left. bytes ≡ left)
-  pub did : Did how bytes
-  pub taken : WhereExposed (Takes how) old.script.content new.script.content
+  pub reads : Reads (Did how) (Takes how) (Counts how) old.script new.script
 
 -- It ran a script. Over a peer that serves from the empty state no reply stopped it, whatever the devices expose.
 pub record DidRun (Did : Ran → List ℕ → Type 0) (end : Status) (old new : Seen) : Type 0 where
-  pub run : DidScript status_of Did (λ ran. TakesScript (runs.read_by ran)) end old new
+  pub run : DidScript status_of Did (λ ran. TakesScript (runs.read_by ran)) (λ ran. CountsScript (runs.read_by ran)) end old new
   pub awaited : old.peer.state ≡ Some empty_state → (place : ℕ) → end ≢ status.BadReply place
 
 -- It served requests: what was taken of the script, and what was written for it; and that transactions took effect one after another. If
@@ -71,15 +70,16 @@ pub record DidServeJournal (end : Status) (old new : Seen) : Type 0 where
 pub record DidGen (size : ℕ) (end : Status) (old new : Seen) : Type 0 where
   pub how : Generated
   pub ends : end ≡ status_of_generating how
-  pub puts : PutsScript how size old.out.content new.out.content
+  pub puts : PutsScript how size old.out new.out
 
 abbrev pub Did : Command → Status → Seen → Seen → Type 0
 Did (command.Run false version) end old new = DidRun (λ ran bytes. IsRunOf ran bytes (run_devices version old) (run_devices version new)) end old new
 Did (command.Run true version) end old new = DidRun (λ ran bytes. IsSummaryOf ran bytes (run_devices version old) (run_devices version new)) end old new
 Did (command.Drive version) end old new = DidScript status_of (λ ran bytes. IsDriveOf ran bytes (drive_devices version old) (drive_devices version new))
-    (λ ran. TakesScript (runs.read_by ran)) end old new
-Did command.Check end old new = DidScript status_of_checking (λ checked bytes. ChecksScript checked bytes old.out.content new.out.content) (λ checked. TakesScript (checks.read_by checked)) end old new
-Did (command.Wrap path) end old new = DidScript (status_of_wrapping path) (λ wrapped bytes. Wraps wrapped path bytes (wrap_devices old) (wrap_devices new)) wraps.Takes end old new
+    (λ ran. TakesScript (runs.read_by ran)) (λ ran. CountsScript (runs.read_by ran)) end old new
+Did command.Check end old new = DidScript status_of_checking (λ checked bytes. Calls (ChecksScript checked bytes) (CountsChecked checked) old.out new.out)
+    (λ checked. TakesScript (checks.read_by checked)) (λ checked. CountsScript (checks.read_by checked)) end old new
+Did (command.Wrap path) end old new = DidScript (status_of_wrapping path) (λ wrapped bytes. Makes wrapped path bytes old.vault new.vault old.out new.out) wraps.Takes wraps.CountsInput end old new
 Did (command.Serve false) end old new = DidServe end old new
 Did (command.Serve true) end old new = DidServeJournal end old new
 Did (command.Gen size) end old new = DidGen size end old new

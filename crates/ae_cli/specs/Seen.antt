@@ -1,21 +1,13 @@
 -- What is seen of all that the program is lent.
 use Rattle.std.specs.Prelude.{ℕ, Bool, List, Option}
 use Rattle.ae_base.specs.declared.frames.FrameVersion.{FrameVersion}
+use Rattle.ae_edge.specs.Devices.{Device}
 use Rattle.ae_edge.specs.Vaults.{KeyMap}
 use Rattle.disk.specs.Moments.{Moments}
 use Rattle.wire_messages.specs.Exchanges.{Exchange}
 use Rattle.server_core.specs.Serve.{State}
 use Rattle.run_command.specs.Ends.{RunDevices}
 use Rattle.drive_command.specs.Ends.{DriveDevices}
-use Rattle.wrap_command.specs.Wrapping.{WrapDevices}
-
--- of a device: its content, if it exposes that, and how many of its calls have failed
-pub record Device (A : Type 0) : Type 0 where
-  pub content : Option A
-  pub faults : ℕ
-
-abbrev pub seen : {D A : Type 0} → (D → Option A) → (D → ℕ) → D → Device A
-seen content faults device = record { content = content device; faults = faults device }
 
 -- of the peer: what it was asked and answered, and the state from which it serves, if it exposes them
 pub record PeerSeen : Type 0 where
@@ -39,33 +31,21 @@ pub record Seen : Type 0 where
 abbrev pub run_devices : FrameVersion → Seen → RunDevices
 run_devices version s = record {
   version = version;
-  out = s.out.content;
-  tap = s.tap.content;
-  entropy = s.entropy.content;
-  keys = s.vault.content;
+  out = s.out;
+  tap = s.tap;
+  entropy = s.entropy;
+  vault = s.vault;
   log = s.peer.log;
   state = s.peer.state;
-  out_faults = s.out.faults;
-  tap_faults = s.tap.faults;
-  entropy_faults = s.entropy.faults;
-  vault_faults = s.vault.faults;
 }
 
 abbrev pub drive_devices : FrameVersion → Seen → DriveDevices
 drive_devices version s = record {
   version = version;
-  out = s.out.content;
-  tap = s.tap.content;
+  out = s.out;
+  tap = s.tap;
   tap_closed = s.tap_closed;
-  entropy = s.entropy.content;
-  keys = s.vault.content;
-  replies = s.replies.content;
-  out_faults = s.out.faults;
-  tap_faults = s.tap.faults;
-  entropy_faults = s.entropy.faults;
-  vault_faults = s.vault.faults;
-  reply_faults = s.replies.faults;
+  entropy = s.entropy;
+  vault = s.vault;
+  replies = s.replies;
 }
-
-abbrev pub wrap_devices : Seen → WrapDevices
-wrap_devices s = record { keys = s.vault.content; vault_faults = s.vault.faults; out = s.out.content }

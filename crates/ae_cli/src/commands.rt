@@ -2,7 +2,6 @@
 
 ghost use Rattle.std.specs.Prelude.{◌≡◌, false};
 ghost use Rattle.ae_cli.specs.Does.{Does, uses};
-ghost use Rattle.ae_cli.specs.Seen.{seen};
 ghost use Rattle.command_words.specs.Words.{command_in};
 
 use crate::endings::{
@@ -66,26 +65,26 @@ pub fn ae_main<S: Source, V: Vault, E: Entropy, L: Source, W: Sink, T: Close, P:
     // what is seen of them before to what is seen of them after.
     ensures does { Does words.now result
         (record {
-          script = seen S.left S.faults script.old;
-          vault = seen V.keys V.faults vault.old;
-          entropy = seen E.to_come E.faults entropy.old;
-          replies = seen L.left L.faults replies.old;
-          out = seen W.held W.faults out.old;
-          tap = seen T.held T.faults tap.old;
+          script = S.seen script.old;
+          vault = V.seen vault.old;
+          entropy = E.seen entropy.old;
+          replies = L.seen replies.old;
+          out = W.seen out.old;
+          tap = T.seen tap.old;
           tap_closed = T.closed tap.old;
           peer = record { log = P.log peer.old; state = P.state peer.old };
-          disk = seen D.told D.faults disk.old;
+          disk = D.seen disk.old;
         })
         (record {
-          script = seen S.left S.faults script.new;
-          vault = seen V.keys V.faults vault.new;
-          entropy = seen E.to_come E.faults entropy.new;
-          replies = seen L.left L.faults replies.new;
-          out = seen W.held W.faults out.new;
-          tap = seen T.held T.faults tap.new;
+          script = S.seen script.new;
+          vault = V.seen vault.new;
+          entropy = E.seen entropy.new;
+          replies = L.seen replies.new;
+          out = W.seen out.new;
+          tap = T.seen tap.new;
           tap_closed = T.closed tap.new;
           peer = record { log = P.log peer.new; state = P.state peer.new };
-          disk = seen D.told D.faults disk.new;
+          disk = D.seen disk.new;
         }) }
     // A device that the command doesn't use is as it was, whatever it exposes.
     ensures script { (uses (command_in words.now)).script ≡ false → script.new ≡ script.old }

@@ -1,6 +1,6 @@
 //! The commands through the top call, over devices in memory.
 
-ghost use Rattle.std.specs.Prelude.{[], None};
+ghost use Rattle.ae_edge.specs.Devices.{silent};
 
 use crate::commands::ae_main;
 use ae_base::blobs::Blob;
@@ -50,11 +50,7 @@ struct Endless {
 }
 
 impl Source for Endless {
-    ghost left = { λ s. None };
-
-    ghost faults = { λ s. 0 };
-
-    ghost names = { λ s. [] };
+    ghost seen = { λ s. silent 0 };
 
     fn take(&mut self, alloc: Global, max: usize) -> Taken {
         if self.at >= self.bytes.len() {

@@ -5,5 +5,7 @@ pub use Rattle.ae_edge.proofs.Told.{adds_front_none, adds_front_then, adds_none,
 pub use Rattle.ae_edge.proofs.Told.{adds_then_front, front_behind, front_none, front_of, front_same}
 pub use Rattle.ae_edge.proofs.Told.{front_then, removes_none, removes_then, rose_before, told_map}
 pub use Rattle.ae_edge.proofs.Told.{told_same, told_then}
+-- A device of which nothing changed, and one call after another.
+pub use Rattle.ae_edge.proofs.Told.{calls_map, calls_none, calls_then, same_device}
 -- What a source had that was read to its end, or to more than the limit.
 pub use Rattle.ae_edge.proofs.Whole.{some_bytes, too_many_bytes, whole_bytes}

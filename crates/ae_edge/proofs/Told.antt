@@ -1,6 +1,6 @@
 -- One call after another, where contents are told; and how what is told grows.
-use Rattle.std.proofs.Common.{◌≡◌, ℕ, ◌≤◌, List, [], ◌++◌, Option, Some, None, refl, sym, ap, ◌∙◌, append_assoc, append-nil, arith}
-use Rattle.ae_edge.specs.Devices.{Rose, WhereExposed, IsPrefix, GrewByPrefix, Adds, AddsPrefix, Removes}
+use Rattle.std.proofs.Common.{◌≡◌, ℕ, ◌≤◌, List, [], ◌++◌, Option, Some, None, refl, sym, subst, ap, ◌∙◌, append_assoc, append-nil, arith}
+use Rattle.ae_edge.specs.Devices.{Calls, Device, Stays, Rose, WhereExposed, IsPrefix, GrewByPrefix, Adds, AddsPrefix, Removes}
 
 -- two calls in a row: what P and Q say of each gives what R says of both
 pub told_then : {T : Type 0} (P Q R : T → T → Type 0) → ((x y z : T) → P x y → Q y z → R x z) → (a b c : Option T) → WhereExposed P a b → WhereExposed Q b c → WhereExposed R a c
@@ -89,3 +89,25 @@ removes_then {A} xs ys =
 -- a count that rises later has risen since before
 pub rose_before : (a b c : ℕ) → a ≤ b → Rose b c → Rose a c
 rose_before a b c p q = omega arith
+
+-- a device is as it was where each part of what is seen of it is
+pub same_device : {A : Type 0} (old new : Device A) → new.content ≡ old.content → new.faults ≡ old.faults → new.names ≡ old.names → new ≡ old
+same_device old new content count same = λ i. record { content = content i; faults = count i; names = same i }
+
+-- no call
+pub calls_none : {A : Type 0} (P : Option A → Option A → Type 0) (a : Device A) → P a.content a.content → Calls P Stays a a
+calls_none P a p = record { content = p; count = omega arith; counts = refl; same = refl }
+
+-- what follows from P
+pub calls_map : {A : Type 0} (P Q : Option A → Option A → Type 0) (C : ℕ → ℕ → Type 0) (a b : Device A) → (P a.content b.content → Q a.content b.content) → Calls P C a b → Calls Q C a b
+calls_map P Q C a b f p = record { content = f p.content; count = p.count; counts = p.counts; same = p.same }
+
+-- a call that didn't fail, and then another: what P and Q say of each gives what R says of both
+pub calls_then : {A : Type 0} (P Q R : Option A → Option A → Type 0) (C : ℕ → ℕ → Type 0) (a b c : Device A) → (P a.content b.content → Q b.content c.content → R a.content c.content)
+    → Calls P Stays a b → Calls Q C b c → Calls R C a c
+calls_then P Q R C a b c f p q = record {
+  content = f p.content q.content;
+  count = omega (arith, p.count, q.count);
+  counts = subst (λ n. C n c.faults) p.counts q.counts;
+  same = q.same ∙ p.same;
+}

@@ -1,10 +1,10 @@
 -- What a source had that was read to its end, or to more than the limit.
 use Rattle.std.proofs.Common.{◌≡◌, ℕ, ◌+◌, ◌<◌, List, [], ◌++◌, length, replicate, Option, Some, None, refl, sym, ap, ◌∙◌, arith, length-append}
 use Rattle.std.proofs.lemmas.List.{length-replicate}
-use Rattle.std.specs.Prelude.{IfSome}
+use Rattle.std.specs.Prelude.{IfSome, Ok, Err}
 use Rattle.ae_edge.specs.Devices.{WhereExposed}
 use Rattle.ae_edge.specs.Streams.{HasTaken, ReadsAll}
-use Rattle.ae_edge.specs.declared.streams.ReadAll.TheVariants as read
+use Rattle.ae_edge.specs.declared.streams.ReadError.TheVariants as read
 
 -- the bytes that a source had, where it tells them
 pub some_bytes : (left : Option (List ℕ)) → (bytes : List ℕ) × IfSome left (λ xs. bytes ≡ xs)
@@ -12,7 +12,7 @@ some_bytes (Some xs) = (xs, refl)
 some_bytes None = ([], tt)
 
 -- what was read whole is what it had
-pub whole_bytes : (limit : ℕ) (old new : Option (List ℕ)) (bytes : List ℕ) → WhereExposed (ReadsAll limit (read.Whole bytes)) old new → IfSome old (λ xs. bytes ≡ xs)
+pub whole_bytes : (limit : ℕ) (old new : Option (List ℕ)) (bytes : List ℕ) → WhereExposed (ReadsAll limit (Ok bytes)) old new → IfSome old (λ xs. bytes ≡ xs)
 whole_bytes limit (Some xs) (Some left) bytes h = sym h.0
 whole_bytes limit (Some xs) None bytes h = absurd h
 whole_bytes limit None new bytes h = tt
@@ -29,7 +29,7 @@ many_of n z =
     (replicate (n + 1) z, omega (arith, l))
 
 -- a source of which too much was read had more bytes than the limit
-pub too_many_bytes : (limit : ℕ) (old new : Option (List ℕ)) → WhereExposed (ReadsAll limit read.TooLong) old new → (bytes : List ℕ) × IfSome old (λ xs. bytes ≡ xs) × (limit < length bytes)
+pub too_many_bytes : (limit : ℕ) (old new : Option (List ℕ)) → WhereExposed (ReadsAll limit (Err read.TooLong)) old new → (bytes : List ℕ) × IfSome old (λ xs. bytes ≡ xs) × (limit < length bytes)
 too_many_bytes limit (Some xs) (Some left) h = (xs, refl, longer_front limit xs left h)
 too_many_bytes limit (Some xs) None h = absurd h
 too_many_bytes limit None new h = let m = many_of limit 0 in (m.0, tt, m.1)

@@ -1,7 +1,7 @@
 -- What a call on a source takes.
 use Rattle.std.specs.Prelude.{◌≡◌, ℕ, ◌<◌, ◌≤◌, List, [], ◌++◌, length, Option}
 use Rattle.std.specs.Io.KnownBytes.{Consumes, IsAtEnd, Keeps}
-use Rattle.ae_edge.specs.Devices.{Rose}
+use Rattle.ae_edge.specs.Devices.{Rose, Stays}
 use Rattle.ae_edge.specs.declared.sources.Taken.{Taken}
 use Rattle.ae_edge.specs.declared.sources.Taken.TheVariants.{Bytes, End, Failed, OutOfMemory}
 
@@ -19,10 +19,10 @@ Takes OutOfMemory old new = new ≡ old
 
 -- the count of faults stays, but where the call failed
 abbrev pub CountsTake : Taken → ℕ → ℕ → Type 0
-CountsTake (Bytes bytes) old new = new ≡ old
-CountsTake End old new = new ≡ old
-CountsTake Failed old new = Rose old new
-CountsTake OutOfMemory old new = new ≡ old
+CountsTake (Bytes bytes) = Stays
+CountsTake End = Stays
+CountsTake Failed = Rose
+CountsTake OutOfMemory = Stays
 
 -- where the bytes of a reader are known, a call gives the next of them, and an end comes only at their end; else they stay
 abbrev pub TakesKnown : Taken → Option (List ℕ) → Option (List ℕ) → Type 0

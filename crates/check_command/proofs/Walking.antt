@@ -37,6 +37,7 @@ use Rattle.std.proofs.Common.{
 use Rattle.std.proofs.Math.ListN.{drop_of_length-le}
 use Rattle.ae_base.specs.declared.batches.Batch.{Batch}
 use Rattle.ae_edge.specs.Devices.{Adds, AddsPrefix, IsPrefix}
+use Rattle.ae_edge.specs.declared.streams.WriteError.{WriteError}
 use Rattle.ae_edge.proofs.Interface.{adds_none, adds_then}
 use Rattle.outcome_text.specs.Printing.{is_refusal, has_refusal}
 use Rattle.script_lang.specs.declared.steps.Step.{Step}
@@ -46,7 +47,6 @@ use Rattle.server_core.specs.Serve.{State, empty_state}
 use Rattle.check_command.specs.Check.{SessionBatch, checked, batches, outcomes, IsCheck, IsCheckPrefix}
 use Rattle.check_command.specs.Ends.{PutsCheck, PutsCheckPrefix}
 use Rattle.check_command.specs.Puts.{PutsLines, PutsPart, PutsStep}
-use Rattle.check_command.specs.declared.steps.Unput.TheVariants as unput
 
 abbrev at : ℕ → Batch → SessionBatch
 at number batch = record { number = number; batch = batch }
@@ -149,18 +149,10 @@ part_put all left number batch now old new after text put front (inr h) =
     let f = front_put h.0 new after h.2 in
     (text ++ f.0, front f.0 (inr (h.0, h.1, inl f.1)), adds_then text f.0 old new after put f.2)
 
-pub fault_put : (all left : List Step) (now next : State) (refused : Bool) (old new after : Option (List ℕ)) (step : Step)
-    → SoFar all (step ∷ left) now refused old new → PutsStep (Err unput.WriteFault) now next step new after → PutsCheckPrefix all old after
-fault_put all left now next refused old new after (Turn number (Whole batch)) s p = part_put all left number batch now old new after s.text s.put s.front p
-fault_put all left now next refused old new after (Turn number (Half batch)) s p = part_put all left number batch now old new after s.text s.put s.front p
-fault_put all left now next refused old new after (Turn number Execute) s p = let o : Err unput.WriteFault ≡ Ok false = p.refuses in absurd cc
-fault_put all left now next refused old new after (Turn number (Rotate from to)) s p = let o : Err unput.WriteFault ≡ Ok false = p.refuses in absurd cc
-fault_put all left now next refused old new after (Trust path) s p = let o : Err unput.WriteFault ≡ Ok false = p.refuses in absurd cc
-
-pub short_put : (all left : List Step) (now next : State) (refused : Bool) (old new after : Option (List ℕ)) (step : Step)
-    → SoFar all (step ∷ left) now refused old new → PutsStep (Err unput.OutOfMemory) now next step new after → PutsCheckPrefix all old after
-short_put all left now next refused old new after (Turn number (Whole batch)) s p = part_put all left number batch now old new after s.text s.put s.front p
-short_put all left now next refused old new after (Turn number (Half batch)) s p = part_put all left number batch now old new after s.text s.put s.front p
-short_put all left now next refused old new after (Turn number Execute) s p = let o : Err unput.OutOfMemory ≡ Ok false = p.refuses in absurd cc
-short_put all left now next refused old new after (Turn number (Rotate from to)) s p = let o : Err unput.OutOfMemory ≡ Ok false = p.refuses in absurd cc
-short_put all left now next refused old new after (Trust path) s p = let o : Err unput.OutOfMemory ≡ Ok false = p.refuses in absurd cc
+pub error_put : (e : WriteError) (all left : List Step) (now next : State) (refused : Bool) (old new after : Option (List ℕ)) (step : Step)
+    → SoFar all (step ∷ left) now refused old new → PutsStep (Err e) now next step new after → PutsCheckPrefix all old after
+error_put e all left now next refused old new after (Turn number (Whole batch)) s p = part_put all left number batch now old new after s.text s.put s.front p
+error_put e all left now next refused old new after (Turn number (Half batch)) s p = part_put all left number batch now old new after s.text s.put s.front p
+error_put e all left now next refused old new after (Turn number Execute) s p = let o : Err e ≡ Ok false = p.refuses in absurd cc
+error_put e all left now next refused old new after (Turn number (Rotate from to)) s p = let o : Err e ≡ Ok false = p.refuses in absurd cc
+error_put e all left now next refused old new after (Trust path) s p = let o : Err e ≡ Ok false = p.refuses in absurd cc

@@ -1,7 +1,8 @@
 -- What is put of one batch, and of one step.
-use Rattle.std.specs.Prelude.{◌≡◌, ◌⊎◌, ℕ, ◌≤◌, List, Option, Result, Ok, Err, Bool, false, string_bytes}
+use Rattle.std.specs.Prelude.{◌≡◌, ◌⊎◌, ℕ, List, Option, Result, Ok, Err, Bool, false, string_bytes}
 use Rattle.ae_base.specs.declared.batches.Batch.{Batch}
-use Rattle.ae_edge.specs.Devices.{Adds, AddsPrefix, Rose}
+use Rattle.ae_edge.specs.Devices.{Adds, AddsPrefix}
+use Rattle.ae_edge.specs.declared.streams.WriteError.{WriteError}
 use Rattle.outcome_text.specs.Printing.{is_refusal}
 use Rattle.script_lang.specs.declared.steps.Step.{Step}
 use Rattle.script_lang.specs.declared.steps.Act.TheVariants.{Whole, Half, Execute, Rotate}
@@ -9,8 +10,6 @@ use Rattle.script_lang.specs.declared.steps.Step.TheVariants.{Turn, Trust}
 use Rattle.server_core.specs.Serve.{State}
 use Rattle.check_command.specs.Check.{AreLinesOf, checked}
 use Rattle.check_command.specs.declared.steps.Lines.{Lines}
-use Rattle.check_command.specs.declared.steps.Unput.{Unput}
-use Rattle.check_command.specs.declared.steps.Unput.TheVariants as unput
 
 -- the lines of a batch, whether it was refused, and the state after it
 pub record AreLines (old new : State) (number : ℕ) (batch : Batch) (lines : Lines) : Type 0 where
@@ -30,27 +29,20 @@ pub record PutsLines (refused : Bool) (old new : State) (number : ℕ) (batch : 
 abbrev pub PutsPart : State → ℕ → Batch → Option (List ℕ) → Option (List ℕ) → Type 0
 PutsPart state number batch before after = (after ≡ before) ⊎ ((lines : List ℕ) × AreLinesOf state number batch lines × AddsPrefix lines before after)
 
--- a batch was put, or a part of it, by the cause
-abbrev pub PutsBatch : Result Bool Unput → State → State → ℕ → Batch → Option (List ℕ) → Option (List ℕ) → Type 0
+-- a batch was put, or a part of it
+abbrev pub PutsBatch : Result Bool WriteError → State → State → ℕ → Batch → Option (List ℕ) → Option (List ℕ) → Type 0
 PutsBatch (Ok refused) old new number batch before after = PutsLines refused old new number batch before after
-PutsBatch (Err unput.WriteFault) old new number batch before after = PutsPart old number batch before after
-PutsBatch (Err unput.OutOfMemory) old new number batch before after = PutsPart old number batch before after
+PutsBatch (Err e) old new number batch before after = PutsPart old number batch before after
 
 -- of a step that has no batch nothing is put
-pub record PutsNothing (r : Result Bool Unput) (old new : State) (before after : Option (List ℕ)) : Type 0 where
+pub record PutsNothing (r : Result Bool WriteError) (old new : State) (before after : Option (List ℕ)) : Type 0 where
   pub refuses : r ≡ Ok false
   pub state : new ≡ old
   pub put : after ≡ before
 
-abbrev pub PutsStep : Result Bool Unput → State → State → Step → Option (List ℕ) → Option (List ℕ) → Type 0
+abbrev pub PutsStep : Result Bool WriteError → State → State → Step → Option (List ℕ) → Option (List ℕ) → Type 0
 PutsStep r old new (Turn number (Whole batch)) before after = PutsBatch r old new number batch before after
 PutsStep r old new (Turn number (Half batch)) before after = PutsBatch r old new number batch before after
 PutsStep r old new (Turn number Execute) before after = PutsNothing r old new before after
 PutsStep r old new (Turn number (Rotate from to)) before after = PutsNothing r old new before after
 PutsStep r old new (Trust path) before after = PutsNothing r old new before after
-
--- the count of faults rose where a call failed, and never falls
-abbrev pub CountsPut : Result Bool Unput → ℕ → ℕ → Type 0
-CountsPut (Ok refused) before now = before ≤ now
-CountsPut (Err unput.WriteFault) before now = Rose before now
-CountsPut (Err unput.OutOfMemory) before now = before ≤ now

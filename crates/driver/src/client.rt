@@ -4,7 +4,7 @@ ghost use Rattle.std.specs.Prelude.{◌≡◌, ◌++◌, ◌∷◌, [], IfOk, On
 ghost use Rattle.conversation.specs.declared.sessions.Session.{Session};
 ghost use Rattle.ae_edge.specs.Vaults.{KeyMap};
 ghost use Rattle.key_store.specs.Stores.{IsOf};
-ghost use Rattle.conversation.specs.Devices.{Devices, devices, with_vault};
+ghost use Rattle.conversation.specs.Devices.{Devices};
 ghost use Rattle.conversation.specs.Sessions as held;
 ghost use Rattle.conversation.specs.Sessions.{nobody};
 ghost use Rattle.driver.specs.Calls.{Comes, Describes, Executes, IsSent, Replies, IsOnlyAt, is_pending, opens_keys};
@@ -173,20 +173,18 @@ impl Driver {
         vault: &mut V,
         entropy: &mut E,
     ) -> Result<Result<Request<'r>, DriverFault>, Halt>
-        requires { IsOf (V.keys vault.old) self.old.kept }
+        requires { IsOf (V.seen vault.old).content self.old.kept }
         ensures executed { Executes self.old.trusted result number (session_of self.old number)
             (session_of self.new number)
-            (devices (E.to_come entropy.old) (E.faults entropy.old) (E.names entropy.old)
-            (V.keys vault.old) (V.faults vault.old) (V.names vault.old))
-            (devices (E.to_come entropy.new) (E.faults entropy.new) (E.names entropy.new)
-            (V.keys vault.new) (V.faults vault.new) (V.names vault.new)) }
+            (record { entropy = E.seen entropy.old; vault = V.seen vault.old })
+            (record { entropy = E.seen entropy.new; vault = V.seen vault.new }) }
         ensures sent { IsSent result (session_of self.new number) }
         ensures others { IsOnlyAt number self.old.sessions self.new.sessions }
         ensures columns { self.new.columns ≡ self.old.columns }
         ensures trusted { self.new.trusted ≡ self.old.trusted }
         ensures kept { is_pending (session_of self.old number) ≡ false
             → self.new.kept ≡ self.old.kept }
-        ensures of_vault { IsOf (V.keys vault.new) self.new.kept }
+        ensures of_vault { IsOf (V.seen vault.new).content self.new.kept }
     {
         let slot = &mut self.sessions[number.number() as usize - 1];
         let session = mem::replace(slot, Session::Idle);
@@ -213,12 +211,12 @@ impl Driver {
         reply: &Reply<'_>,
         vault: &mut V,
     ) -> Result<ReplyAnswer, Halt>
-        requires { IsOf (V.keys vault.old) self.old.kept }
+        requires { IsOf (V.seen vault.old).content self.old.kept }
         ensures replied { (beside : Devices)
             → Replies self.old.trusted result (held.replied (session_of self.old number) reply.now)
             (session_of self.old number) (session_of self.new number)
-            (with_vault beside (V.keys vault.old) (V.faults vault.old) (V.names vault.old))
-            (with_vault beside (V.keys vault.new) (V.faults vault.new) (V.names vault.new)) }
+            (record beside { vault = V.seen vault.old })
+            (record beside { vault = V.seen vault.new }) }
         ensures others { IsOnlyAt number self.old.sessions self.new.sessions }
         ensures columns { columns_of self.new number
             ≡ accepted_replied result (held.replied (session_of self.old number) reply.now)
@@ -227,7 +225,7 @@ impl Driver {
         ensures trusted { self.new.trusted ≡ self.old.trusted }
         ensures kept { opens_keys (session_of self.old number) reply.now ≡ false
             → self.new.kept ≡ self.old.kept }
-        ensures of_vault { IsOf (V.keys vault.new) self.new.kept }
+        ensures of_vault { IsOf (V.seen vault.new).content self.new.kept }
     {
         let place = number.number() as usize - 1;
         let slot = &mut self.sessions[place];

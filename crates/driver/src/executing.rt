@@ -6,7 +6,7 @@ ghost use Rattle.ae_base.specs.Values.{value_is_within};
 ghost use Rattle.key_store.specs.Stores.{IsOf};
 ghost use Rattle.wire_messages.specs.declared.params.SentParam.{SentParam};
 ghost use Rattle.conversation.specs.declared.faults.DriverFault.{DriverFault};
-ghost use Rattle.conversation.specs.Devices.{Leads, devices};
+ghost use Rattle.conversation.specs.Devices.{Leads};
 ghost use Rattle.conversation.specs.Pending.{uses_in, uses_of};
 ghost use Rattle.conversation.specs.Talk.{Talk};
 ghost use Rattle.conversation.specs.Turns.{on_result, sealing, sealing_one};
@@ -67,19 +67,17 @@ fn seal_param<'r, V: Vault, E: Entropy>(
     enc: &Enc,
 ) -> Result<Result<SentParam<'r>, DriverFault>, Halt>
     requires listed { IsListed metas.now enc.now }
-    requires of_vault { IsOf (V.keys vault.old) store.old }
+    requires of_vault { IsOf (V.seen vault.old).content store.old }
     requires fits { value_is_within param.now.value param.now.declaration.ty ≡ true }
     ensures leads { (k : SentParam → Talk) (fails : DriverFault → Talk)
         → Leads result (sealing_one trusted.now metas.now (record
         { param = param.now; enc = enc.now }) k fails)
         (on_result k fails)
-        (devices (E.to_come entropy.old) (E.faults entropy.old) (E.names entropy.old)
-        (V.keys vault.old) (V.faults vault.old) (V.names vault.old))
-        (devices (E.to_come entropy.new) (E.faults entropy.new) (E.names entropy.new)
-        (V.keys vault.new) (V.faults vault.new) (V.names vault.new)) }
+        (record { entropy = E.seen entropy.old; vault = V.seen vault.old })
+        (record { entropy = E.seen entropy.new; vault = V.seen vault.new }) }
     ensures named { IfOk result
         (λ sealed. IfOk sealed (λ sending. sending.name ≡ param.now.declaration.name)) }
-    ensures of_vault { IsOf (V.keys vault.new) store.new }
+    ensures of_vault { IsOf (V.seen vault.new).content store.new }
 {
     let name = match param.declaration.name.copy() {
         Ok(name) => name,
@@ -113,19 +111,17 @@ fn seal_params<'r, V: Vault, E: Entropy>(
 ) -> Result<Result<Seq<SentParam<'r>>, DriverFault>, Halt>
     requires each { length encs.now ≡ length params.now }
     requires listed { AreListed metas.now (map (λ u. u.enc) (uses_in params.now encs.now)) }
-    requires of_vault { IsOf (V.keys vault.old) store.old }
+    requires of_vault { IsOf (V.seen vault.old).content store.old }
     requires fits { first_unfit params.now ≡ None }
     ensures leads { (k : List SentParam → Talk) (fails : DriverFault → Talk)
         → Leads result (sealing trusted.now metas.now (uses_in params.now encs.now) k fails)
         (on_result k fails)
-        (devices (E.to_come entropy.old) (E.faults entropy.old) (E.names entropy.old)
-        (V.keys vault.old) (V.faults vault.old) (V.names vault.old))
-        (devices (E.to_come entropy.new) (E.faults entropy.new) (E.names entropy.new)
-        (V.keys vault.new) (V.faults vault.new) (V.names vault.new)) }
+        (record { entropy = E.seen entropy.old; vault = V.seen vault.old })
+        (record { entropy = E.seen entropy.new; vault = V.seen vault.new }) }
     ensures named { IfOk result
         (λ sealed. IfOk sealed
         (λ sending. sent_names sending ≡ use_names (uses_in params.now encs.now))) }
-    ensures of_vault { IsOf (V.keys vault.new) store.new }
+    ensures of_vault { IsOf (V.seen vault.new).content store.new }
 {
     let mut sent = Seq::new(alloc);
     for i in 0..params.len() {
@@ -170,15 +166,13 @@ fn seal<'r, V: Vault, E: Entropy>(
     trusted: &[KeyPath],
     pending: &Pending,
 ) -> Result<Result<SentParams<'r>, DriverFault>, Halt>
-    requires { IsOf (V.keys vault.old) store.old }
+    requires { IsOf (V.seen vault.old).content store.old }
     ensures leads { (k : List SentParam → Talk) (fails : DriverFault → Talk)
         → Leads result (sealing trusted.now pending.now.keys (uses_of pending.now) k fails)
         (on_result k fails)
-        (devices (E.to_come entropy.old) (E.faults entropy.old) (E.names entropy.old)
-        (V.keys vault.old) (V.faults vault.old) (V.names vault.old))
-        (devices (E.to_come entropy.new) (E.faults entropy.new) (E.names entropy.new)
-        (V.keys vault.new) (V.faults vault.new) (V.names vault.new)) }
-    ensures of_vault { IsOf (V.keys vault.new) store.new }
+        (record { entropy = E.seen entropy.old; vault = V.seen vault.old })
+        (record { entropy = E.seen entropy.new; vault = V.seen vault.new }) }
+    ensures of_vault { IsOf (V.seen vault.new).content store.new }
 {
     let sealed = match seal_params(
         alloc,
@@ -235,15 +229,13 @@ fn execute_pending<'r, V: Vault, E: Entropy>(
     pending: Pending,
     number: SessionId,
 ) -> Turn<Result<Result<Request<'r>, DriverFault>, Halt>>
-    requires { IsOf (V.keys vault.old) store.old }
+    requires { IsOf (V.seen vault.old).content store.old }
     ensures executes { Executes trusted.now result.answer number
         (Session.Pending pending) result.after
-        (devices (E.to_come entropy.old) (E.faults entropy.old) (E.names entropy.old)
-        (V.keys vault.old) (V.faults vault.old) (V.names vault.old))
-        (devices (E.to_come entropy.new) (E.faults entropy.new) (E.names entropy.new)
-        (V.keys vault.new) (V.faults vault.new) (V.names vault.new)) }
+        (record { entropy = E.seen entropy.old; vault = V.seen vault.old })
+        (record { entropy = E.seen entropy.new; vault = V.seen vault.new }) }
     ensures sent { IsSent result.answer result.after }
-    ensures of_vault { IsOf (V.keys vault.new) store.new }
+    ensures of_vault { IsOf (V.seen vault.new).content store.new }
 {
     match seal(alloc, store, vault, entropy, trusted, &pending) {
         Ok(sealed) => {
@@ -280,15 +272,13 @@ pub fn execute<'r, V: Vault, E: Entropy>(
     session: Session,
     number: SessionId,
 ) -> Turn<Result<Result<Request<'r>, DriverFault>, Halt>>
-    requires { IsOf (V.keys vault.old) store.old }
+    requires { IsOf (V.seen vault.old).content store.old }
     ensures executes { Executes trusted.now result.answer number session result.after
-        (devices (E.to_come entropy.old) (E.faults entropy.old) (E.names entropy.old)
-        (V.keys vault.old) (V.faults vault.old) (V.names vault.old))
-        (devices (E.to_come entropy.new) (E.faults entropy.new) (E.names entropy.new)
-        (V.keys vault.new) (V.faults vault.new) (V.names vault.new)) }
+        (record { entropy = E.seen entropy.old; vault = V.seen vault.old })
+        (record { entropy = E.seen entropy.new; vault = V.seen vault.new }) }
     ensures sent { IsSent result.answer result.after }
     ensures kept { is_pending session ≡ false → store.new ≡ store.old }
-    ensures of_vault { IsOf (V.keys vault.new) store.new }
+    ensures of_vault { IsOf (V.seen vault.new).content store.new }
 {
     match session {
         Session::Pending(pending) => {

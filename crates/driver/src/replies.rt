@@ -2,7 +2,7 @@
 
 ghost use Rattle.std.specs.Prelude.{◌≡◌, IfOk, Err, false, map};
 ghost use Rattle.key_store.specs.Stores.{IsOf};
-ghost use Rattle.conversation.specs.Devices.{Devices, with_vault};
+ghost use Rattle.conversation.specs.Devices.{Devices};
 ghost use Rattle.conversation.specs.Sessions as held;
 ghost use Rattle.conversation.specs.declared.sessions.Session.{Session};
 ghost use Rattle.driver.specs.Accepted.{accepted_replied};
@@ -81,12 +81,12 @@ fn show<V: Vault>(
     trusted: &[KeyPath],
     header: &Header<'_>,
 ) -> Result<Turn<ReplyAnswer>, Halt>
-    requires { IsOf (V.keys vault.old) store.old }
+    requires { IsOf (V.seen vault.old).content store.old }
     ensures shows { (beside : Devices)
         → ShowsTurn trusted.now result header.now
-        (with_vault beside (V.keys vault.old) (V.faults vault.old) (V.names vault.old))
-        (with_vault beside (V.keys vault.new) (V.faults vault.new) (V.names vault.new)) }
-    ensures of_vault { IsOf (V.keys vault.new) store.new }
+        (record beside { vault = V.seen vault.old })
+        (record beside { vault = V.seen vault.new }) }
+    ensures of_vault { IsOf (V.seen vault.new).content store.new }
 {
     let heading = match heading_of(alloc, header) {
         Ok(heading) => heading,
@@ -327,13 +327,13 @@ fn shown<V: Vault>(
     accepted: &mut Option<Columns>,
     header: &Header<'_>,
 ) -> Turn<Result<ReplyAnswer, Halt>>
-    requires { IsOf (V.keys vault.old) store.old }
+    requires { IsOf (V.seen vault.old).content store.old }
     ensures replies { (beside : Devices)
         → Replies trusted.now result.answer (held.replied Session.Sent
         (reply.Columns header.now)) Session.Sent
-        result.after (with_vault beside (V.keys vault.old) (V.faults vault.old) (V.names vault.old))
-        (with_vault beside (V.keys vault.new) (V.faults vault.new) (V.names vault.new)) }
-    ensures of_vault { IsOf (V.keys vault.new) store.new }
+        result.after (record beside { vault = V.seen vault.old })
+        (record beside { vault = V.seen vault.new }) }
+    ensures of_vault { IsOf (V.seen vault.new).content store.new }
     ensures accepted { accepted.new ≡ accepted_replied result.answer
         (held.replied Session.Sent (reply.Columns header.now)) accepted.old }
 {
@@ -361,13 +361,13 @@ fn sent_replied<V: Vault>(
     accepted: &mut Option<Columns>,
     reply: &Reply<'_>,
 ) -> Turn<Result<ReplyAnswer, Halt>>
-    requires { IsOf (V.keys vault.old) store.old }
+    requires { IsOf (V.seen vault.old).content store.old }
     ensures replies { (beside : Devices)
         → Replies trusted.now result.answer
         (held.replied Session.Sent reply.now) Session.Sent result.after
-        (with_vault beside (V.keys vault.old) (V.faults vault.old) (V.names vault.old))
-        (with_vault beside (V.keys vault.new) (V.faults vault.new) (V.names vault.new)) }
-    ensures of_vault { IsOf (V.keys vault.new) store.new }
+        (record beside { vault = V.seen vault.old })
+        (record beside { vault = V.seen vault.new }) }
+    ensures of_vault { IsOf (V.seen vault.new).content store.new }
     ensures accepted { accepted.new ≡ accepted_replied result.answer
         (held.replied Session.Sent reply.now) accepted.old }
     ensures kept { opens_keys Session.Sent reply.now ≡ false → store.new ≡ store.old }
@@ -392,12 +392,12 @@ pub fn replied<V: Vault>(
     session: Session,
     reply: &Reply<'_>,
 ) -> Turn<Result<ReplyAnswer, Halt>>
-    requires { IsOf (V.keys vault.old) store.old }
+    requires { IsOf (V.seen vault.old).content store.old }
     ensures replies { (beside : Devices)
         → Replies trusted.now result.answer (held.replied session reply.now) session result.after
-        (with_vault beside (V.keys vault.old) (V.faults vault.old) (V.names vault.old))
-        (with_vault beside (V.keys vault.new) (V.faults vault.new) (V.names vault.new)) }
-    ensures of_vault { IsOf (V.keys vault.new) store.new }
+        (record beside { vault = V.seen vault.old })
+        (record beside { vault = V.seen vault.new }) }
+    ensures of_vault { IsOf (V.seen vault.new).content store.new }
     ensures accepted { accepted.new ≡ accepted_replied result.answer
         (held.replied session reply.now) accepted.old }
     ensures kept { opens_keys session reply.now ≡ false → store.new ≡ store.old }

@@ -6,7 +6,7 @@ ghost use Rattle.ae_base.specs.declared.atoms.AtomOf.{AtomOf};
 ghost use Rattle.key_store.specs.Stores.{IsOf};
 ghost use Rattle.conversation.specs.Cells.{det_atom};
 ghost use Rattle.conversation.specs.declared.faults.DriverFault.{DriverFault};
-ghost use Rattle.conversation.specs.Devices.{Devices, KeyLeads, Leads, devices, with_vault, with_entropy};
+ghost use Rattle.conversation.specs.Devices.{Devices, KeyLeads, Leads};
 ghost use Rattle.conversation.specs.Talk.{Talk, Draws};
 ghost use Rattle.conversation.specs.Turns.{on_result, opening_by, drawing, sealing_value};
 ghost use Rattle.driver.specs.Listed.{IsListed};
@@ -29,8 +29,8 @@ use wire_parts::atoms::AtomPart;
 fn draw<E: Entropy>(entropy: &mut E) -> Result<[u8; 16], Halt>
     ensures { (beside : Devices) (f : List ℕ → Talk)
         → Leads result (Draws f) f
-        (with_entropy beside (E.to_come entropy.old) (E.faults entropy.old) (E.names entropy.old))
-        (with_entropy beside (E.to_come entropy.new) (E.faults entropy.new) (E.names entropy.new)) }
+        (record beside { entropy = E.seen entropy.old })
+        (record beside { entropy = E.seen entropy.new }) }
 {
     match entropy.draw() {
         Draw::Drawn(bytes) => Ok(bytes),
@@ -47,16 +47,16 @@ fn seal_always<'r, V: Vault>(
     ty: &Ty,
     value: &Value,
 ) -> Result<Result<AtomPart<'r>, DriverFault>, Halt>
-    requires of_vault { IsOf (V.keys vault.old) store.old }
+    requires of_vault { IsOf (V.seen vault.old).content store.old }
     requires fits { value_is_within value.now ty.now ≡ true }
     ensures leads { (beside : Devices) (k : AtomOf (List ℕ) → Talk) (fails : DriverFault → Talk)
         → KeyLeads result
         (opening_by trusted.now meta.now (on_result (λ keys. k
         (det_atom keys ty.now value.now)) fails))
         (on_result k fails)
-        (with_vault beside (V.keys vault.old) (V.faults vault.old) (V.names vault.old))
-        (with_vault beside (V.keys vault.new) (V.faults vault.new) (V.names vault.new)) }
-    ensures of_vault { IsOf (V.keys vault.new) store.new }
+        (record beside { vault = V.seen vault.old })
+        (record beside { vault = V.seen vault.new }) }
+    ensures of_vault { IsOf (V.seen vault.new).content store.new }
 {
     let opened = match open_key(store, vault, trusted, meta) {
         Ok(opened) => opened,
@@ -83,8 +83,8 @@ fn seal_drawn<'r, E: Entropy>(
     requires { value_is_within value.now ty.now ≡ true }
     ensures { (beside : Devices) (k : AtomOf (List ℕ) → Talk)
         → Leads result (drawing keys.now ty.now value.now k) k
-        (with_entropy beside (E.to_come entropy.old) (E.faults entropy.old) (E.names entropy.old))
-        (with_entropy beside (E.to_come entropy.new) (E.faults entropy.new) (E.names entropy.new)) }
+        (record beside { entropy = E.seen entropy.old })
+        (record beside { entropy = E.seen entropy.new }) }
 {
     let datum = match value {
         Value::Null => return Ok(AtomPart::null()),
@@ -110,17 +110,15 @@ fn seal_randomly<'r, V: Vault, E: Entropy>(
     ty: &Ty,
     value: &Value,
 ) -> Result<Result<AtomPart<'r>, DriverFault>, Halt>
-    requires of_vault { IsOf (V.keys vault.old) store.old }
+    requires of_vault { IsOf (V.seen vault.old).content store.old }
     requires fits { value_is_within value.now ty.now ≡ true }
     ensures leads { (k : AtomOf (List ℕ) → Talk) (fails : DriverFault → Talk)
         → Leads result (opening_by trusted.now meta.now (on_result
         (λ keys. drawing keys ty.now value.now k) fails))
         (on_result k fails)
-        (devices (E.to_come entropy.old) (E.faults entropy.old) (E.names entropy.old)
-        (V.keys vault.old) (V.faults vault.old) (V.names vault.old))
-        (devices (E.to_come entropy.new) (E.faults entropy.new) (E.names entropy.new)
-        (V.keys vault.new) (V.faults vault.new) (V.names vault.new)) }
-    ensures of_vault { IsOf (V.keys vault.new) store.new }
+        (record { entropy = E.seen entropy.old; vault = V.seen vault.old })
+        (record { entropy = E.seen entropy.new; vault = V.seen vault.new }) }
+    ensures of_vault { IsOf (V.seen vault.new).content store.new }
 {
     let opened = match open_key(store, vault, trusted, meta) {
         Ok(opened) => opened,
@@ -149,16 +147,14 @@ pub fn seal_value<'r, V: Vault, E: Entropy>(
     value: &Value,
 ) -> Result<Result<AtomPart<'r>, DriverFault>, Halt>
     requires listed { IsListed metas.now enc }
-    requires of_vault { IsOf (V.keys vault.old) store.old }
+    requires of_vault { IsOf (V.seen vault.old).content store.old }
     requires fits { value_is_within value.now ty.now ≡ true }
     ensures leads { (k : AtomOf (List ℕ) → Talk) (fails : DriverFault → Talk)
         → Leads result (sealing_value trusted.now metas.now enc ty.now value.now k fails)
         (on_result k fails)
-        (devices (E.to_come entropy.old) (E.faults entropy.old) (E.names entropy.old)
-        (V.keys vault.old) (V.faults vault.old) (V.names vault.old))
-        (devices (E.to_come entropy.new) (E.faults entropy.new) (E.names entropy.new)
-        (V.keys vault.new) (V.faults vault.new) (V.names vault.new)) }
-    ensures of_vault { IsOf (V.keys vault.new) store.new }
+        (record { entropy = E.seen entropy.old; vault = V.seen vault.old })
+        (record { entropy = E.seen entropy.new; vault = V.seen vault.new }) }
+    ensures of_vault { IsOf (V.seen vault.new).content store.new }
 {
     match enc {
         Enc::Plain => match plain_part(value, ty) {

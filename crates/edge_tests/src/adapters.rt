@@ -12,7 +12,7 @@ use ae_edge::adapters::source::StdSource;
 use ae_edge::entropies::{Draw, Entropy};
 use ae_edge::sinks::{Close, Closing, Put, Sink};
 use ae_edge::sources::{Source, Taken};
-use ae_edge::streams::{PutAll, put_all, read_all};
+use ae_edge::streams::{WriteError, put_all, read_all};
 use ae_edge::vaults::{MasterKey, Vault};
 use rand_core::TryRng;
 use std::io::{Cursor, ErrorKind, Read, Write};
@@ -80,9 +80,9 @@ fn writes_to_a_writer(rt: HostRuntime) -> Result<(), Fail> {
     let alloc = rt.alloc();
     let mut taken = Vec::new(alloc);
     let mut sink = StdSink::new(Narrow { taken: &mut taken });
-    assert_eq!(rt; put_all(&mut sink, b"abcd"), PutAll::Whole);
-    assert_eq!(rt; put_all(&mut sink, b""), PutAll::Whole);
-    assert_eq!(rt; put_all(&mut sink, b"e"), PutAll::WriteFault);
+    assert_eq!(rt; put_all(&mut sink, b"abcd"), Ok(()));
+    assert_eq!(rt; put_all(&mut sink, b""), Ok(()));
+    assert_eq!(rt; put_all(&mut sink, b"e"), Err(WriteError::Failed));
     assert_eq!(rt; taken.as_slice(), b"abcd".as_slice());
     Ok(())
 }

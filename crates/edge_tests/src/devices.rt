@@ -2,6 +2,7 @@
 
 // Devices in memory, and devices that are lent.
 
+use ae_base::blobs::Blob;
 use ae_base::texts::Txt;
 use ae_edge::entropies::{Draw, Entropy};
 use ae_edge::memory::entropy::MemEntropy;
@@ -10,7 +11,7 @@ use ae_edge::memory::source::MemSource;
 use ae_edge::memory::vault::MemVault;
 use ae_edge::sinks::{Close, Closing};
 use ae_edge::sources::Taken;
-use ae_edge::streams::{PutAll, ReadAll, put_all, read_all};
+use ae_edge::streams::{ReadError, WriteError, put_all, read_all};
 use ae_edge::vaults::{MasterKey, Vault};
 use std::alloc::Global;
 use std::test::Fail;
@@ -22,10 +23,10 @@ pub(crate) fn has_taken(taken: Taken, want: &[u8]) -> bool {
     }
 }
 
-pub(crate) fn has_read(read: ReadAll, want: &[u8]) -> bool {
+pub(crate) fn has_read(read: Result<Blob, ReadError>, want: &[u8]) -> bool {
     match read {
-        ReadAll::Whole(bytes) => bytes.as_slice() == want,
-        _ => false,
+        Ok(bytes) => bytes.as_slice() == want,
+        Err(_) => false,
     }
 }
 
@@ -60,7 +61,7 @@ fn takes_the_same_bytes_after_a_failing_call(rt: HostRuntime) -> Result<(), Fail
     let alloc = rt.alloc();
     let mut source = source_of(alloc, 3, &[1])?;
     let mut lent = &mut source;
-    assert!(rt; matches!(read_all(&mut lent, alloc, 7), ReadAll::ReadFault));
+    assert!(rt; matches!(read_all(&mut lent, alloc, 7), Err(ReadError::Failed)));
     assert!(rt; has_read(read_all(&mut lent, alloc, 7), b"defg"));
     Ok(())
 }
@@ -70,9 +71,9 @@ fn holds_what_was_put_before_a_failing_call(rt: HostRuntime) -> Result<(), Fail>
     let failing = Vec::from_slice(rt.alloc(), &[1u64])?;
     let mut sink = MemSink::new(rt.alloc(), failing);
     let mut lent = &mut sink;
-    assert_eq!(rt; put_all(&mut lent, b"a"), PutAll::Whole);
-    assert_eq!(rt; put_all(&mut lent, b"b"), PutAll::WriteFault);
-    assert_eq!(rt; put_all(&mut lent, b"c"), PutAll::Whole);
+    assert_eq!(rt; put_all(&mut lent, b"a"), Ok(()));
+    assert_eq!(rt; put_all(&mut lent, b"b"), Err(WriteError::Failed));
+    assert_eq!(rt; put_all(&mut lent, b"c"), Ok(()));
     assert_eq!(rt; sink.bytes(), b"ac".as_slice());
     Ok(())
 }
@@ -85,11 +86,11 @@ fn close<W: Close>(mut sink: &mut W) -> Closing {
 fn puts_nothing_after_it_is_closed(rt: HostRuntime) -> Result<(), Fail> {
     let failing = Vec::from_slice(rt.alloc(), &[1u64])?;
     let mut sink = MemSink::new(rt.alloc(), failing);
-    assert_eq!(rt; put_all(&mut sink, b"a"), PutAll::Whole);
+    assert_eq!(rt; put_all(&mut sink, b"a"), Ok(()));
     assert_eq!(rt; close(&mut sink), Closing::Failed);
-    assert_eq!(rt; put_all(&mut sink, b"b"), PutAll::Whole);
+    assert_eq!(rt; put_all(&mut sink, b"b"), Ok(()));
     assert_eq!(rt; close(&mut sink), Closing::Closed);
-    assert_eq!(rt; put_all(&mut sink, b"c"), PutAll::WriteFault);
+    assert_eq!(rt; put_all(&mut sink, b"c"), Err(WriteError::Failed));
     assert_eq!(rt; sink.bytes(), b"ab".as_slice());
     Ok(())
 }

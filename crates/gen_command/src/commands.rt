@@ -1,12 +1,10 @@
 //! The command `gen`.
 
-ghost use Rattle.std.specs.Prelude.{◌≡◌, ◌≤◌};
-ghost use Rattle.ae_edge.specs.Devices.{Rose};
 ghost use Rattle.gen_command.specs.Generating.{PutsScript};
 
 use crate::scripts::script;
 use ae_edge::sinks::Sink;
-use ae_edge::streams::{PutAll, put_all};
+use ae_edge::streams::{WriteError, put_all};
 use std::alloc::Global;
 
 /// How the command ended.
@@ -22,17 +20,14 @@ pub enum Generated {
 /// Puts the script of a size to the output: two keys and a table with protected columns, so many
 /// rows of it, and two reads. Of a script that can't be put whole a front is put.
 pub fn generate<W: Sink>(alloc: Global, size: u32, out: &mut W) -> Generated
-    // What stands at the output.
-    ensures content { PutsScript result size (W.held out.old) (W.held out.new) }
-    // A fault of the outside comes only where its count rose.
-    ensures write { result ≡ Generated.WriteFault → Rose (W.faults out.old) (W.faults out.new) }
+    ensures { PutsScript result size (W.seen out.old) (W.seen out.new) }
 {
     let Ok(text) = script(alloc, size) else {
         return Generated::OutOfMemory;
     };
     match put_all(out, text.as_bytes()) {
-        PutAll::Whole => Generated::Done,
-        PutAll::WriteFault => Generated::WriteFault,
-        PutAll::OutOfMemory => Generated::OutOfMemory,
+        Ok(()) => Generated::Done,
+        Err(WriteError::Failed) => Generated::WriteFault,
+        Err(WriteError::OutOfMemory) => Generated::OutOfMemory,
     }
 }

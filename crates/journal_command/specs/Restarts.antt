@@ -1,7 +1,7 @@
 -- Records that are found are served again.
 use Rattle.std.specs.Prelude.{true, ◌≡◌, ◌≤◌, ℕ, List, ◌∷◌, ◌++◌, length, take, Option}
 use Rattle.std.specs.List.{All}
-use Rattle.ae_edge.specs.Devices.{Rose, WhereExposed}
+use Rattle.ae_edge.specs.Devices.{Rose, Stays, WhereExposed}
 use Rattle.disk.specs.Durable.{StaysKept}
 use Rattle.disk.specs.Moments.{Moments}
 use Rattle.journal_core.specs.Appends.{EndsAt}
@@ -95,7 +95,7 @@ Restarts restarted.OutOfMemory gate old new disk disk_after = WhereExposed Stays
 
 -- the count of faults stays, but where a call failed
 abbrev pub CountsRestarted : Restarted → ℕ → ℕ → Type 0
-CountsRestarted restarted.Served old new = new ≡ old
-CountsRestarted (restarted.Refused place) old new = new ≡ old
-CountsRestarted restarted.DiskFault old new = Rose old new
-CountsRestarted restarted.OutOfMemory old new = new ≡ old
+CountsRestarted restarted.Served = Stays
+CountsRestarted (restarted.Refused place) = Stays
+CountsRestarted restarted.DiskFault = Rose
+CountsRestarted restarted.OutOfMemory = Stays

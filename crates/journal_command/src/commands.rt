@@ -56,18 +56,18 @@ fn answer_piece<W: Sink, D: Disk>(
     disk: &mut D,
 ) -> Came
     requires way { feed.old.way ≡ ToServer }
-    requires sound { IsSound durable.old (D.told disk.old) }
+    requires sound { IsSound durable.old (D.seen disk.old).content }
     ensures way { feed.new.way ≡ ToServer }
     ensures comes { (start : State) (taken : List ℕ) (first : Outside)
         → length (taken ++ piece.now) < 2 ^ 64
         → IsSoFar start taken feed.old durable.old first
-        (outside durable.old.journal.gate (D.told disk.old) (W.held out.old))
+        (outside durable.old.journal.gate (D.seen disk.old).content (W.seen out.old).content)
         → Comes start result (taken ++ piece.now) feed.new durable.new first
-        (outside durable.new.journal.gate (D.told disk.new) (W.held out.new)) }
-    ensures sound { result ≡ Came.Waits → IsSound durable.new (D.told disk.new) }
-    ensures same { D.names disk.new ≡ D.names disk.old }
-    ensures counts { CountsCame result (faults (D.faults disk.old) (W.faults out.old))
-        (faults (D.faults disk.new) (W.faults out.new)) }
+        (outside durable.new.journal.gate (D.seen disk.new).content (W.seen out.new).content) }
+    ensures sound { result ≡ Came.Waits → IsSound durable.new (D.seen disk.new).content }
+    ensures same { (D.seen disk.new).names ≡ (D.seen disk.old).names }
+    ensures counts { CountsCame result (faults (D.seen disk.old).faults (W.seen out.old).faults)
+        (faults (D.seen disk.new).faults (W.seen out.new).faults) }
 {
     match feed.feed(piece.as_slice()) {
         Ok(()) => answer_held(alloc, feed, durable, out, disk),
@@ -84,14 +84,18 @@ fn serve_pieces<S: Source, W: Sink, D: Disk>(
     durable: &mut Durable,
 ) -> Ended
     requires held { durable.old.held ≡ map frames_of nothing_held }
-    requires sound { IsSound durable.old (D.told disk.old) }
-    ensures serves { ServesPieces result durable.old.state (S.left input.old) (S.left input.new)
-        (outside durable.old.journal.gate (D.told disk.old) (W.held out.old))
-        (outside durable.new.journal.gate (D.told disk.new) (W.held out.new)) }
-    ensures same { D.names disk.new ≡ D.names disk.old }
-    ensures read { result ≡ Ended.ReadFault → Rose (S.faults input.old) (S.faults input.new) }
-    ensures write { result ≡ Ended.WriteFault → Rose (W.faults out.old) (W.faults out.new) }
-    ensures stored { result ≡ Ended.DiskFault → Rose (D.faults disk.old) (D.faults disk.new) }
+    requires sound { IsSound durable.old (D.seen disk.old).content }
+    ensures serves { ServesPieces result durable.old.state (S.seen input.old).content
+        (S.seen input.new).content
+        (outside durable.old.journal.gate (D.seen disk.old).content (W.seen out.old).content)
+        (outside durable.new.journal.gate (D.seen disk.new).content (W.seen out.new).content) }
+    ensures same { (D.seen disk.new).names ≡ (D.seen disk.old).names }
+    ensures read { result ≡ Ended.ReadFault
+        → Rose (S.seen input.old).faults (S.seen input.new).faults }
+    ensures write { result ≡ Ended.WriteFault
+        → Rose (W.seen out.old).faults (W.seen out.new).faults }
+    ensures stored { result ≡ Ended.DiskFault
+        → Rose (D.seen disk.old).faults (D.seen disk.new).faults }
 {
     requests_are_serial_from();
     let mut feed = FrameFeed::new(alloc, Way::ToServer);
@@ -126,13 +130,17 @@ fn serve_from<S: Source, W: Sink, D: Disk>(
     journal: Journal,
 ) -> Ended
     requires ready { journal.failed ≡ false }
-    requires mounted { IfSome (D.told disk.old) (IsMounted journal.gate) }
-    ensures serves { ServesFrom result server journal.gate (S.left input.old)
-        (S.left input.new) (D.told disk.old) (D.told disk.new) (W.held out.old) (W.held out.new) }
-    ensures same { D.names disk.new ≡ D.names disk.old }
-    ensures read { result ≡ Ended.ReadFault → Rose (S.faults input.old) (S.faults input.new) }
-    ensures write { result ≡ Ended.WriteFault → Rose (W.faults out.old) (W.faults out.new) }
-    ensures stored { result ≡ Ended.DiskFault → Rose (D.faults disk.old) (D.faults disk.new) }
+    requires mounted { IfSome (D.seen disk.old).content (IsMounted journal.gate) }
+    ensures serves { ServesFrom result server journal.gate (S.seen input.old).content
+        (S.seen input.new).content (D.seen disk.old).content (D.seen disk.new).content
+        (W.seen out.old).content (W.seen out.new).content }
+    ensures same { (D.seen disk.new).names ≡ (D.seen disk.old).names }
+    ensures read { result ≡ Ended.ReadFault
+        → Rose (S.seen input.old).faults (S.seen input.new).faults }
+    ensures write { result ≡ Ended.WriteFault
+        → Rose (W.seen out.old).faults (W.seen out.new).faults }
+    ensures stored { result ≡ Ended.DiskFault
+        → Rose (D.seen disk.old).faults (D.seen disk.new).faults }
 {
     match Durable::new(alloc, server, journal) {
         Ok(mut durable) => {
@@ -153,13 +161,17 @@ fn serve_found<S: Source, W: Sink, D: Disk>(
     journal: Journal,
 ) -> Ended
     requires ready { journal.failed ≡ false }
-    requires mounted { IfSome (D.told disk.old) (IsMounted journal.gate) }
-    ensures serves { ServesFound result journal.gate (S.left input.old)
-        (S.left input.new) (D.told disk.old) (D.told disk.new) (W.held out.old) (W.held out.new) }
-    ensures same { D.names disk.new ≡ D.names disk.old }
-    ensures read { result ≡ Ended.ReadFault → Rose (S.faults input.old) (S.faults input.new) }
-    ensures write { result ≡ Ended.WriteFault → Rose (W.faults out.old) (W.faults out.new) }
-    ensures stored { result ≡ Ended.DiskFault → Rose (D.faults disk.old) (D.faults disk.new) }
+    requires mounted { IfSome (D.seen disk.old).content (IsMounted journal.gate) }
+    ensures serves { ServesFound result journal.gate (S.seen input.old).content
+        (S.seen input.new).content (D.seen disk.old).content (D.seen disk.new).content
+        (W.seen out.old).content (W.seen out.new).content }
+    ensures same { (D.seen disk.new).names ≡ (D.seen disk.old).names }
+    ensures read { result ≡ Ended.ReadFault
+        → Rose (S.seen input.old).faults (S.seen input.new).faults }
+    ensures write { result ≡ Ended.WriteFault
+        → Rose (W.seen out.old).faults (W.seen out.new).faults }
+    ensures stored { result ≡ Ended.DiskFault
+        → Rose (D.seen disk.old).faults (D.seen disk.new).faults }
 {
     let mut server = Server::new(alloc);
     match serve_records(alloc, disk, &journal, &mut server) {
@@ -177,12 +189,16 @@ fn serve_mounted<S: Source, W: Sink, D: Disk>(
     out: &mut W,
     disk: &mut D,
 ) -> Ended
-    ensures content { ServesJournal result (S.left input.old) (S.left input.new)
-        (D.told disk.old) (D.told disk.new) (W.held out.old) (W.held out.new) }
-    ensures same { D.names disk.new ≡ D.names disk.old }
-    ensures read { result ≡ Ended.ReadFault → Rose (S.faults input.old) (S.faults input.new) }
-    ensures write { result ≡ Ended.WriteFault → Rose (W.faults out.old) (W.faults out.new) }
-    ensures stored { result ≡ Ended.DiskFault → Rose (D.faults disk.old) (D.faults disk.new) }
+    ensures content { ServesJournal result (S.seen input.old).content (S.seen input.new).content
+        (D.seen disk.old).content (D.seen disk.new).content
+        (W.seen out.old).content (W.seen out.new).content }
+    ensures same { (D.seen disk.new).names ≡ (D.seen disk.old).names }
+    ensures read { result ≡ Ended.ReadFault
+        → Rose (S.seen input.old).faults (S.seen input.new).faults }
+    ensures write { result ≡ Ended.WriteFault
+        → Rose (W.seen out.old).faults (W.seen out.new).faults }
+    ensures stored { result ≡ Ended.DiskFault
+        → Rose (D.seen disk.old).faults (D.seen disk.new).faults }
 {
     requests_may_be_asked();
     match Journal::mount(alloc, disk) {
@@ -205,22 +221,26 @@ pub fn serve_journal<S: Source, W: Sink, D: Disk>(
     // What was taken of the input, what was put for it and what a crash leaves of its records, by
     // how it ended, and that transactions took effect one after another; or why the file's records
     // weren't served again.
-    ensures content { ServesJournal result (S.left input.old) (S.left input.new)
-        (D.told disk.old) (D.told disk.new) (W.held out.old) (W.held out.new) }
+    ensures content { ServesJournal result (S.seen input.old).content (S.seen input.new).content
+        (D.seen disk.old).content (D.seen disk.new).content
+        (W.seen out.old).content (W.seen out.new).content }
     // Where the input and the disk expose what they hold: by how the bytes within the limit end,
     // and the frames of their replies, from the state that the file's records lead to. So whole
     // frames within the limit end with `Done` and all frames, unless memory runs out, a device
     // fails or the file is full. `Damaged` comes only where a record isn't served again.
-    ensures exact { ServesExactly result (S.left input.old) (D.told disk.old) (W.held out.old)
-        (W.held out.new) }
+    ensures exact { ServesExactly result (S.seen input.old).content (D.seen disk.old).content
+        (W.seen out.old).content (W.seen out.new).content }
     // A file whose records are served again stays one, and isn't found damaged.
-    ensures servable { WhereExposed StaysServable (D.told disk.old) (D.told disk.new) }
-    ensures undamaged { IsntDamaged result (D.told disk.old) (D.told disk.new) }
+    ensures servable { WhereExposed StaysServable (D.seen disk.old).content (D.seen disk.new).content }
+    ensures undamaged { IsntDamaged result (D.seen disk.old).content (D.seen disk.new).content }
     // The faults of the outside come only where a count rose.
-    ensures same { D.names disk.new ≡ D.names disk.old }
-    ensures read { result ≡ Ended.ReadFault → Rose (S.faults input.old) (S.faults input.new) }
-    ensures write { result ≡ Ended.WriteFault → Rose (W.faults out.old) (W.faults out.new) }
-    ensures stored { result ≡ Ended.DiskFault → Rose (D.faults disk.old) (D.faults disk.new) }
+    ensures same { (D.seen disk.new).names ≡ (D.seen disk.old).names }
+    ensures read { result ≡ Ended.ReadFault
+        → Rose (S.seen input.old).faults (S.seen input.new).faults }
+    ensures write { result ≡ Ended.WriteFault
+        → Rose (W.seen out.old).faults (W.seen out.new).faults }
+    ensures stored { result ≡ Ended.DiskFault
+        → Rose (D.seen disk.old).faults (D.seen disk.new).faults }
 {
     one_reading();
     streams_are_read_once();

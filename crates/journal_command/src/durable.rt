@@ -18,7 +18,7 @@ use ae_base::frames::FrameVersion;
 use ae_base::lists::Seq;
 use ae_base::sessions::SessionId;
 use ae_edge::sinks::Sink;
-use ae_edge::streams::PutAll;
+use ae_edge::streams::WriteError;
 use disk::disks::Disk;
 use journal_core::journal::{Appended, Journal};
 use serve_command::answers::put_replies;
@@ -174,16 +174,16 @@ impl Durable {
     /// Adds a record to the journal, where there is one.
     fn append<D: Disk>(&mut self, alloc: Global, entry: &Option<Blob>, disk: &mut D) -> Appended
         requires ready { self.old.journal.failed ≡ false }
-        requires mounted { IfSome (D.told disk.old) (IsMounted self.old.journal.gate) }
+        requires mounted { IfSome (D.seen disk.old).content (IsMounted self.old.journal.gate) }
         requires proper { IfSome entry.now IsRecord }
         ensures appended { AppendsEntry result self.old.journal.gate self.new.journal.gate
-            (option_to_list entry.now) (D.told disk.old) (D.told disk.new) }
+            (option_to_list entry.now) (D.seen disk.old).content (D.seen disk.new).content }
         ensures kept { self.new ≡ record self.old { journal = self.new.journal } }
         ensures ready { result ≡ Appended.Done → self.new.journal.failed ≡ false }
         ensures mounted { result ≡ Appended.Done
-            → IfSome (D.told disk.new) (IsMounted self.new.journal.gate) }
-        ensures same { D.names disk.new ≡ D.names disk.old }
-        ensures counts { CountsAppended result (D.faults disk.old) (D.faults disk.new) }
+            → IfSome (D.seen disk.new).content (IsMounted self.new.journal.gate) }
+        ensures same { (D.seen disk.new).names ≡ (D.seen disk.old).names }
+        ensures counts { CountsAppended result (D.seen disk.old).faults (D.seen disk.new).faults }
     {
         match entry {
             Some(entry) => self.journal.append(alloc, disk, entry.as_slice()),
@@ -201,25 +201,26 @@ impl Durable {
         disk: &mut D,
     ) -> Answered
         requires ready { self.old.journal.failed ≡ false }
-        requires mounted { IfSome (D.told disk.old) (IsMounted self.old.journal.gate) }
+        requires mounted { IfSome (D.seen disk.old).content (IsMounted self.old.journal.gate) }
         requires proper { IfSome answer.now.entry IsRecord }
         ensures put { PutsBy result (packed version answer.now.replies)
             (option_to_list answer.now.entry)
-            (outside self.old.journal.gate (D.told disk.old) (W.held out.old))
-            (outside self.new.journal.gate (D.told disk.new) (W.held out.new)) }
+            (outside self.old.journal.gate (D.seen disk.old).content (W.seen out.old).content)
+            (outside self.new.journal.gate (D.seen disk.new).content (W.seen out.new).content) }
         ensures kept { self.new ≡ record self.old { journal = self.new.journal } }
         ensures ready { result ≡ Answered.Whole → self.new.journal.failed ≡ false }
         ensures mounted { result ≡ Answered.Whole
-            → IfSome (D.told disk.new) (IsMounted self.new.journal.gate) }
-        ensures same { D.names disk.new ≡ D.names disk.old }
-        ensures counts { CountsAnswer result (faults (D.faults disk.old) (W.faults out.old))
-            (faults (D.faults disk.new) (W.faults out.new)) }
+            → IfSome (D.seen disk.new).content (IsMounted self.new.journal.gate) }
+        ensures same { (D.seen disk.new).names ≡ (D.seen disk.old).names }
+        ensures counts { CountsAnswer result
+            (faults (D.seen disk.old).faults (W.seen out.old).faults)
+            (faults (D.seen disk.new).faults (W.seen out.new).faults) }
     {
         match self.append(alloc, &answer.entry, disk) {
             Appended::Done => match put_replies(alloc, version, answer.replies.as_slice(), out) {
-                PutAll::Whole => Answered::Whole,
-                PutAll::WriteFault => Answered::Stopped(Stop::WriteFault),
-                PutAll::OutOfMemory => Answered::Stopped(Stop::OutOfMemory),
+                Ok(()) => Answered::Whole,
+                Err(WriteError::Failed) => Answered::Stopped(Stop::WriteFault),
+                Err(WriteError::OutOfMemory) => Answered::Stopped(Stop::OutOfMemory),
             },
             Appended::DiskFault => Answered::Stopped(Stop::DiskFault),
             Appended::JournalFull => Answered::Stopped(Stop::JournalFull),
@@ -235,15 +236,16 @@ impl Durable {
         out: &mut W,
         disk: &mut D,
     ) -> Answered
-        requires sound { IsSound self.old (D.told disk.old) }
+        requires sound { IsSound self.old (D.seen disk.old).content }
         ensures answers { (held : List (List Asked)) → self.old.held ≡ map frames_of held
             → AnswersBy result held asked.now self.old self.new
-            (outside self.old.journal.gate (D.told disk.old) (W.held out.old))
-            (outside self.new.journal.gate (D.told disk.new) (W.held out.new)) }
-        ensures sound { GoesOn result self.new (D.told disk.new) }
-        ensures same { D.names disk.new ≡ D.names disk.old }
-        ensures counts { CountsAnswer result (faults (D.faults disk.old) (W.faults out.old))
-            (faults (D.faults disk.new) (W.faults out.new)) }
+            (outside self.old.journal.gate (D.seen disk.old).content (W.seen out.old).content)
+            (outside self.new.journal.gate (D.seen disk.new).content (W.seen out.new).content) }
+        ensures sound { GoesOn result self.new (D.seen disk.new).content }
+        ensures same { (D.seen disk.new).names ≡ (D.seen disk.old).names }
+        ensures counts { CountsAnswer result
+            (faults (D.seen disk.old).faults (W.seen out.old).faults)
+            (faults (D.seen disk.new).faults (W.seen out.new).faults) }
     {
         match self.serve(alloc, asked) {
             Ok(answer) => self.append_and_put(alloc, asked.version, &answer, out, disk),

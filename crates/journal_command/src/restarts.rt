@@ -1,6 +1,7 @@
 //! The records that were found are served again.
 
 ghost use Rattle.std.specs.Prelude.{◌≡◌, ◌<◌, ◌≤◌, ◌^◌, IfSome};
+ghost use Rattle.ae_edge.specs.Devices.{Calls};
 ghost use Rattle.journal_core.specs.Appends.{IsMounted};
 ghost use Rattle.journal_core.specs.Journals.{place_behind};
 ghost use Rattle.journal_command.specs.Restarts.{AnswersPrefix, CountsRestarted, Restarts, ServesAgain, ServesEntry};
@@ -111,13 +112,10 @@ pub fn serve_records<D: Disk>(
     journal: &Journal,
     server: &mut Server,
 ) -> Restarted
-    requires mounted { IfSome (D.told disk.old) (IsMounted journal.now.gate) }
-    ensures content { Restarts result journal.now.gate server.old server.new
-        (D.told disk.old) (D.told disk.new) }
-    ensures mounted { IfSome (D.told disk.new) (IsMounted journal.now.gate) }
-    ensures same { D.names disk.new ≡ D.names disk.old }
-    ensures count { D.faults disk.old ≤ D.faults disk.new }
-    ensures counts { CountsRestarted result (D.faults disk.old) (D.faults disk.new) }
+    requires mounted { IfSome (D.seen disk.old).content (IsMounted journal.now.gate) }
+    ensures call { Calls (Restarts result journal.now.gate server.old server.new)
+        (CountsRestarted result) (D.seen disk.old) (D.seen disk.new) }
+    ensures mounted { IfSome (D.seen disk.new).content (IsMounted journal.now.gate) }
 {
     let mut place = 0u64;
     'entries: loop {

@@ -39,15 +39,15 @@ fn answer_message<W: Sink, D: Disk>(
     disk: &mut D,
 ) -> Turn
     requires asked { IsAsked message.now }
-    requires sound { IsSound durable.old (D.told disk.old) }
+    requires sound { IsSound durable.old (D.seen disk.old).content }
     ensures answers { (held : List (List Asked)) → durable.old.held ≡ map frames_of held
         → Answers result used message.now held durable.old durable.new
-        (outside durable.old.journal.gate (D.told disk.old) (W.held out.old))
-        (outside durable.new.journal.gate (D.told disk.new) (W.held out.new)) }
-    ensures sound { StaysSound result durable.new (D.told disk.new) }
-    ensures same { D.names disk.new ≡ D.names disk.old }
-    ensures counts { CountsTurn result (faults (D.faults disk.old) (W.faults out.old))
-        (faults (D.faults disk.new) (W.faults out.new)) }
+        (outside durable.old.journal.gate (D.seen disk.old).content (W.seen out.old).content)
+        (outside durable.new.journal.gate (D.seen disk.new).content (W.seen out.new).content) }
+    ensures sound { StaysSound result durable.new (D.seen disk.new).content }
+    ensures same { (D.seen disk.new).names ≡ (D.seen disk.old).names }
+    ensures counts { CountsTurn result (faults (D.seen disk.old).faults (W.seen out.old).faults)
+        (faults (D.seen disk.new).faults (W.seen out.new).faults) }
 {
     match message {
         Message::Asks(asked) => match durable.answer(alloc, asked, out, disk) {
@@ -67,15 +67,15 @@ fn answer_next<W: Sink, D: Disk>(
     disk: &mut D,
 ) -> Turn
     requires way { feed.now.way ≡ ToServer }
-    requires sound { IsSound durable.old (D.told disk.old) }
+    requires sound { IsSound durable.old (D.seen disk.old).content }
     ensures turns { (held : List (List Asked)) → durable.old.held ≡ map frames_of held
         → Turns result feed.now held durable.old durable.new
-        (outside durable.old.journal.gate (D.told disk.old) (W.held out.old))
-        (outside durable.new.journal.gate (D.told disk.new) (W.held out.new)) }
-    ensures sound { StaysSound result durable.new (D.told disk.new) }
-    ensures same { D.names disk.new ≡ D.names disk.old }
-    ensures counts { CountsTurn result (faults (D.faults disk.old) (W.faults out.old))
-        (faults (D.faults disk.new) (W.faults out.new)) }
+        (outside durable.old.journal.gate (D.seen disk.old).content (W.seen out.old).content)
+        (outside durable.new.journal.gate (D.seen disk.new).content (W.seen out.new).content) }
+    ensures sound { StaysSound result durable.new (D.seen disk.new).content }
+    ensures same { (D.seen disk.new).names ≡ (D.seen disk.old).names }
+    ensures counts { CountsTurn result (faults (D.seen disk.old).faults (W.seen out.old).faults)
+        (faults (D.seen disk.new).faults (W.seen out.new).faults) }
 {
     match feed.front(alloc) {
         Next::One { message, used, .. } => {
@@ -107,17 +107,17 @@ pub(crate) fn answer_held<W: Sink, D: Disk>(
     disk: &mut D,
 ) -> Came
     requires way { feed.old.way ≡ ToServer }
-    requires sound { IsSound durable.old (D.told disk.old) }
+    requires sound { IsSound durable.old (D.seen disk.old).content }
     ensures way { feed.new.way ≡ ToServer }
     ensures comes { (start : State) (taken : List ℕ) (first : Outside) → length taken < 2 ^ 64
         → IsSoFar start taken feed.old durable.old first
-        (outside durable.old.journal.gate (D.told disk.old) (W.held out.old))
+        (outside durable.old.journal.gate (D.seen disk.old).content (W.seen out.old).content)
         → Comes start result taken feed.new durable.new first
-        (outside durable.new.journal.gate (D.told disk.new) (W.held out.new)) }
-    ensures sound { result ≡ Came.Waits → IsSound durable.new (D.told disk.new) }
-    ensures same { D.names disk.new ≡ D.names disk.old }
-    ensures counts { CountsCame result (faults (D.faults disk.old) (W.faults out.old))
-        (faults (D.faults disk.new) (W.faults out.new)) }
+        (outside durable.new.journal.gate (D.seen disk.new).content (W.seen out.new).content) }
+    ensures sound { result ≡ Came.Waits → IsSound durable.new (D.seen disk.new).content }
+    ensures same { (D.seen disk.new).names ≡ (D.seen disk.old).names }
+    ensures counts { CountsCame result (faults (D.seen disk.old).faults (W.seen out.old).faults)
+        (faults (D.seen disk.new).faults (W.seen out.new).faults) }
 {
     'requests: loop {
         match answer_next(alloc, feed, durable, out, disk) {

@@ -88,9 +88,9 @@ fn hold(alloc: Global, records: &[Blob], server: &Server) -> Result<bool, AllocE
 
 /// Makes the file of a disk the journal of records that lead to the world of a server.
 fn write_tested<E: Disk>(alloc: Global, records: &[Blob], server: &Server, new: &mut E) -> Compacted
-    ensures writes { Writes result server.now (E.told new.old) (E.told new.new) }
-    ensures same { E.names new.new ≡ E.names new.old }
-    ensures counts { CountsNew result (E.faults new.old) (E.faults new.new) }
+    ensures writes { Writes result server.now (E.seen new.old).content (E.seen new.new).content }
+    ensures same { (E.seen new.new).names ≡ (E.seen new.old).names }
+    ensures counts { CountsNew result (E.seen new.old).faults (E.seen new.new).faults }
 {
     let Some(gate) = last_gate(records) else {
         return Compacted::JournalFull;
@@ -115,13 +115,13 @@ fn replace<D: Disk, E: Disk>(
     server: &Server,
     new: &mut E,
 ) -> Compacted
-    requires mounted { IfSome (D.told disk.old) (IsMounted journal.now.gate) }
-    ensures writes { Writes result server.now (E.told new.old) (E.told new.new) }
-    ensures stays { WhereExposed StaysKept (D.told disk.old) (D.told disk.new) }
-    ensures same { D.names disk.new ≡ D.names disk.old }
-    ensures same_new { E.names new.new ≡ E.names new.old }
-    ensures counts { CountsCompacted result (D.faults disk.old) (D.faults disk.new)
-        (E.faults new.old) (E.faults new.new) }
+    requires mounted { IfSome (D.seen disk.old).content (IsMounted journal.now.gate) }
+    ensures writes { Writes result server.now (E.seen new.old).content (E.seen new.new).content }
+    ensures stays { WhereExposed StaysKept (D.seen disk.old).content (D.seen disk.new).content }
+    ensures same { (D.seen disk.new).names ≡ (D.seen disk.old).names }
+    ensures same_new { (E.seen new.new).names ≡ (E.seen new.old).names }
+    ensures counts { CountsCompacted result (D.seen disk.old).faults (D.seen disk.new).faults
+        (E.seen new.old).faults (E.seen new.new).faults }
 {
     match compacted(alloc, disk, journal, server) {
         Ok(records) => write_tested(alloc, records.as_slice(), server, new),
@@ -137,17 +137,17 @@ pub fn compact<D: Disk, E: Disk>(alloc: Global, disk: &mut D, new: &mut E) -> Co
     // Served again as a start serves them, the records of the new file lead to the world to which
     // those of the old one lead: its catalog, with its version and the numbers of its keys, and the
     // same rows of each table in the same order. Or why there are none.
-    ensures content { Compacts result (D.told disk.old) (D.told disk.new)
-        (E.told new.old) (E.told new.new) }
+    ensures content { Compacts result (D.seen disk.old).content (D.seen disk.new).content
+        (E.seen new.old).content (E.seen new.new).content }
     // However it ends, and at each moment, a crash leaves the records of an image of the old file
     // that the disk had at the start.
     ensures untouched { WhereExposed (λ old new. Leaves (IsSomeImage old.now) old new)
-        (D.told disk.old) (D.told disk.new) }
+        (D.seen disk.old).content (D.seen disk.new).content }
     // The faults of the disks come only where a count rose.
-    ensures same { D.names disk.new ≡ D.names disk.old }
-    ensures same_new { E.names new.new ≡ E.names new.old }
-    ensures counts { CountsCompacted result (D.faults disk.old) (D.faults disk.new)
-        (E.faults new.old) (E.faults new.new) }
+    ensures same { (D.seen disk.new).names ≡ (D.seen disk.old).names }
+    ensures same_new { (E.seen new.new).names ≡ (E.seen new.old).names }
+    ensures counts { CountsCompacted result (D.seen disk.old).faults (D.seen disk.new).faults
+        (E.seen new.old).faults (E.seen new.new).faults }
 {
     match find(alloc, disk) {
         Found::Served(journal, server) => replace(alloc, disk, &journal, &server, new),

@@ -71,10 +71,10 @@ pub(crate) fn push_definitions<D: Disk>(
     journal: &Journal,
     records: &mut Seq<Blob>,
 ) -> Result<(), Unmade>
-    requires mounted { IfSome (D.told disk.old) (IsMounted journal.now.gate) }
-    ensures stays { WhereExposed StaysKept (D.told disk.old) (D.told disk.new) }
-    ensures same { D.names disk.new ≡ D.names disk.old }
-    ensures counts { CountsMade result (D.faults disk.old) (D.faults disk.new) }
+    requires mounted { IfSome (D.seen disk.old).content (IsMounted journal.now.gate) }
+    ensures stays { WhereExposed StaysKept (D.seen disk.old).content (D.seen disk.new).content }
+    ensures same { (D.seen disk.new).names ≡ (D.seen disk.old).names }
+    ensures counts { CountsMade result (D.seen disk.old).faults (D.seen disk.new).faults }
 {
     let mut place = 0u64;
     'entries: loop {

@@ -28,11 +28,11 @@ pub(crate) enum Found {
 
 /// Serves the records of a journal again.
 fn serve_found<D: Disk>(alloc: Global, disk: &mut D, journal: Journal) -> Found
-    requires mounted { IfSome (D.told disk.old) (IsMounted journal.gate) }
-    ensures content { Serves result journal (D.told disk.old) (D.told disk.new) }
-    ensures readable { IsReadable result (D.told disk.new) }
-    ensures same { D.names disk.new ≡ D.names disk.old }
-    ensures counts { CountsFound result (D.faults disk.old) (D.faults disk.new) }
+    requires mounted { IfSome (D.seen disk.old).content (IsMounted journal.gate) }
+    ensures content { Serves result journal (D.seen disk.old).content (D.seen disk.new).content }
+    ensures readable { IsReadable result (D.seen disk.new).content }
+    ensures same { (D.seen disk.new).names ≡ (D.seen disk.old).names }
+    ensures counts { CountsFound result (D.seen disk.old).faults (D.seen disk.new).faults }
 {
     let mut server = Server::new(alloc);
     match serve_records(alloc, disk, &journal, &mut server) {
@@ -45,12 +45,12 @@ fn serve_found<D: Disk>(alloc: Global, disk: &mut D, journal: Journal) -> Found
 
 /// Finds the journal on a disk as a server does at its start, and serves its records again.
 pub(crate) fn find<D: Disk>(alloc: Global, disk: &mut D) -> Found
-    ensures content { Finds result (D.told disk.old) (D.told disk.new) }
-    ensures readable { IsReadable result (D.told disk.new) }
+    ensures content { Finds result (D.seen disk.old).content (D.seen disk.new).content }
+    ensures readable { IsReadable result (D.seen disk.new).content }
     ensures untouched { WhereExposed (λ old new. Leaves (IsSomeImage old.now) old new)
-        (D.told disk.old) (D.told disk.new) }
-    ensures same { D.names disk.new ≡ D.names disk.old }
-    ensures counts { CountsFound result (D.faults disk.old) (D.faults disk.new) }
+        (D.seen disk.old).content (D.seen disk.new).content }
+    ensures same { (D.seen disk.new).names ≡ (D.seen disk.old).names }
+    ensures counts { CountsFound result (D.seen disk.old).faults (D.seen disk.new).faults }
 {
     match Journal::mount(alloc, disk) {
         Mounted::Ready(journal) => serve_found(alloc, disk, journal),

@@ -58,10 +58,10 @@ pub(crate) fn compacted<D: Disk>(
     journal: &Journal,
     server: &Server,
 ) -> Result<Seq<Blob>, Unmade>
-    requires mounted { IfSome (D.told disk.old) (IsMounted journal.now.gate) }
-    ensures stays { WhereExposed StaysKept (D.told disk.old) (D.told disk.new) }
-    ensures same { D.names disk.new ≡ D.names disk.old }
-    ensures counts { CountsMade result (D.faults disk.old) (D.faults disk.new) }
+    requires mounted { IfSome (D.seen disk.old).content (IsMounted journal.now.gate) }
+    ensures stays { WhereExposed StaysKept (D.seen disk.old).content (D.seen disk.new).content }
+    ensures same { (D.seen disk.new).names ≡ (D.seen disk.old).names }
+    ensures counts { CountsMade result (D.seen disk.old).faults (D.seen disk.new).faults }
 {
     let mut records = Seq::new(alloc);
     match push_definitions(alloc, disk, journal, &mut records) {

@@ -49,24 +49,24 @@ fn opened_record(alloc: Global, entry: &[u8]) -> Result<Vec<u8>, AllocError>
 
 /// Puts bytes at the end of the file.
 fn put_behind<E: Disk>(disk: &mut E, at: u64, bytes: &[u8]) -> Stored
-    requires end { IfSome (E.told disk.old) (HasAt at) }
+    requires end { IfSome (E.seen disk.old).content (HasAt at) }
     requires room { at + length bytes.now < 2 ^ 64 }
     ensures content { WhereExposed (PutsBehind result bytes.now)
-        (E.told disk.old) (E.told disk.new) }
-    ensures same { E.names disk.new ≡ E.names disk.old }
-    ensures counts { CountsStored result (E.faults disk.old) (E.faults disk.new) }
+        (E.seen disk.old).content (E.seen disk.new).content }
+    ensures same { (E.seen disk.new).names ≡ (E.seen disk.old).names }
+    ensures counts { CountsStored result (E.seen disk.old).faults (E.seen disk.new).faults }
 {
     disk.write(at, bytes)
 }
 
 /// Puts a record behind an open gate at the end of the file.
 fn put_record<E: Disk>(alloc: Global, disk: &mut E, at: u64, entry: &[u8]) -> Stored
-    requires end { IfSome (E.told disk.old) (HasAt at) }
+    requires end { IfSome (E.seen disk.old).content (HasAt at) }
     requires room { at + 10 + length entry.now < 2 ^ 64 }
     ensures content { WhereExposed (PutsBehind result (1 ∷ framed entry.now))
-        (E.told disk.old) (E.told disk.new) }
-    ensures same { E.names disk.new ≡ E.names disk.old }
-    ensures counts { CountsStored result (E.faults disk.old) (E.faults disk.new) }
+        (E.seen disk.old).content (E.seen disk.new).content }
+    ensures same { (E.seen disk.new).names ≡ (E.seen disk.old).names }
+    ensures counts { CountsStored result (E.seen disk.old).faults (E.seen disk.new).faults }
 {
     match opened_record(alloc, entry) {
         Ok(bytes) => put_behind(disk, at, bytes.as_slice()),
@@ -76,12 +76,12 @@ fn put_record<E: Disk>(alloc: Global, disk: &mut E, at: u64, entry: &[u8]) -> St
 
 /// Puts records at the end of an empty file, each behind an open gate.
 fn put_records<E: Disk>(alloc: Global, disk: &mut E, records: &[Blob]) -> Stored
-    requires empty { IfSome (E.told disk.old) (HasAt 0) }
+    requires empty { IfSome (E.seen disk.old).content (HasAt 0) }
     requires room { place_behind records.now + 1 ≤ most_bytes }
     ensures content { WhereExposed (PutsBehind result (opened records.now))
-        (E.told disk.old) (E.told disk.new) }
-    ensures same { E.names disk.new ≡ E.names disk.old }
-    ensures counts { CountsStored result (E.faults disk.old) (E.faults disk.new) }
+        (E.seen disk.old).content (E.seen disk.new).content }
+    ensures same { (E.seen disk.new).names ≡ (E.seen disk.old).names }
+    ensures counts { CountsStored result (E.seen disk.old).faults (E.seen disk.new).faults }
 {
     let mut at = 0u64;
     'records: for entry in records {
@@ -96,13 +96,13 @@ fn put_records<E: Disk>(alloc: Global, disk: &mut E, records: &[Blob]) -> Stored
 
 /// Puts records and a closed gate behind them at the end of an empty file.
 fn put_journal<E: Disk>(alloc: Global, disk: &mut E, records: &[Blob], gate: u64) -> Stored
-    requires empty { IfSome (E.told disk.old) (HasAt 0) }
+    requires empty { IfSome (E.seen disk.old).content (HasAt 0) }
     requires gate { gate ≡ place_behind records.now }
     requires room { gate + 1 ≤ most_bytes }
     ensures content { WhereExposed (PutsBehind result (opened records.now ++ 0 ∷ []))
-        (E.told disk.old) (E.told disk.new) }
-    ensures same { E.names disk.new ≡ E.names disk.old }
-    ensures counts { CountsStored result (E.faults disk.old) (E.faults disk.new) }
+        (E.seen disk.old).content (E.seen disk.new).content }
+    ensures same { (E.seen disk.new).names ≡ (E.seen disk.old).names }
+    ensures counts { CountsStored result (E.seen disk.old).faults (E.seen disk.new).faults }
 {
     match put_records(alloc, disk, records) {
         Stored::Done => put_behind(disk, gate, &[0]),
@@ -114,13 +114,13 @@ fn put_journal<E: Disk>(alloc: Global, disk: &mut E, records: &[Blob], gate: u64
 /// Makes an empty file the journal of some records, and syncs it.
 fn write_empty<E: Disk>(alloc: Global, disk: &mut E, records: &[Blob], gate: u64) -> Stored
     requires records { All IsRecord records.now }
-    requires empty { IfSome (E.told disk.old) (HasAt 0) }
+    requires empty { IfSome (E.seen disk.old).content (HasAt 0) }
     requires gate { gate ≡ place_behind records.now }
     requires room { gate + 1 ≤ most_bytes }
     ensures content { WhereExposed (WritesJournal result records.now)
-        (E.told disk.old) (E.told disk.new) }
-    ensures same { E.names disk.new ≡ E.names disk.old }
-    ensures counts { CountsStored result (E.faults disk.old) (E.faults disk.new) }
+        (E.seen disk.old).content (E.seen disk.new).content }
+    ensures same { (E.seen disk.new).names ≡ (E.seen disk.old).names }
+    ensures counts { CountsStored result (E.seen disk.old).faults (E.seen disk.new).faults }
 {
     journals_are_read_back();
     match put_journal(alloc, disk, records, gate) {
@@ -141,9 +141,9 @@ pub(crate) fn write_journal<E: Disk>(
     requires gate { gate ≡ place_behind records.now }
     requires room { gate + 1 ≤ most_bytes }
     ensures content { WhereExposed (WritesJournal result records.now)
-        (E.told disk.old) (E.told disk.new) }
-    ensures same { E.names disk.new ≡ E.names disk.old }
-    ensures counts { CountsStored result (E.faults disk.old) (E.faults disk.new) }
+        (E.seen disk.old).content (E.seen disk.new).content }
+    ensures same { (E.seen disk.new).names ≡ (E.seen disk.old).names }
+    ensures counts { CountsStored result (E.seen disk.old).faults (E.seen disk.new).faults }
 {
     match disk.cut(0) {
         Stored::Done => write_empty(alloc, disk, records, gate),

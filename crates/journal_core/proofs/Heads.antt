@@ -1,52 +1,18 @@
 -- What stands at a gate, by its first nine bytes and the record behind them.
-use Rattle.std.proofs.Common.{
-  ◌≡◌,
-  ◌≢◌,
-  inl,
-  inr,
-  ℕ,
-  suc,
-  ◌+◌,
-  ◌-◌,
-  ◌≤◌,
-  ◌<◌,
-  ◌^◌,
-  min,
-  List,
-  [],
-  ◌∷◌,
-  ◌++◌,
-  length,
-  take,
-  drop,
-  get_or,
-  Option,
-  Some,
-  None,
-  refl,
-  sym,
-  ap,
-  ◌∙◌,
-  subst,
-  append_assoc,
-  arith,
-  take-append-drop,
-}
-use Rattle.std.specs.Int.{w64, to_be_bytes, from_be_bytes}
+use Rattle.std.proofs.Common.{◌≡◌, ◌≢◌, inl, inr, ℕ, suc, ◌+◌, ◌-◌, ◌≤◌, ◌<◌, ◌^◌, min, List, ◌∷◌, length, take, drop, get_or, Option, refl, sym, ap, ◌∙◌, subst, arith}
+use Rattle.std.specs.Int.{w64, from_be_bytes}
 use Rattle.std.specs.Prelude.{IfSome}
 use Rattle.std.proofs.lemmas.Bool.{cases_lt}
 use Rattle.std.proofs.lemmas.List.{drop-drop, drop_more, length-drop, length-take-le, take_all}
 use Rattle.ae_edge.specs.Devices.{WhereExposed}
 use Rattle.ae_edge.proofs.Interface.{told_map}
 use Rattle.disk.specs.Crashes.{Stand}
-use Rattle.disk.specs.Durable.{StaysKept}
 use Rattle.disk.specs.Moments.{Moments}
 use Rattle.disk.specs.declared.disks.Given.TheVariants as given
 use Rattle.disk.proofs.Interface.{told_after, told_from, told_from_then}
-use Rattle.journal_core.specs.Journals.{framed, HasRecord, IsEntry}
+use Rattle.journal_core.specs.Journals.{HasRecord}
 use Rattle.journal_core.specs.Records.{IsRecord}
 use Rattle.journal_core.specs.Reading.{HasEntryAt, HasLength, IsAt, IsHead, IsKeptTo, IsRecordAt, LacksLength, OpensWith, ReadsPart, ReadsRecord, Stands}
-use Rattle.journal_core.specs.declared.reading.Head.{Head}
 use Rattle.journal_core.specs.declared.reading.Head.TheVariants as head
 use Rattle.journal_core.specs.declared.reading.Stood.{Stood}
 use Rattle.journal_core.specs.declared.reading.Stood.TheVariants as stood

@@ -1,6 +1,6 @@
 -- A journal over a disk, and how a record is added to it.
 use Rattle.std.specs.Prelude.{◌≡◌, ℕ, ◌+◌, List, [], ◌∷◌, ◌++◌, length, take, Bool, true, false, Option, IfSome}
-use Rattle.ae_edge.specs.Devices.{Rose}
+use Rattle.ae_edge.specs.Devices.{Rose, Stays}
 use Rattle.disk.specs.Crashes.{kept}
 use Rattle.disk.specs.Moments.{Moments, LeavesNow, Leaves}
 use Rattle.disk.specs.declared.disks.Stored.{Stored}
@@ -67,7 +67,7 @@ StaysMounted appended.JournalFull gate disk = IfSome disk (IsMounted gate)
 
 -- the count of faults stays, but where a call failed
 abbrev pub CountsAppended : Appended → ℕ → ℕ → Type 0
-CountsAppended appended.Done old new = new ≡ old
-CountsAppended appended.DiskFault old new = Rose old new
-CountsAppended appended.OutOfMemory old new = new ≡ old
-CountsAppended appended.JournalFull old new = new ≡ old
+CountsAppended appended.Done = Stays
+CountsAppended appended.DiskFault = Rose
+CountsAppended appended.OutOfMemory = Stays
+CountsAppended appended.JournalFull = Stays

@@ -1,6 +1,6 @@
 -- The entries of a journal are read again, one after another.
 use Rattle.std.specs.Prelude.{◌≡◌, ℕ, ◌+◌, ◌≤◌, List, [], ◌∷◌, ◌++◌, length}
-use Rattle.ae_edge.specs.Devices.{Rose}
+use Rattle.ae_edge.specs.Devices.{Rose, Stays}
 use Rattle.disk.specs.Durable.{StaysKept}
 use Rattle.disk.specs.Moments.{Moments}
 use Rattle.journal_core.specs.Appends.{EndsAt}
@@ -37,8 +37,8 @@ IsNotPast entry.OutOfMemory place gate = Unit {0}
 
 -- the count of faults stays, but where a call failed
 abbrev pub CountsEntry : Entry → ℕ → ℕ → Type 0
-CountsEntry (entry.Next bytes) old new = new ≡ old
-CountsEntry entry.End old new = new ≡ old
-CountsEntry entry.Other old new = new ≡ old
-CountsEntry entry.Failed old new = Rose old new
-CountsEntry entry.OutOfMemory old new = new ≡ old
+CountsEntry (entry.Next bytes) = Stays
+CountsEntry entry.End = Stays
+CountsEntry entry.Other = Stays
+CountsEntry entry.Failed = Rose
+CountsEntry entry.OutOfMemory = Stays

@@ -1,6 +1,6 @@
 -- A journal is found on a disk.
 use Rattle.std.specs.Prelude.{◌≡◌, ℕ, ◌<◌, ◌^◌, List, [], ◌∷◌, ◌++◌, take, false, Option, IfSome}
-use Rattle.ae_edge.specs.Devices.{Rose}
+use Rattle.ae_edge.specs.Devices.{Rose, Stays}
 use Rattle.disk.specs.Crashes.{Stand, IsImage, kept}
 use Rattle.disk.specs.Moments.{Moments, LeavesNow, Leaves, OnlySyncs}
 use Rattle.journal_core.specs.Appends.{EndsAt, IsMounted}
@@ -58,7 +58,7 @@ IsReady mounted.OutOfMemory disk = Unit {0}
 
 -- the count of faults stays, but where a call failed
 abbrev pub CountsMounted : Mounted → ℕ → ℕ → Type 0
-CountsMounted (mounted.Ready journal) old new = new ≡ old
-CountsMounted (mounted.Damaged place) old new = new ≡ old
-CountsMounted mounted.DiskFault old new = Rose old new
-CountsMounted mounted.OutOfMemory old new = new ≡ old
+CountsMounted (mounted.Ready journal) = Stays
+CountsMounted (mounted.Damaged place) = Stays
+CountsMounted mounted.DiskFault = Rose
+CountsMounted mounted.OutOfMemory = Stays

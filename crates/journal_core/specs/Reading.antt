@@ -1,7 +1,7 @@
 -- Parts of a file that is on the disk, and what stands at a gate there.
 use Rattle.std.specs.Prelude.{◌≡◌, ◌≢◌, ◌⊎◌, ℕ, ◌+◌, ◌<◌, ◌≤◌, List, [], ◌∷◌, ◌++◌, length, take, drop, get_or}
 use Rattle.std.specs.Int.{w64, to_be_bytes, from_be_bytes}
-use Rattle.ae_edge.specs.Devices.{Rose}
+use Rattle.ae_edge.specs.Devices.{Rose, Stays}
 use Rattle.disk.specs.Durable.{IsKept, StaysKept}
 use Rattle.disk.specs.Moments.{Moments}
 use Rattle.disk.specs.declared.disks.Given.{Given}
@@ -95,8 +95,8 @@ IsInside stood.OutOfMemory from last = Unit {0}
 
 -- the count of faults stays, but where a call failed
 abbrev pub CountsStood : Stood → ℕ → ℕ → Type 0
-CountsStood (stood.Open entry) old new = new ≡ old
-CountsStood stood.Closed old new = new ≡ old
-CountsStood stood.Broken old new = new ≡ old
-CountsStood stood.Failed old new = Rose old new
-CountsStood stood.OutOfMemory old new = new ≡ old
+CountsStood (stood.Open entry) = Stays
+CountsStood stood.Closed = Stays
+CountsStood stood.Broken = Stays
+CountsStood stood.Failed = Rose
+CountsStood stood.OutOfMemory = Stays

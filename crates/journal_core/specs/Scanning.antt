@@ -1,6 +1,6 @@
 -- What is found in a file as a journal.
 use Rattle.std.specs.Prelude.{◌≡◌, ◌⊎◌, ℕ, ◌≤◌, List, [], ◌∷◌, ◌++◌, length}
-use Rattle.ae_edge.specs.Devices.{Rose}
+use Rattle.ae_edge.specs.Devices.{Rose, Stays}
 use Rattle.disk.specs.Durable.{StaysKept}
 use Rattle.disk.specs.Moments.{Moments}
 use Rattle.journal_core.specs.Journals.{Damaged, Opens, ReadsAs}
@@ -25,7 +25,7 @@ Scans found old new = IsFound found old.now.seen × StaysKept old new
 
 -- the count of faults stays, but where a call failed
 abbrev pub CountsScanned : Scanned → ℕ → ℕ → Type 0
-CountsScanned (scanned.Whole gate) old new = new ≡ old
-CountsScanned (scanned.Broken place) old new = new ≡ old
-CountsScanned scanned.Failed old new = Rose old new
-CountsScanned scanned.OutOfMemory old new = new ≡ old
+CountsScanned (scanned.Whole gate) = Stays
+CountsScanned (scanned.Broken place) = Stays
+CountsScanned scanned.Failed = Rose
+CountsScanned scanned.OutOfMemory = Stays

@@ -1,7 +1,7 @@
 //! The records of a journal are read from its disk, one after another.
 
 ghost use Rattle.std.specs.Prelude.{◌≡◌, ◌<◌, ◌≤◌, ◌^◌, IfSome};
-ghost use Rattle.ae_edge.specs.Devices.{WhereExposed};
+ghost use Rattle.ae_edge.specs.Devices.{Calls, WhereExposed};
 ghost use Rattle.journal_core.specs.Appends.{IsMounted};
 ghost use Rattle.journal_core.specs.Entries.{Continues, CountsEntry, IsNotPast};
 
@@ -29,16 +29,13 @@ impl Journal {
     /// The record whose gate stands at a place, as it was found or added: the first record's stands
     /// at 0, and each other one nine bytes behind the end of the record before it.
     pub fn entry_at<D: Disk>(&self, alloc: Global, disk: &mut D, place: u64) -> Entry
-        requires mounted { IfSome (D.told disk.old) (IsMounted self.now.gate) }
+        requires mounted { IfSome (D.seen disk.old).content (IsMounted self.now.gate) }
         requires before { place ≤ self.now.gate }
-        ensures content { WhereExposed (Continues result place self.now.gate)
-            (D.told disk.old) (D.told disk.new) }
-        ensures mounted { IfSome (D.told disk.new) (IsMounted self.now.gate) }
+        ensures call { Calls (WhereExposed (Continues result place self.now.gate)) (CountsEntry result)
+            (D.seen disk.old) (D.seen disk.new) }
+        ensures mounted { IfSome (D.seen disk.new).content (IsMounted self.now.gate) }
         ensures inside { IsNotPast result place self.now.gate }
         ensures fits { self.now.gate < 2 ^ 64 }
-        ensures same { D.names disk.new ≡ D.names disk.old }
-        ensures count { D.faults disk.old ≤ D.faults disk.new }
-        ensures counts { CountsEntry result (D.faults disk.old) (D.faults disk.new) }
     {
         if place == self.last_gate() {
             return Entry::End;

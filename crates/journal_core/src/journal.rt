@@ -1,7 +1,7 @@
 //! A journal, to which records are added.
 
 ghost use Rattle.std.specs.Prelude.{◌≡◌, ◌<◌, ◌≤◌, ◌+◌, ◌++◌, ◌∷◌, [], ◌^◌, ◌↔◌, IfOk, IfSome, IsTrue, false, length};
-ghost use Rattle.ae_edge.specs.Devices.{WhereExposed};
+ghost use Rattle.ae_edge.specs.Devices.{Calls, WhereExposed};
 ghost use Rattle.disk.specs.Calls.{CountsStored};
 ghost use Rattle.disk.specs.Durable.{IsKept, WritesThrough};
 ghost use Rattle.journal_core.specs.Appends.{Appends, CountsAppended, IsMounted, StaysMounted, WritesEntry, fails, gate_after, most_bytes};
@@ -81,18 +81,15 @@ impl Journal {
     /// leaves the records before it, with it or without; once it is `Done`, with it.
     pub fn append<D: Disk>(&mut self, alloc: Global, disk: &mut D, entry: &[u8]) -> Appended
         requires ready { self.old.failed ≡ false }
-        requires mounted { IfSome (D.told disk.old) (IsMounted self.old.gate) }
+        requires mounted { IfSome (D.seen disk.old).content (IsMounted self.old.gate) }
         requires proper { IsRecord entry.now }
-        ensures content { WhereExposed (Appends result self.old.gate entry.now)
-            (D.told disk.old) (D.told disk.new) }
+        ensures call { Calls (WhereExposed (Appends result self.old.gate entry.now))
+            (CountsAppended result) (D.seen disk.old) (D.seen disk.new) }
         ensures gate { self.new.gate ≡ gate_after result self.old.gate entry.now }
         ensures failed { self.new.failed ≡ fails result }
-        ensures mounted { StaysMounted result self.new.gate (D.told disk.new) }
+        ensures mounted { StaysMounted result self.new.gate (D.seen disk.new).content }
         ensures full { (result ≡ Appended.JournalFull)
             ↔ (most_bytes < self.old.gate + 10 + length entry.now) }
-        ensures same { D.names disk.new ≡ D.names disk.old }
-        ensures count { D.faults disk.old ≤ D.faults disk.new }
-        ensures counts { CountsAppended result (D.faults disk.old) (D.faults disk.new) }
     {
         if self.is_full(entry.len()) {
             return Appended::JournalFull;
@@ -128,14 +125,11 @@ fn staged(alloc: Global, entry: &[u8]) -> Result<Vec<u8>, AllocError>
 
 /// Puts a record, and a closed gate, behind the gate at a place.
 fn stage<D: Disk>(alloc: Global, disk: &mut D, gate: u64, entry: &[u8]) -> Stored
-    requires kept { IfSome (D.told disk.old) IsKept }
-    requires inside { IfSome (D.told disk.old) (λ d. gate + 1 ≤ length d.now.seen) }
+    requires kept { IfSome (D.seen disk.old).content IsKept }
+    requires inside { IfSome (D.seen disk.old).content (λ d. gate + 1 ≤ length d.now.seen) }
     requires room { gate + 10 + length entry.now ≤ most_bytes }
-    ensures content { WhereExposed (WritesThrough result (gate + 1) (framed entry.now ++ 0 ∷ []))
-        (D.told disk.old) (D.told disk.new) }
-    ensures same { D.names disk.new ≡ D.names disk.old }
-    ensures count { D.faults disk.old ≤ D.faults disk.new }
-    ensures counts { CountsStored result (D.faults disk.old) (D.faults disk.new) }
+    ensures { Calls (WhereExposed (WritesThrough result (gate + 1) (framed entry.now ++ 0 ∷ [])))
+        (CountsStored result) (D.seen disk.old) (D.seen disk.new) }
 {
     match staged(alloc, entry) {
         Ok(bytes) => write_through(disk, gate + 1, bytes.as_slice()),
@@ -146,14 +140,11 @@ fn stage<D: Disk>(alloc: Global, disk: &mut D, gate: u64, entry: &[u8]) -> Store
 /// Puts a record behind the closed gate at a place, and opens the gate once the record is on the
 /// disk.
 fn write_entry<D: Disk>(alloc: Global, disk: &mut D, gate: u64, entry: &[u8]) -> Stored
-    requires mounted { IfSome (D.told disk.old) (IsMounted gate) }
+    requires mounted { IfSome (D.seen disk.old).content (IsMounted gate) }
     requires proper { IsRecord entry.now }
     requires room { gate + 10 + length entry.now ≤ most_bytes }
-    ensures content { WhereExposed (WritesEntry result gate entry.now)
-        (D.told disk.old) (D.told disk.new) }
-    ensures same { D.names disk.new ≡ D.names disk.old }
-    ensures count { D.faults disk.old ≤ D.faults disk.new }
-    ensures counts { CountsStored result (D.faults disk.old) (D.faults disk.new) }
+    ensures { Calls (WhereExposed (WritesEntry result gate entry.now)) (CountsStored result)
+        (D.seen disk.old) (D.seen disk.new) }
 {
     match stage(alloc, disk, gate, entry) {
         Stored::Done => write_through(disk, gate, &[1]),

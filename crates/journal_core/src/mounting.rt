@@ -1,7 +1,7 @@
 //! A journal is found on a disk, and the end of its file put in order.
 
 ghost use Rattle.std.specs.Prelude.{◌≡◌, ◌≢◌, ◌≤◌, ◌+◌, ◌∷◌, ◌↔◌, [], ℕ, IfSome, IsTrue, length};
-ghost use Rattle.ae_edge.specs.Devices.{WhereExposed};
+ghost use Rattle.ae_edge.specs.Devices.{Calls, WhereExposed};
 ghost use Rattle.disk.specs.Calls.{CountsStored};
 ghost use Rattle.disk.specs.Crashes.{kept};
 ghost use Rattle.disk.specs.Durable.{IsKept};
@@ -54,12 +54,10 @@ fn lacks_gate(file: &[u8]) -> bool
 
 /// Makes a file of at most one byte a closed gate, and puts it on the disk.
 fn repair_short<D: Disk>(disk: &mut D, file: &[u8]) -> Stored
-    requires kept { IfSome (D.told disk.old) (λ d. d.now ≡ kept file.now) }
+    requires kept { IfSome (D.seen disk.old).content (λ d. d.now ≡ kept file.now) }
     requires short { length file.now ≤ 1 }
-    ensures content { WhereExposed (Repairs result 0 file.now) (D.told disk.old) (D.told disk.new) }
-    ensures same { D.names disk.new ≡ D.names disk.old }
-    ensures count { D.faults disk.old ≤ D.faults disk.new }
-    ensures counts { CountsStored result (D.faults disk.old) (D.faults disk.new) }
+    ensures { Calls (WhereExposed (Repairs result 0 file.now)) (CountsStored result)
+        (D.seen disk.old) (D.seen disk.new) }
 {
     if lacks_gate(file) {
         write_through(disk, 0, &[0])
@@ -70,12 +68,10 @@ fn repair_short<D: Disk>(disk: &mut D, file: &[u8]) -> Stored
 
 /// Finds the journal of a file of at most one byte that is on the disk: it has no record.
 fn settle_short<D: Disk>(alloc: Global, disk: &mut D) -> Mounted
-    requires kept { IfSome (D.told disk.old) IsShort }
-    ensures content { WhereExposed (SettlesFile result) (D.told disk.old) (D.told disk.new) }
+    requires kept { IfSome (D.seen disk.old).content IsShort }
+    ensures call { Calls (WhereExposed (SettlesFile result)) (CountsMounted result)
+        (D.seen disk.old) (D.seen disk.new) }
     ensures whole { IsWhole result }
-    ensures same { D.names disk.new ≡ D.names disk.old }
-    ensures count { D.faults disk.old ≤ D.faults disk.new }
-    ensures counts { CountsMounted result (D.faults disk.old) (D.faults disk.new) }
 {
     match read_part(alloc, disk, 0, 1) {
         Given::Bytes(file) => mended(0, repair_short(disk, file.as_slice())),
@@ -87,12 +83,10 @@ fn settle_short<D: Disk>(alloc: Global, disk: &mut D) -> Mounted
 /// Makes the closed gate at a place the last byte of a file of two bytes or more, and puts it on
 /// the disk.
 fn repair_long<D: Disk>(disk: &mut D, gate: u64, last: u64) -> Stored
-    requires kept { IfSome (D.told disk.old) (IsKeptTo last) }
+    requires kept { IfSome (D.seen disk.old).content (IsKeptTo last) }
     requires long { 1 ≤ last }
-    ensures content { WhereExposed (RepairsSeen result gate) (D.told disk.old) (D.told disk.new) }
-    ensures same { D.names disk.new ≡ D.names disk.old }
-    ensures count { D.faults disk.old ≤ D.faults disk.new }
-    ensures counts { CountsStored result (D.faults disk.old) (D.faults disk.new) }
+    ensures { Calls (WhereExposed (RepairsSeen result gate)) (CountsStored result)
+        (D.seen disk.old) (D.seen disk.new) }
 {
     if gate < last {
         cut_through(disk, gate + 1)
@@ -104,13 +98,11 @@ fn repair_long<D: Disk>(disk: &mut D, gate: u64, last: u64) -> Stored
 /// Finds the journal of a file of two bytes or more that is on the disk, whose last byte stands at
 /// `last`.
 fn settle_long<D: Disk>(alloc: Global, disk: &mut D, last: u64) -> Mounted
-    requires kept { IfSome (D.told disk.old) (IsKeptTo last) }
+    requires kept { IfSome (D.seen disk.old).content (IsKeptTo last) }
     requires long { 1 ≤ last }
-    ensures content { WhereExposed (SettlesFile result) (D.told disk.old) (D.told disk.new) }
+    ensures call { Calls (WhereExposed (SettlesFile result)) (CountsMounted result)
+        (D.seen disk.old) (D.seen disk.new) }
     ensures whole { IsWhole result }
-    ensures same { D.names disk.new ≡ D.names disk.old }
-    ensures count { D.faults disk.old ≤ D.faults disk.new }
-    ensures counts { CountsMounted result (D.faults disk.old) (D.faults disk.new) }
 {
     match scan(alloc, disk, last) {
         Scanned::Whole(gate) => mended(gate, repair_long(disk, gate, last)),
@@ -122,12 +114,10 @@ fn settle_long<D: Disk>(alloc: Global, disk: &mut D, last: u64) -> Mounted
 
 /// Reads a file that is on the disk as a journal, and puts its end in order.
 fn settle_file<D: Disk>(alloc: Global, disk: &mut D) -> Mounted
-    requires kept { IfSome (D.told disk.old) IsKept }
-    ensures content { WhereExposed (SettlesFile result) (D.told disk.old) (D.told disk.new) }
+    requires kept { IfSome (D.seen disk.old).content IsKept }
+    ensures call { Calls (WhereExposed (SettlesFile result)) (CountsMounted result)
+        (D.seen disk.old) (D.seen disk.new) }
     ensures whole { IsWhole result }
-    ensures same { D.names disk.new ≡ D.names disk.old }
-    ensures count { D.faults disk.old ≤ D.faults disk.new }
-    ensures counts { CountsMounted result (D.faults disk.old) (D.faults disk.new) }
 {
     match disk.size() {
         Measured::Bytes(size) => {
@@ -147,12 +137,10 @@ impl Journal {
     /// what it reads is on the disk, and then reads each record; one at a time is in memory. While
     /// the call is under way a crash leaves the records of some image that it could leave before.
     pub fn mount<D: Disk>(alloc: Global, disk: &mut D) -> Mounted
-        ensures content { WhereExposed (Mounts result) (D.told disk.old) (D.told disk.new) }
+        ensures call { Calls (WhereExposed (Mounts result)) (CountsMounted result)
+            (D.seen disk.old) (D.seen disk.new) }
         ensures whole { IsWhole result }
-        ensures mounted { IsReady result (D.told disk.new) }
-        ensures same { D.names disk.new ≡ D.names disk.old }
-        ensures count { D.faults disk.old ≤ D.faults disk.new }
-        ensures counts { CountsMounted result (D.faults disk.old) (D.faults disk.new) }
+        ensures mounted { IsReady result (D.seen disk.new).content }
     {
         match disk.sync() {
             Stored::Done => settle_file(alloc, disk),

@@ -1,7 +1,7 @@
 //! Parts of a file that is on the disk, and what stands at a gate there.
 
 ghost use Rattle.std.specs.Prelude.{◌≡◌, ◌≤◌, ◌<◌, ◌+◌, ◌^◌, IfSome, MatchOption, length};
-ghost use Rattle.ae_edge.specs.Devices.{WhereExposed};
+ghost use Rattle.ae_edge.specs.Devices.{Calls, WhereExposed};
 ghost use Rattle.disk.specs.Calls.{CountsGiven, IsWithin};
 ghost use Rattle.disk.specs.Durable.{IsKept};
 ghost use Rattle.journal_core.specs.Reading.{CountsStood, HasLength, IsHead, IsInside, IsKeptTo, LacksLength, ReadsPart, ReadsRecord, Stands};
@@ -16,13 +16,11 @@ const MOST_PIECE_BYTES: usize = 65_536;
 
 /// Reads bytes of a file that is on the disk: as many as are asked for, where it has them.
 pub(crate) fn read_part<D: Disk>(alloc: Global, disk: &mut D, at: u64, len: usize) -> Given
-    requires kept { IfSome (D.told disk.old) IsKept }
+    requires kept { IfSome (D.seen disk.old).content IsKept }
     requires end { at + len ≤ 2 ^ 64 }
     ensures piece { IsWithin len result }
-    ensures content { WhereExposed (ReadsPart result at len) (D.told disk.old) (D.told disk.new) }
-    ensures same { D.names disk.new ≡ D.names disk.old }
-    ensures count { D.faults disk.old ≤ D.faults disk.new }
-    ensures counts { CountsGiven result (D.faults disk.old) (D.faults disk.new) }
+    ensures call { Calls (WhereExposed (ReadsPart result at len)) (CountsGiven result)
+        (D.seen disk.old) (D.seen disk.new) }
 {
     let mut bytes = Vec::new(alloc);
     'pieces: while bytes.len() < len {
@@ -99,13 +97,11 @@ pub(crate) enum Stood {
 
 /// Reads the bytes of a record, and tests them.
 fn record_at<D: Disk>(alloc: Global, disk: &mut D, at: u64, len: u64) -> Stood
-    requires kept { IfSome (D.told disk.old) IsKept }
+    requires kept { IfSome (D.seen disk.old).content IsKept }
     requires end { at + len ≤ 2 ^ 64 }
-    ensures content { WhereExposed (ReadsRecord result at len) (D.told disk.old) (D.told disk.new) }
+    ensures call { Calls (WhereExposed (ReadsRecord result at len)) (CountsStood result)
+        (D.seen disk.old) (D.seen disk.new) }
     ensures inside { IsInside result at (at + len) }
-    ensures same { D.names disk.new ≡ D.names disk.old }
-    ensures count { D.faults disk.old ≤ D.faults disk.new }
-    ensures counts { CountsStood result (D.faults disk.old) (D.faults disk.new) }
 {
     match read_part(alloc, disk, at, len as usize) {
         Given::Bytes(entry) => match is_record(alloc, entry.as_slice()) {
@@ -120,13 +116,11 @@ fn record_at<D: Disk>(alloc: Global, disk: &mut D, at: u64, len: u64) -> Stood
 
 /// What stands at a gate of a file that is on the disk, whose last byte stands at `last`.
 pub(crate) fn stood_at<D: Disk>(alloc: Global, disk: &mut D, gate: u64, last: u64) -> Stood
-    requires kept { IfSome (D.told disk.old) (IsKeptTo last) }
+    requires kept { IfSome (D.seen disk.old).content (IsKeptTo last) }
     requires before { gate ≤ last }
-    ensures content { WhereExposed (Stands result gate) (D.told disk.old) (D.told disk.new) }
+    ensures call { Calls (WhereExposed (Stands result gate)) (CountsStood result)
+        (D.seen disk.old) (D.seen disk.new) }
     ensures inside { IsInside result (gate + 9) last }
-    ensures same { D.names disk.new ≡ D.names disk.old }
-    ensures count { D.faults disk.old ≤ D.faults disk.new }
-    ensures counts { CountsStood result (D.faults disk.old) (D.faults disk.new) }
 {
     let behind = last - gate;
     match read_part(alloc, disk, gate, (behind.min(8) + 1) as usize) {

@@ -1,7 +1,7 @@
 //! A file is read as a journal, from gate to gate.
 
 ghost use Rattle.std.specs.Prelude.{◌≡◌, ◌≤◌, IfSome};
-ghost use Rattle.ae_edge.specs.Devices.{WhereExposed};
+ghost use Rattle.ae_edge.specs.Devices.{Calls, WhereExposed};
 ghost use Rattle.journal_core.specs.Reading.{IsKeptTo};
 ghost use Rattle.journal_core.specs.Scanning.{CountsScanned, Scans};
 
@@ -24,12 +24,10 @@ pub(crate) enum Scanned {
 /// Reads a file of two bytes or more that is on the disk, whose last byte stands at `last`. One
 /// record at a time is in memory.
 pub(crate) fn scan<D: Disk>(alloc: Global, disk: &mut D, last: u64) -> Scanned
-    requires kept { IfSome (D.told disk.old) (IsKeptTo last) }
+    requires kept { IfSome (D.seen disk.old).content (IsKeptTo last) }
     requires long { 1 ≤ last }
-    ensures content { WhereExposed (Scans result) (D.told disk.old) (D.told disk.new) }
-    ensures same { D.names disk.new ≡ D.names disk.old }
-    ensures count { D.faults disk.old ≤ D.faults disk.new }
-    ensures counts { CountsScanned result (D.faults disk.old) (D.faults disk.new) }
+    ensures { Calls (WhereExposed (Scans result)) (CountsScanned result)
+        (D.seen disk.old) (D.seen disk.new) }
 {
     let mut gate = 0u64;
     'gates: loop {

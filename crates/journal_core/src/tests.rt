@@ -1,6 +1,6 @@
 //! A journal at the end of the longest file.
 
-ghost use Rattle.std.specs.Prelude.{None, []};
+ghost use Rattle.ae_edge.specs.Devices.{silent};
 
 use crate::journal::{Appended, Journal};
 use crate::records::is_record;
@@ -29,11 +29,7 @@ impl Ends {
 }
 
 impl Disk for Ends {
-    ghost told = { λ d. None };
-
-    ghost faults = { λ d. 0 };
-
-    ghost names = { λ d. [] };
+    ghost seen = { λ d. silent 0 };
 
     fn size(&mut self) -> Measured {
         Measured::OutOfMemory

@@ -47,7 +47,7 @@ pub(crate) fn block(
 
 // Whether a journal has these records.
 fn has_records<D: Disk>(alloc: Global, disk: &mut D, journal: &Journal, want: &[&[u8]]) -> bool
-    requires { IfSome (D.told disk.old) (IsMounted journal.now.gate) }
+    requires { IfSome (D.seen disk.old).content (IsMounted journal.now.gate) }
 {
     let mut place = 0u64;
     'records: for want in want {

@@ -6,6 +6,7 @@ use Rattle.ae_base.specs.OneOrTwo.{each_of}
 use Rattle.ae_base.specs.Results.{◌>>=◌, or_fault}
 use Rattle.ae_base.specs.declared.key_values.KeyValue.{KeyValue}
 use Rattle.ae_base.specs.declared.keys.KeyMeta.{KeyMeta}
+use Rattle.ae_edge.specs.Devices.{Rose, Stays}
 use Rattle.ae_edge.specs.Vaults.{KeyMap, key_at}
 use Rattle.hmac_kdf.specs.Keys.{Keys, keys_of}
 use Rattle.key_wrap.specs.Wrap.{unwrapping_of}
@@ -15,6 +16,16 @@ use Rattle.key_store.specs.declared.faults.OpenFault.{OpenFault}
 use Rattle.key_store.specs.declared.faults.OpenFault.TheVariants.{Fault, VaultFault, OutOfMemory}
 use Rattle.key_store.specs.declared.opening.Tried.{Tried}
 use Rattle.key_store.specs.declared.opening.Tried.TheVariants.{Opened, Shut}
+
+-- the vault's count of faults stays, but where a call of it failed
+abbrev pub CountsFault : OpenFault → ℕ → ℕ → Type 0
+CountsFault (Fault fault) = Stays
+CountsFault VaultFault = Rose
+CountsFault OutOfMemory = Stays
+
+abbrev pub CountsOpen : {A : Type 0} → Result A OpenFault → ℕ → ℕ → Type 0
+CountsOpen (Ok x) = Stays
+CountsOpen (Err e) = CountsFault e
 
 -- ---- one value
 

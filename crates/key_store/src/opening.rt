@@ -1,10 +1,10 @@
 //! Keys that are unwrapped.
 
-ghost use Rattle.std.specs.Prelude.{◌≡◌, ◌≤◌, Err, IfSome};
-ghost use Rattle.ae_edge.specs.Devices.{Rose};
+ghost use Rattle.std.specs.Prelude.{◌≡◌, IfSome};
 ghost use Rattle.hmac_kdf.specs.Keys.{keys_of};
 ghost use Rattle.key_wrap.specs.Wrap.{unwrapping_of};
-ghost use Rattle.key_store.specs.Opening.{is_there, opened, Tries};
+ghost use Rattle.ae_edge.specs.Devices.{Calls, Stays};
+ghost use Rattle.key_store.specs.Opening.{CountsOpen, is_there, opened, Tries};
 
 use crate::faults::OpenFault;
 use ae_base::key_values::KeyValue;
@@ -60,13 +60,9 @@ pub enum Tried<A> {
 
 /// Opens a value of a column key by a call on the vault.
 pub(crate) fn open<V: Vault>(vault: &mut V, value: &KeyValue) -> Result<Tried<[u8; 32]>, OpenFault>
-    ensures opens { IfSome (V.keys vault.old)
+    ensures opens { IfSome (V.seen vault.old).content
         (λ map. Tries result (opened map value.now) (is_there map value.now)) }
-    ensures unchanged { V.keys vault.new ≡ V.keys vault.old }
-    ensures same { V.names vault.new ≡ V.names vault.old }
-    ensures count { V.faults vault.old ≤ V.faults vault.new }
-    ensures failed { result ≡ Err OpenFault.VaultFault
-        → Rose (V.faults vault.old) (V.faults vault.new) }
+    ensures asked { Calls Stays (CountsOpen result) (V.seen vault.old) (V.seen vault.new) }
 {
     match vault.master(value.path.as_txt()) {
         MasterKey::Found(master) => match unwrapped(&master, value.wrapped.as_slice()) {

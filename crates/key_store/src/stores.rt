@@ -1,9 +1,9 @@
 //! The store of opened keys.
 
-ghost use Rattle.std.specs.Prelude.{◌≡◌, ◌≤◌, ℕ, List, Option, Err, IfOk, IfSome, None, OnErr, length, if◌then◌else◌};
-ghost use Rattle.ae_edge.specs.Devices.{Rose};
+ghost use Rattle.std.specs.Prelude.{◌≡◌, ◌≤◌, ℕ, List, Option, IfOk, IfSome, None, OnErr, length, if◌then◌else◌};
+ghost use Rattle.ae_edge.specs.Devices.{Calls, Stays};
 ghost use Rattle.ae_edge.specs.Vaults.{KeyMap};
-ghost use Rattle.key_store.specs.Opening.{is_there, open_key, opened, IsShut, OnShut, Opens, Tries};
+ghost use Rattle.key_store.specs.Opening.{CountsOpen, is_there, open_key, opened, IsShut, OnShut, Opens, Tries};
 ghost use Rattle.key_store.specs.declared.faults.KeyFault.TheVariants.{KeyRefused, NoMasterKey};
 ghost use Rattle.std.specs.Option.{option_map};
 ghost use Rattle.hmac_kdf.specs.Keys.{keys_of};
@@ -77,15 +77,12 @@ impl KeyStore {
         vault: &mut V,
         meta: &KeyMeta,
     ) -> Result<CellKeys, OpenFault>
-        requires { IsOf (V.keys vault.old) self.old }
-        ensures opens { IfSome (V.keys vault.old) (λ map. Opens result (open_key map meta.now)) }
+        requires { IsOf (V.seen vault.old).content self.old }
+        ensures opens { IfSome (V.seen vault.old).content
+            (λ map. Opens result (open_key map meta.now)) }
         ensures refused { OnErr result (self.new ≡ self.old) }
-        ensures of_vault { IsOf (V.keys vault.new) self.new }
-        ensures unchanged { V.keys vault.new ≡ V.keys vault.old }
-        ensures same { V.names vault.new ≡ V.names vault.old }
-        ensures count { V.faults vault.old ≤ V.faults vault.new }
-        ensures failed { result ≡ Err OpenFault.VaultFault
-            → Rose (V.faults vault.old) (V.faults vault.new) }
+        ensures of_vault { IsOf (V.seen vault.new).content self.new }
+        ensures asked { Calls Stays (CountsOpen result) (V.seen vault.old) (V.seen vault.new) }
     {
         match self.tried(vault, &meta.values.first)? {
             Tried::Opened(keys) => Ok(keys),
@@ -101,17 +98,14 @@ impl KeyStore {
         meta: &KeyMeta,
         is_there: bool,
     ) -> Result<CellKeys, OpenFault>
-        requires of_vault { IsOf (V.keys vault.old) self.old }
-        requires first { IfSome (V.keys vault.old)
+        requires of_vault { IsOf (V.seen vault.old).content self.old }
+        requires first { IfSome (V.seen vault.old).content
             (λ map. IsShut map meta.now.values.first is_there) }
-        ensures opens { IfSome (V.keys vault.old) (λ map. Opens result (open_key map meta.now)) }
+        ensures opens { IfSome (V.seen vault.old).content
+            (λ map. Opens result (open_key map meta.now)) }
         ensures refused { OnErr result (self.new ≡ self.old) }
-        ensures of_vault { IsOf (V.keys vault.new) self.new }
-        ensures unchanged { V.keys vault.new ≡ V.keys vault.old }
-        ensures same { V.names vault.new ≡ V.names vault.old }
-        ensures count { V.faults vault.old ≤ V.faults vault.new }
-        ensures failed { result ≡ Err OpenFault.VaultFault
-            → Rose (V.faults vault.old) (V.faults vault.new) }
+        ensures of_vault { IsOf (V.seen vault.new).content self.new }
+        ensures asked { Calls Stays (CountsOpen result) (V.seen vault.old) (V.seen vault.new) }
     {
         let Some(value) = &meta.values.second else {
             return Err(OpenFault::Fault(why_shut(meta, is_there)?));
@@ -131,16 +125,12 @@ impl KeyStore {
         vault: &mut V,
         value: &KeyValue,
     ) -> Result<Tried<CellKeys>, OpenFault>
-        requires { IsOf (V.keys vault.old) self.old }
-        ensures tries { IfSome (V.keys vault.old) (λ map.
+        requires { IsOf (V.seen vault.old).content self.old }
+        ensures tries { IfSome (V.seen vault.old).content (λ map.
             Tries result (option_map keys_of (opened map value.now)) (is_there map value.now)) }
         ensures shut { OnShut result (self.new ≡ self.old) }
-        ensures of_vault { IsOf (V.keys vault.new) self.new }
-        ensures unchanged { V.keys vault.new ≡ V.keys vault.old }
-        ensures same { V.names vault.new ≡ V.names vault.old }
-        ensures count { V.faults vault.old ≤ V.faults vault.new }
-        ensures failed { result ≡ Err OpenFault.VaultFault
-            → Rose (V.faults vault.old) (V.faults vault.new) }
+        ensures of_vault { IsOf (V.seen vault.new).content self.new }
+        ensures asked { Calls Stays (CountsOpen result) (V.seen vault.old) (V.seen vault.new) }
     {
         if let Some(keys) = self.kept(value) {
             return Ok(Tried::Opened(keys));

@@ -1,20 +1,17 @@
 -- What passes the tap with a request, and the replies that wait then.
-use Rattle.std.specs.Prelude.{◌≡◌, ◌≤◌, ℕ, List, ◌++◌, Option}
+use Rattle.std.specs.Prelude.{◌≡◌, ℕ, List, ◌++◌, Result, Ok, Err}
 use Rattle.ae_base.specs.declared.frames.FrameVersion.{FrameVersion}
-use Rattle.ae_edge.specs.Devices.{Adds, AddsPrefix, Rose}
+use Rattle.ae_edge.specs.Devices.{Adds, AddsPrefix, Calls, Device, Stays}
+use Rattle.ae_edge.specs.Streams.{CountsWrite}
+use Rattle.ae_edge.specs.declared.streams.WriteError.{WriteError}
 use Rattle.wire_messages.specs.declared.replies.Reply.{Reply}
 use Rattle.wire_messages.specs.declared.requests.Request.{Request}
 use Rattle.wire_encoding.specs.Packing.{packed}
 use Rattle.wire_encoding.specs.Spelling.{request_frame}
 use Rattle.run_effects.specs.Shares.{Queue, with_answer}
-use Rattle.script_run.specs.declared.connection.Sent.{Sent}
-use Rattle.script_run.specs.declared.connection.Sent.TheVariants as sent
 
--- all its frames, and the replies wait behind the others; or a front of the frames, by its cause
-abbrev pub Passes : Sent → FrameVersion → Request → List Reply → (old new : Option (List ℕ)) → (before now : ℕ) → Queue → Queue → Type 0
-Passes sent.Whole version request replies old new before now q r =
-    Adds (request_frame version request ++ packed version replies) old new × (before ≤ now) × (r ≡ with_answer version q replies)
-Passes sent.WriteFault version request replies old new before now q r =
-    AddsPrefix (request_frame version request ++ packed version replies) old new × (before ≤ now) × Rose before now
-Passes sent.OutOfMemory version request replies old new before now q r =
-    AddsPrefix (request_frame version request ++ packed version replies) old new × (before ≤ now)
+-- all its frames, and the replies wait behind the others; or a front of the frames
+abbrev pub Passes : Result (Unit {0}) WriteError → FrameVersion → Request → List Reply → (old new : Device (List ℕ)) → Queue → Queue → Type 0
+Passes (Ok o) version request replies old new q r =
+    Calls (Adds (request_frame version request ++ packed version replies)) Stays old new × (r ≡ with_answer version q replies)
+Passes (Err e) version request replies old new q r = Calls (AddsPrefix (request_frame version request ++ packed version replies)) (CountsWrite e) old new

@@ -1,6 +1,7 @@
 //! Frames that are kept in memory.
 
-ghost use Rattle.std.specs.Prelude.{◌≡◌, Some, [], false};
+ghost use Rattle.std.specs.Prelude.{◌≡◌, [], false};
+ghost use Rattle.ae_edge.specs.Devices.{telling};
 
 use ae_edge::sinks::{Put, Sink};
 use std::alloc::Global;
@@ -45,11 +46,7 @@ impl Frames {
 
 /// A sink that fails for want of memory alone.
 impl Sink for Frames {
-    ghost held = { λ f. Some f };
-
-    ghost faults = { λ _. 0 };
-
-    ghost names = { λ _. [] };
+    ghost seen = { λ f. telling f 0 };
 
     ghost closed = { λ _. false };
 

@@ -3,7 +3,7 @@ use Rattle.std.proofs.Common.{◌≡◌, ◌≤◌, inl, inr, ℕ, ◌+◌, List
 use Rattle.std.specs.Prelude.{flat_map, IfSome}
 use Rattle.std.proofs.lemmas.Grind.{flat_map-append}
 use Rattle.ae_base.specs.declared.frames.FrameVersion.{FrameVersion}
-use Rattle.ae_edge.specs.Devices.{Adds, AddsPrefix, IsPrefix}
+use Rattle.ae_edge.specs.Devices.{Adds, AddsPrefix, IsPrefix, Rose}
 use Rattle.ae_edge.specs.Vaults.{KeyMap}
 use Rattle.ae_edge.proofs.Interface.{adds_front_then}
 use Rattle.wire_messages.specs.declared.replies.Reply.{Reply}
@@ -17,8 +17,8 @@ use Rattle.outcome_text.specs.Counting.{nothing}
 use Rattle.outcome_text.specs.Printing.{print, printed_outcome}
 use Rattle.outcome_text.specs.declared.tallies.Tally.{Tally}
 use Rattle.run_effects.specs.Events.{stop_events}
-use Rattle.run_effects.specs.Shares.{Comes, Outside, Queue, Stream, Wire, exchanges_of, messages_of, queue_of, text_of}
-use Rattle.run_effects.specs.Ways.{Breaks, GoesOn, IsAtFrame, IsStuck, Proceeds}
+use Rattle.run_effects.specs.Shares.{Comes, Counts, Outside, Queue, Stream, Wire, all_stay, exchanges_of, messages_of, queue_of, text_of}
+use Rattle.run_effects.specs.Ways.{Breaks, GoesOn, IsAtFrame, IsStuck, Proceeds, ProceedsBy, unwritten}
 use Rattle.run_effects.specs.declared.stops.Stop.{Stop}
 use Rattle.run_effects.specs.declared.stops.Stop.TheVariants as stop
 use Rattle.run_effects.proofs.Interface.{HasLeft, stops_left, stuck_queue, waits_from}
@@ -138,10 +138,10 @@ module _ (law : PathIsDriven) (keys : KeyMap) (t : Talk) where
 -- ---- where it stopped
 
 -- replies that wait in memory: none come as bytes
-none_still : (version : FrameVersion) (events : List Event) (s t : Option Stream) (a b : Queue) → s ≡ None → Comes version events s t a b → t ≡ None
-none_still version events None None a b e h = e
-none_still version events None (Some t) a b e h = absurd h
-none_still version events (Some s) t a b e h = cc
+none_still : (C : ℕ → ℕ → Type 0) (version : FrameVersion) (events : List Event) (s t : Option Stream) (a b : Queue) → s ≡ None → Comes C version events s t a b → t ≡ None
+none_still C version events None None a b e h = e
+none_still C version events None (Some t) a b e h = absurd h
+none_still C version events (Some s) t a b e h = cc
 
 follows_so : (t u : Talk) (events : List Event) (wire : Wire) → wire.stream ≡ None → GoesOn t events u wire → Follows t events u
 follows_so t u events wire e (inl f) = f.0
@@ -161,30 +161,31 @@ stuck_ends keys (Prints comes t) left h n more = absurd h
 
 -- ---- a run of some steps
 
-module _ (law : PathIsDriven) (keys : KeyMap) (steps : List Step) (old new : RunDevices) (told : old.keys ≡ Some keys) where
+module _ (law : PathIsDriven) (keys : KeyMap) (steps : List Step) (old new : RunDevices) (told : old.vault.content ≡ Some keys) where
   abbrev whole_talk : Talk
   whole_talk = talk steps [] nobody
 
   module _ (result : Result (Unit {0}) Stop) (tally : Tally) (c : CameTo result tally steps old new) where
     abbrev first : Outside
-    first = outside c.out c.entropy c.vault c.wire nothing [] 0 0 old
+    first = outside c.names nothing [] 0 0 old
 
     abbrev last : Outside
-    last = outside c.out_after c.entropy_after c.vault_after c.wire_after tally c.waiting c.behind c.taken new
+    last = outside c.names_after tally c.waiting c.behind c.taken new
 
-    opens_so : (u : Talk) (now : Outside) (g : Proceeds whole_talk u first now) → OpensAll g.events keys
-    opens_so u now g = subst (λ x. IfSome x (OpensAll g.events)) told g.put.client.opened
+    opens_so : (C : Counts) (u : Talk) (now : Outside) (g : ProceedsBy C whole_talk u first now) → OpensAll g.events keys
+    opens_so C u now g = subst (λ x. IfSome x (OpensAll g.events)) told g.put.client.opened
 
-    goes_drive : (u : Talk) (now : Outside) (g : Proceeds whole_talk u first now) → DrivesOn law keys whole_talk g.events
-    goes_drive u now g = path_on law keys whole_talk u g.events g.follows (messages_of now.wire.waiting) (waits_from whole_talk u first now refl refl g) (opens_so u now g)
+    goes_drive : (C : Counts) (u : Talk) (now : Outside) (g : ProceedsBy C whole_talk u first now) → DrivesOn law keys whole_talk g.events
+    goes_drive C u now g = path_on law keys whole_talk u g.events g.follows (messages_of now.wire.waiting) (waits_from C whole_talk u first now refl refl g) (opens_so C u now g)
 
-    breaks_drive : (b : Breaks whole_talk first last) → DrivesOn law keys whole_talk (b.goes.events ++ b.last)
-    breaks_drive b =
+    breaks_drive : (C : Counts) (b : Breaks C whole_talk first last) → DrivesOn law keys whole_talk (b.goes.events ++ b.last)
+    breaks_drive C b =
         let g = b.goes in
-        let none = none_still first.wire.version g.events first.wire.stream b.mid.wire.stream (queue_of first.wire) (queue_of b.mid.wire) refl g.read.wire.comes in
-        last_on law keys whole_talk b.between g.events g.follows (messages_of b.mid.wire.waiting) (waits_from whole_talk b.between first b.mid refl refl g) (opens_so b.between b.mid g)
+        let none = none_still all_stay.replies first.wire.version g.events first.wire.stream b.mid.wire.stream (queue_of first.wire) (queue_of b.mid.wire) refl g.read.wire.comes in
+        last_on law keys whole_talk b.between g.events g.follows (messages_of b.mid.wire.waiting) (waits_from all_stay whole_talk b.between first b.mid refl refl g)
+        (opens_so all_stay b.between b.mid g)
         b.rest b.last b.one (follows_so b.between b.rest b.last b.mid.wire none b.follows)
-        (subst (λ x. IfSome x (OpensAll b.last)) (g.put.client.keys ∙ told) b.put.client.opened)
+        (subst (λ x. IfSome x (OpensAll b.last)) (g.put.client.vault.content ∙ told) b.put.client.opened)
 
     -- to the end, or to where a reply isn't awaited
     wholly : (IsEnd : End → Type 0) (u : Talk) (g : Proceeds whole_talk u first last) (end : ℕ → End)
@@ -192,18 +193,18 @@ module _ (law : PathIsDriven) (keys : KeyMap) (steps : List Step) (old new : Run
         → DrivesWhole old.version IsEnd keys steps (flat_map exchanges_of g.events) old new
     unfolding goes_drive path_on
     wholly IsEnd u g end e is =
-        let d = goes_drive u last g in
+        let d = goes_drive all_stay u last g in
         let n = 0 + length (flat_map taken_in g.events) in
         let came = flat_map exchanges_of g.events in
         record {
           drawn = flat_map drawn_in g.events;
-          share = g.put.client.entropy;
-          tap = subst (λ xs. Adds xs old.tap new.tap) (frames_are old.version g.events) g.put.wire.tap;
+          share = g.put.client.entropy.content;
+          tap = subst (λ xs. Adds xs old.tap.content new.tap.content) (frames_are old.version g.events) g.put.wire.tap.content;
           whole = λ more.
               let x : driven keys steps (flat_map drawn_in g.events ++ more) came ≡ behind g.events (ended [] more (end n)) = d.is more ∙ ap (behind g.events) (e n more) in
-              subst (λ (d : Driven). (requests_in came ≡ d.requests) × Adds (print d.outcomes) old.out new.out × (d.entropy ≡ more) × IsEnd d.end) (sym x) (
+              subst (λ (d : Driven). (requests_in came ≡ d.requests) × Adds (print d.outcomes) old.out.content new.out.content × (d.entropy ≡ more) × IsEnd d.end) (sym x) (
                 asked_are g.events ∙ sym (append-nil (flat_map request_in g.events)),
-                subst (λ xs. Adds xs old.out new.out) (text_is g.events ∙ ap print (sym (append-nil (flat_map outcome_in g.events)))) g.put.client.out,
+                subst (λ xs. Adds xs old.out.content new.out.content) (text_is g.events ∙ ap print (sym (append-nil (flat_map outcome_in g.events)))) g.put.client.out.content,
                 refl,
                 is n,
               );
@@ -213,14 +214,14 @@ module _ (law : PathIsDriven) (keys : KeyMap) (steps : List Step) (old new : Run
     fronts events d left = record {
       drawn = flat_map drawn_in events;
       share = left.drawn;
-      tap = subst (λ xs. AddsPrefix xs old.tap new.tap) (frames_are old.version events) left.tap;
+      tap = subst (λ xs. AddsPrefix xs old.tap.content new.tap.content) (frames_are old.version events) left.tap;
       front = λ more.
           let r = d.rest more in
           let text : IsPrefix (flat_map text_of events) (print (flat_map outcome_in events ++ r.outcomes)) =
           record { rest = print r.outcomes; is = flat_map-append printed_outcome (flat_map outcome_in events) r.outcomes ∙ ap (λ w. w ++ print r.outcomes) (sym (text_is events)) } in
-          subst (λ (d : Driven). IsPrefix (requests_in (flat_map exchanges_of events)) d.requests × AddsPrefix (print d.outcomes) old.out new.out) (sym (d.is more)) (
+          subst (λ (d : Driven). IsPrefix (requests_in (flat_map exchanges_of events)) d.requests × AddsPrefix (print d.outcomes) old.out.content new.out.content) (sym (d.is more)) (
             record { rest = r.requests; is = ap (λ w. w ++ r.requests) (sym (asked_are events)) },
-            adds_front_then (flat_map text_of events) (print (flat_map outcome_in events ++ r.outcomes)) old.out new.out left.text text,
+            adds_front_then (flat_map text_of events) (print (flat_map outcome_in events ++ r.outcomes)) old.out.content new.out.content left.text text,
           );
     }
 
@@ -235,29 +236,29 @@ module _ (law : PathIsDriven) (keys : KeyMap) (steps : List Step) (old new : Run
       let h = c.leads in
       let from = first (Err r) tally c in
       let to = last (Err r) tally c in
-      wholly (Err r) tally c IsBad h.rest h.goes (λ n. BadReply n) (stuck_ends keys h.rest (messages_of c.waiting) (stuck_queue whole_talk h.rest from to refl h.goes h.place.0)) (λ n. tt)
+      wholly (Err r) tally c IsBad h.rest h.goes (λ n. BadReply n) (stuck_ends keys h.rest (messages_of c.waiting) (stuck_queue all_stay whole_talk h.rest from to refl h.goes h.place.0)) (λ n. tt)
   stops_drive stop.ReadFault tally c = c.leads.1
   stops_drive stop.TooLong tally c = c.leads.1
   stops_drive stop.EntropyFault tally c =
       let r = stop.EntropyFault in
-      let h = c.leads.0 in
-      fronts (Err r) tally c h.goes.events (goes_drive (Err r) tally c h.rest (last (Err r) tally c) h.goes) (stops_left r whole_talk _ _ c.leads)
+      let h = c.leads in
+      fronts (Err r) tally c h.goes.events (goes_drive (Err r) tally c (record all_stay { entropy = Rose }) h.rest (last (Err r) tally c) h.goes) (stops_left r whole_talk _ _ c.leads)
   stops_drive stop.VaultFault tally c =
       let r = stop.VaultFault in
-      let h = c.leads.0 in
-      fronts (Err r) tally c h.goes.events (goes_drive (Err r) tally c h.rest (last (Err r) tally c) h.goes) (stops_left r whole_talk _ _ c.leads)
+      let h = c.leads in
+      fronts (Err r) tally c h.goes.events (goes_drive (Err r) tally c (record all_stay { vault = Rose }) h.rest (last (Err r) tally c) h.goes) (stops_left r whole_talk _ _ c.leads)
   stops_drive stop.WriteFault tally c =
       let r = stop.WriteFault in
-      let b = c.leads.0 in
-      fronts (Err r) tally c (b.goes.events ++ b.last) (breaks_drive (Err r) tally c b) (stops_left r whole_talk _ _ c.leads)
+      let b = c.leads.1 in
+      fronts (Err r) tally c (b.goes.events ++ b.last) (breaks_drive (Err r) tally c (unwritten c.leads.0) b) (stops_left r whole_talk _ _ c.leads)
   stops_drive stop.OutOfMemory tally c =
       let r = stop.OutOfMemory in
       let b = c.leads in
-      fronts (Err r) tally c (b.goes.events ++ b.last) (breaks_drive (Err r) tally c b) (stops_left r whole_talk _ _ c.leads)
+      fronts (Err r) tally c (b.goes.events ++ b.last) (breaks_drive (Err r) tally c all_stay b) (stops_left r whole_talk _ _ c.leads)
 
 -- ---- a run of a script
 
-module _ (law : PathIsDriven) (count : Count) (keys : KeyMap) (bytes : List ℕ) (steps : List Step) (old new : RunDevices) (told : old.keys ≡ Some keys) (s : IsScript bytes steps) where
+module _ (law : PathIsDriven) (count : Count) (keys : KeyMap) (bytes : List ℕ) (steps : List Step) (old new : RunDevices) (told : old.vault.content ≡ Some keys) (s : IsScript bytes steps) where
   abbrev Drives : (r : Ran) → RunsScript r count bytes old new → List Step → Type 0
   Drives r h ss = DrivesOver old.version r keys ss (run_exchanges r count bytes old new h) old new
 
@@ -267,6 +268,6 @@ module _ (law : PathIsDriven) (count : Count) (keys : KeyMap) (bytes : List ℕ)
   drives (ran.Stopped why) h = subst (Drives (ran.Stopped why) h) (one_script bytes steps h.steps s h.script.script) (stops_drive law keys h.steps old new told why count.tally h.runs)
   drives (ran.Unread why) h = h.1
 
-pub runs_drive : (law : PathIsDriven) (r : Ran) (count : Count) (keys : KeyMap) (bytes : List ℕ) (steps : List Step) (old new : RunDevices) → old.keys ≡ Some keys → IsScript bytes steps
+pub runs_drive : (law : PathIsDriven) (r : Ran) (count : Count) (keys : KeyMap) (bytes : List ℕ) (steps : List Step) (old new : RunDevices) → old.vault.content ≡ Some keys → IsScript bytes steps
     → (h : RunsScript r count bytes old new) → DrivesOver old.version r keys steps (run_exchanges r count bytes old new h) old new
 runs_drive law r count keys bytes steps old new told s h = drives law count keys bytes steps old new told s r h

@@ -30,18 +30,18 @@ IsBad Dry = ⊥
 -- exchanged, and the text has the outcomes; and the tap has the frames of what was exchanged.
 pub record DrivesWhole (version : FrameVersion) (IsEnd : End → Type 0) (keys : KeyMap) (steps : List Step) (came : List Exchange) (old new : RunDevices) : Type 0 where
   pub drawn : List ℕ
-  pub share : Drew drawn old.entropy new.entropy
-  pub tap : Adds (flat_map (exchange_frames version) came) old.tap new.tap
+  pub share : Drew drawn old.entropy.content new.entropy.content
+  pub tap : Adds (flat_map (exchange_frames version) came) old.tap.content new.tap.content
   pub whole : (more : List ℕ) → let d = driven keys steps (drawn ++ more) came in
-      (requests_in came ≡ d.requests) × Adds (print d.outcomes) old.out new.out × (d.entropy ≡ more) × IsEnd d.end
+      (requests_in came ≡ d.requests) × Adds (print d.outcomes) old.out.content new.out.content × (d.entropy ≡ more) × IsEnd d.end
 
 -- where it stopped they are fronts
 pub record DrivesPrefix (version : FrameVersion) (keys : KeyMap) (steps : List Step) (came : List Exchange) (old new : RunDevices) : Type 0 where
   pub drawn : List ℕ
-  pub share : Drew drawn old.entropy new.entropy
-  pub tap : AddsPrefix (flat_map (exchange_frames version) came) old.tap new.tap
+  pub share : Drew drawn old.entropy.content new.entropy.content
+  pub tap : AddsPrefix (flat_map (exchange_frames version) came) old.tap.content new.tap.content
   pub front : (more : List ℕ) → let d = driven keys steps (drawn ++ more) came in
-      IsPrefix (requests_in came) d.requests × AddsPrefix (print d.outcomes) old.out new.out
+      IsPrefix (requests_in came) d.requests × AddsPrefix (print d.outcomes) old.out.content new.out.content
 
 -- to the end, up to a reply that isn't awaited, or up to where a device failed or memory ended
 abbrev pub DrivesOver : FrameVersion → Ran → KeyMap → List Step → List Exchange → RunDevices → RunDevices → Type 0

@@ -1,12 +1,14 @@
 -- One call after another: printing, asking, hearing, and what the driver does by itself.
-use Rattle.std.proofs.Common.{◌≡◌, ℕ, ◌≤◌, List, [], ◌∷◌, ◌++◌, Option, Some, None, Bool, true, false, length, refl, sym, ◌∙◌, ap, subst, append-nil, inl, inr, arith}
+use Rattle.std.proofs.Common.{◌≡◌, ℕ, List, [], ◌∷◌, ◌++◌, Option, Some, None, Bool, true, false, length, refl, sym, ◌∙◌, ap, subst, append-nil, inl, inr, arith}
 use Rattle.std.specs.Prelude.{flat_map, IfSome}
-use Rattle.std.specs.Borrow.{GName}
 use Rattle.ae_base.specs.declared.frames.FrameVersion.{FrameVersion}
 use Rattle.ae_base.specs.declared.keys.KeyMeta.{KeyMeta}
-use Rattle.ae_edge.specs.Devices.{Adds, AddsPrefix}
+use Rattle.ae_edge.specs.Devices.{Adds, AddsPrefix, Calls, Device, Stays}
+use Rattle.ae_edge.specs.Streams.{CountsWrite}
 use Rattle.ae_edge.specs.Vaults.{KeyMap}
-use Rattle.ae_edge.proofs.Interface.{told_same, adds_none, removes_none}
+use Rattle.ae_edge.specs.declared.streams.WriteError.{WriteError}
+use Rattle.ae_edge.specs.declared.streams.WriteError.TheVariants as write
+use Rattle.ae_edge.proofs.Interface.{adds_none, calls_none, removes_none}
 use Rattle.wire_messages.specs.declared.requests.Request.{Request}
 use Rattle.wire_messages.specs.declared.replies.Reply.{Reply}
 use Rattle.server_core.specs.Beside.{Beside}
@@ -42,6 +44,7 @@ use Rattle.conversation.specs.Turns.{hearing}
 use Rattle.outcome_text.specs.Counting.{asked, counted, printed}
 use Rattle.outcome_text.specs.Printing.{printed_outcome}
 use Rattle.run_effects.specs.Shares.{
+  Anything,
   ClientSide,
   Wire,
   Outside,
@@ -56,15 +59,17 @@ use Rattle.run_effects.specs.Shares.{
   ClientPut,
   WirePut,
   WireRead,
+  all_stay,
   text_of,
   frames_of,
   exchanges_of,
   devices_of,
   with_devices,
 }
-use Rattle.run_effects.specs.Ways.{Proceeds, HaltsAt, Breaks, AsksInPart, TakesOne, IsNextOf, IsNextOn, StaysWithin, off}
+use Rattle.run_effects.specs.Ways.{Proceeds, ProceedsBy, HaltsAt, Breaks, StopsBy, AsksInPart, TakesOne, IsNextOf, IsNextOn, StaysWithin, off}
+use Rattle.run_effects.specs.Stops.{stop_of_write}
 use Rattle.outcome_text.specs.declared.tallies.Tally.{Tally}
-use Rattle.run_effects.proofs.Going.{client_still, comes_still, stay, client_front, wire_front, breaks_between, silent_by}
+use Rattle.run_effects.proofs.Going.{client_beside, client_still, comes_still, stay, client_front, wire_beside, wire_front, breaks_between, silent_by}
 use Rattle.run_effects.proofs.Reading.{reads_same, reads_still}
 
 -- ---- events of the driver by itself leave text, tap and replies
@@ -111,52 +116,55 @@ added_none : {A : Type 0} (xs : List A) (a : Option (List A)) → xs ≡ [] → 
 added_none xs a e = subst (λ w. Adds w a a) (sym e) (adds_none a)
 
 -- what the driver does by itself, beside all else
-pub own_goes : (t u : Talk) (old : Outside) (x : Devices) → own.Goes t u (devices_of old.client) x → Proceeds t u old (record old { client = with_devices old.client x })
-own_goes t u old x g = record {
-  events = g.events;
-  follows = g.follows;
+own_by : (C D : ℕ → ℕ → Type 0) (t u : Talk) (old : Outside) (x : Devices) (events : List Event) → Follows t events u → AreOwn events → own.HasShare C D events (devices_of old.client) x
+    → ProceedsBy (record all_stay { entropy = C; vault = D }) t u old (record old { client = with_devices old.client x })
+own_by C D t u old x events follows is_own share = record {
+  events = events;
+  follows = follows;
   put = record {
     client = record {
-      out_same = refl;
-      entropy_same = g.share.entropy_same;
-      vault_same = g.share.vault_same;
-      out = added_none (flat_map text_of g.events) old.client.out (no_text g.events g.own);
-      entropy = g.share.entropy;
-      keys = g.share.keys;
-      opened = g.share.opened;
-      out_count = omega arith;
-      entropy_count = g.share.entropy_count;
-      vault_count = g.share.vault_count;
+      out = calls_none (Adds (flat_map text_of events)) old.client.out (added_none (flat_map text_of events) old.client.out.content (no_text events is_own));
+      entropy = share.entropy;
+      vault = share.vault;
+      opened = share.opened;
     };
-    wire = record {
-      names = refl;
-      version = refl;
-      tap = added_none (flat_map (frames_of old.wire.version) g.events) old.wire.tap (no_frames old.wire.version g.events g.own);
-      log = added_none (flat_map exchanges_of g.events) old.wire.log (no_exchanges g.events g.own);
-      state = told_same (AreServed g.events) (own_serves g.events g.own) old.wire.state;
-      count = omega arith;
-      closed = refl;
-    };
+    wire = wire_beside events (λ version. no_frames version events is_own) (no_exchanges events is_own) (own_serves events is_own) old.wire;
   };
   read = record {
-    tally = sym (own_uncounted g.events g.own old.client.tally);
+    tally = sym (own_uncounted events is_own old.client.tally);
     wire = record {
-      comes =
-          comes_still old.wire.version g.events (none_come g.events g.own) (own_queues old.wire.version g.events g.own)
-          (own_streams old.wire.version g.events g.own) old.wire.stream (queue_of old.wire);
-      taken = let e : length (flat_map taken_in g.events) ≡ 0 = ap length (none_taken g.events g.own) in omega arith;
+      comes = comes_still old.wire.version events (none_come events is_own) (own_queues old.wire.version events is_own)
+          (own_streams old.wire.version events is_own) old.wire.stream (queue_of old.wire);
+      taken = let e : length (flat_map taken_in events) ≡ 0 = ap length (none_taken events is_own) in omega arith;
     };
   };
   limit = λ h. h;
 }
 
--- it stands at the draw, or at the key, that wasn't given
-pub own_halts : (P : Talk → Type 0) (t : Talk) (old : Outside) (x : Devices) → own.Halts P t (devices_of old.client) x
-    → HaltsAt (λ rest now. P rest) t old (record old { client = with_devices old.client x })
-own_halts P t old x h = record { rest = h.rest; goes = own_goes t h.rest old x h.goes; place = h.place }
+pub own_goes : (t u : Talk) (old : Outside) (x : Devices) → own.Goes t u (devices_of old.client) x → Proceeds t u old (record old { client = with_devices old.client x })
+own_goes t u old x g = own_by Stays Stays t u old x g.events g.follows g.own g.share
 
-pub own_breaks : (P : Talk → Type 0) (t : Talk) (old : Outside) (x : Devices) → own.Halts P t (devices_of old.client) x → Breaks t old (record old { client = with_devices old.client x })
-own_breaks P t old x h = breaks_between t h.rest old (record old { client = with_devices old.client x }) (own_goes t h.rest old x h.goes)
+-- it stands at the draw, or at the key, that wasn't given
+pub own_halts : (C D : ℕ → ℕ → Type 0) (P : Talk → Type 0) (t : Talk) (old : Outside) (x : Devices) → own.Halts C D P t (devices_of old.client) x
+    → HaltsAt (record all_stay { entropy = C; vault = D }) (λ rest now. P rest) t old (record old { client = with_devices old.client x })
+own_halts C D P t old x h = record { rest = h.rest; goes = own_by C D t h.rest old x h.events h.follows h.own h.share; place = h.place }
+
+pub own_breaks : (P : Talk → Type 0) (t : Talk) (old : Outside) (x : Devices) → own.Halts Stays Stays P t (devices_of old.client) x
+    → Breaks all_stay t old (record old { client = with_devices old.client x })
+own_breaks P t old x h =
+    breaks_between t h.rest old (record old { client = with_devices old.client x }) (own_by Stays Stays t h.rest old x h.events h.follows h.own h.share)
+
+-- ---- writes that weren't whole
+
+-- of the output
+pub cut_stops : (e : WriteError) (t : Talk) (old new : Outside) → Breaks (record all_stay { out = CountsWrite e }) t old new → StopsBy (stop_of_write e) t old new
+cut_stops write.Failed t old new b = (false, b)
+cut_stops write.OutOfMemory t old new b = b
+
+-- of the tap
+pub asked_stops : (e : WriteError) (t : Talk) (old new : Outside) → Breaks (record all_stay { tap = CountsWrite e }) t old new → StopsBy (stop_of_write e) t old new
+asked_stops write.Failed t old new b = (true, b)
+asked_stops write.OutOfMemory t old new b = b
 
 -- ---- printing
 
@@ -167,67 +175,43 @@ keys_printed comes (Some keys) = tt
 twice_nil : (xs : List ℕ) → (xs ++ []) ++ [] ≡ xs
 twice_nil xs = append-nil (xs ++ []) ∙ append-nil xs
 
-pub wire_printed : (comes : Outcome) (w : Wire) → WirePut Adds (Printed comes ∷ []) w w
-wire_printed comes w = record {
-  names = refl;
-  version = refl;
-  tap = adds_none w.tap;
-  log = adds_none w.log;
-  state = told_same (AreServed (Printed comes ∷ [])) (λ x. refl) w.state;
-  count = omega arith;
-  closed = refl;
-}
+pub wire_printed : (comes : Outcome) (w : Wire) → WirePut Adds Stays (Printed comes ∷ []) w w
+wire_printed comes w = wire_beside (Printed comes ∷ []) (λ version. refl) refl (λ x. refl) w
 
-module _ (comes : Outcome) (d : ClientSide) (out : Option (List ℕ)) (faults : ℕ) (names : List GName) (same : names ≡ d.out_names) (count : d.out_faults ≤ faults) where
-  pub client_printed : Adds (printed_outcome comes) d.out out → (tally : Tally) → ClientPut Adds (Printed comes ∷ []) d (record d { out_names = names; out = out; tally = tally; out_faults = faults })
-  client_printed h tally = record {
-    out_same = same;
-    entropy_same = refl;
-    vault_same = refl;
-    out = subst (λ w. Adds w d.out out) (sym (twice_nil (printed_outcome comes))) h;
-    entropy = removes_none d.entropy;
-    keys = refl;
-    opened = keys_printed comes d.keys;
-    out_count = count;
-    entropy_count = omega arith;
-    vault_count = omega arith;
+module _ (comes : Outcome) (d : ClientSide) (out : Device (List ℕ)) where
+  pub client_printed : Calls (Adds (printed_outcome comes)) Stays d.out out → (tally : Tally) → ClientPut Adds all_stay (Printed comes ∷ []) d (record d { out = out; tally = tally })
+  client_printed call tally = record {
+    out = subst (λ w. Calls (Adds w) Stays d.out out) (sym (twice_nil (printed_outcome comes))) call;
+    entropy = calls_none _ d.entropy (removes_none d.entropy.content);
+    vault = calls_none Stays d.vault refl;
+    opened = keys_printed comes d.vault.content;
   }
 
-  pub client_cut : AddsPrefix (printed_outcome comes) d.out out → ClientPut AddsPrefix (Printed comes ∷ []) d (record d { out_names = names; out = out; out_faults = faults })
-  client_cut h = record {
-    out_same = same;
-    entropy_same = refl;
-    vault_same = refl;
-    out = subst (λ w. AddsPrefix w d.out out) (sym (twice_nil (printed_outcome comes))) h;
-    entropy = removes_none d.entropy;
-    keys = refl;
-    opened = keys_printed comes d.keys;
-    out_count = count;
-    entropy_count = omega arith;
-    vault_count = omega arith;
+  pub client_cut : (C : ℕ → ℕ → Type 0) → Calls (AddsPrefix (printed_outcome comes)) C d.out out → ClientPut AddsPrefix (record all_stay { out = C }) (Printed comes ∷ []) d (record d { out = out })
+  client_cut C call = record {
+    out = subst (λ w. Calls (AddsPrefix w) C d.out out) (sym (twice_nil (printed_outcome comes))) call;
+    entropy = calls_none _ d.entropy (removes_none d.entropy.content);
+    vault = calls_none Stays d.vault refl;
+    opened = keys_printed comes d.vault.content;
   }
 
-pub printed_read : (comes : Outcome) (w : Wire) → WireRead (Printed comes ∷ []) w w
+pub printed_read : (comes : Outcome) (w : Wire) → WireRead Stays (Printed comes ∷ []) w w
 printed_read comes w = record { comes = comes_still w.version (Printed comes ∷ []) refl (λ x. refl) (λ x. refl) w.stream (queue_of w); taken = omega arith }
 
-module _ (comes : Outcome) (t u : Talk) (follows : Follows t (Printed comes ∷ []) u) (old : Outside) (out : Option (List ℕ)) (faults : ℕ) (names : List GName)
-    (same : names ≡ old.client.out_names) (count : old.client.out_faults ≤ faults) where
-  pub printed_goes : Adds (printed_outcome comes) old.client.out out → (tally : Tally) → tally ≡ printed comes old.client.tally
-      → Proceeds t u old (record old { client = record old.client { out_names = names; out = out; tally = tally; out_faults = faults } })
-  printed_goes h tally c = record {
+module _ (comes : Outcome) (t u : Talk) (follows : Follows t (Printed comes ∷ []) u) (old : Outside) (out : Device (List ℕ)) where
+  pub printed_goes : Calls (Adds (printed_outcome comes)) Stays old.client.out out → (tally : Tally) → tally ≡ printed comes old.client.tally
+      → Proceeds t u old (record old { client = record old.client { out = out; tally = tally } })
+  printed_goes call tally c = record {
     events = Printed comes ∷ [];
     follows = follows;
-    put = record {
-      client = client_printed comes old.client out faults names same count h tally;
-      wire = wire_printed comes old.wire;
-    };
+    put = record { client = client_printed comes old.client out call tally; wire = wire_printed comes old.wire };
     read = record { tally = c; wire = printed_read comes old.wire };
     limit = λ h. h;
   }
 
-  pub printed_breaks : AddsPrefix (printed_outcome comes) old.client.out out
-      → Breaks t old (record old { client = record old.client { out_names = names; out = out; out_faults = faults } })
-  printed_breaks h = record {
+  pub printed_breaks : (C : ℕ → ℕ → Type 0) → Calls (AddsPrefix (printed_outcome comes)) C old.client.out out
+      → Breaks (record all_stay { out = C }) t old (record old { client = record old.client { out = out } })
+  printed_breaks C call = record {
     between = t;
     rest = u;
     mid = old;
@@ -235,10 +219,7 @@ module _ (comes : Outcome) (t u : Talk) (follows : Follows t (Printed comes ∷ 
     goes = stay t old;
     one = omega arith;
     follows = inl (follows, silent_by old.wire.stream (Printed comes ∷ []) refl);
-    put = record {
-      client = client_cut comes old.client out faults names same count h;
-      wire = wire_front (Printed comes ∷ []) old.wire old.wire (wire_printed comes old.wire);
-    };
+    put = record { client = client_cut comes old.client out C call; wire = wire_front Stays (Printed comes ∷ []) old.wire old.wire (wire_printed comes old.wire) };
     reads = reads_still old.wire.stream;
   }
 
@@ -248,23 +229,12 @@ keys_asked : (request : Request) (replies : List Reply) (keys : Option KeyMap) �
 keys_asked request replies None = tt
 keys_asked request replies (Some keys) = tt
 
-client_asked : (request : Request) (replies : List Reply) (d : ClientSide) (tally : Tally) → ClientPut Adds (Asked request replies ∷ []) d (record d { tally = tally })
-client_asked request replies d tally = record {
-  out_same = refl;
-  entropy_same = refl;
-  vault_same = refl;
-  out = adds_none d.out;
-  entropy = removes_none d.entropy;
-  keys = refl;
-  opened = keys_asked request replies d.keys;
-  out_count = omega arith;
-  entropy_count = omega arith;
-  vault_count = omega arith;
-}
+client_asked : (request : Request) (replies : List Reply) (d : ClientSide) (tally : Tally) → ClientPut Adds all_stay (Asked request replies ∷ []) d (record d { tally = tally })
+client_asked request replies = client_beside (Asked request replies ∷ []) refl refl (keys_asked request replies)
 
 -- a request was asked, and its replies wait
 pub asked_goes : (request : Request) (replies : List Reply) (t : Talk) (old : Outside) (wire : Wire)
-    → WirePut Adds (Asked request replies ∷ []) old.wire wire → WireRead (Asked request replies ∷ []) old.wire wire → StaysWithin old.wire wire
+    → WirePut Adds Stays (Asked request replies ∷ []) old.wire wire → WireRead Stays (Asked request replies ∷ []) old.wire wire → StaysWithin old.wire wire
     → (tally : Tally) → tally ≡ asked old.client.tally → Proceeds (Asks request t) t old (record { client = record old.client { tally = tally }; wire = wire })
 asked_goes request replies t old wire p r l tally c = record {
   events = Asked request replies ∷ [];
@@ -274,8 +244,13 @@ asked_goes request replies t old wire p r l tally c = record {
   limit = l;
 }
 
-pub asked_breaks : (request : Request) (t : Talk) (old : Outside) (wire : Wire) → AsksInPart request old.wire wire → Breaks (Asks request t) old (record old { wire = wire })
-asked_breaks request t old wire (e, inl h) = record {
+-- a client's side, whatever is counted of the tap
+beside_tap : (C : ℕ → ℕ → Type 0) (xs : List Event) (a b : ClientSide) → ClientPut Adds all_stay xs a b → ClientPut AddsPrefix (record all_stay { tap = C }) xs a b
+beside_tap C xs a b p = let f = client_front all_stay xs a b p in record { out = f.out; entropy = f.entropy; vault = f.vault; opened = f.opened }
+
+pub asked_breaks : (C : ℕ → ℕ → Type 0) (request : Request) (t : Talk) (old : Outside) (wire : Wire) → AsksInPart C request old.wire wire
+    → Breaks (record all_stay { tap = C }) (Asks request t) old (record old { wire = wire })
+asked_breaks C request t old wire (e, inl h) = record {
   between = Asks request t;
   rest = Asks request t;
   mid = old;
@@ -283,10 +258,10 @@ asked_breaks request t old wire (e, inl h) = record {
   goes = stay (Asks request t) old;
   one = omega arith;
   follows = inl (stays (Asks request t), silent_by old.wire.stream [] refl);
-  put = record { client = client_front [] old.client old.client (client_still old.client); wire = h };
+  put = record { client = beside_tap C [] old.client old.client (client_still old.client); wire = h };
   reads = reads_same old.wire.stream wire.stream e;
 }
-asked_breaks request t old wire (e, inr h) = record {
+asked_breaks C request t old wire (e, inr h) = record {
   between = Asks request t;
   rest = t;
   mid = old;
@@ -294,7 +269,7 @@ asked_breaks request t old wire (e, inr h) = record {
   goes = stay (Asks request t) old;
   one = omega arith;
   follows = inl (asks request h.0 t t [] (stays t), h.1);
-  put = record { client = client_front (Asked request h.0 ∷ []) old.client old.client (client_asked request h.0 old.client old.client.tally); wire = h.2 };
+  put = record { client = beside_tap C (Asked request h.0 ∷ []) old.client old.client (client_asked request h.0 old.client old.client.tally); wire = h.2 };
   reads = reads_same old.wire.stream wire.stream e;
 }
 
@@ -304,19 +279,8 @@ keys_took : (reply : Reply) (keys : Option KeyMap) → IfSome keys (OpensAll (To
 keys_took reply None = tt
 keys_took reply (Some keys) = tt
 
-client_took : (reply : Reply) (d : ClientSide) → ClientPut Adds (Took reply ∷ []) d d
-client_took reply d = record {
-  out_same = refl;
-  entropy_same = refl;
-  vault_same = refl;
-  out = adds_none d.out;
-  entropy = removes_none d.entropy;
-  keys = refl;
-  opened = keys_took reply d.keys;
-  out_count = omega arith;
-  entropy_count = omega arith;
-  vault_count = omega arith;
-}
+client_took : (reply : Reply) (d : ClientSide) → ClientPut Adds all_stay (Took reply ∷ []) d d
+client_took reply d = client_beside (Took reply ∷ []) refl refl (keys_took reply) d d.tally
 
 took_goes : (reply : Reply) (t u : Talk) (old : Outside) (wire : Wire) → Follows t (Took reply ∷ []) u → TakesOne reply old.wire wire → Proceeds t u old (record old { wire = wire })
 took_goes reply t u old wire f h = record {
@@ -353,9 +317,9 @@ keys_strayed : (next : Option Reply) (keys : Option KeyMap) → IfSome keys (Ope
 keys_strayed next None = tt
 keys_strayed next (Some keys) = tt
 
-comes_strayed : (version : FrameVersion) (next : Option Reply) (s : Option Stream) (q : Queue) → IsNextOf version next s q.waiting → Comes version (Strayed next ∷ []) s s q q
+comes_strayed : (version : FrameVersion) (next : Option Reply) (s : Option Stream) (q : Queue) → IsNextOf version next s q.waiting → Comes Stays version (Strayed next ∷ []) s s q q
 comes_strayed version next None q h = (h, refl)
-comes_strayed version next (Some s) q h = (refl, (h, refl), omega arith)
+comes_strayed version next (Some s) q h = (refl, (h, refl), calls_none Anything s.source tt)
 
 -- the next reply isn't awaited, or none is there; aloud, the part of an answer before is printed
 follows_stray : (aloud : Bool) (session : Session) (shown : Listing) (f : Heard → Talk) (next : Option Reply) → IsStray session shown next
@@ -369,28 +333,8 @@ strayed_goes aloud session shown f next old s e = record {
   events = Strayed next ∷ [];
   follows = follows_stray aloud session shown f next s;
   put = record {
-    client = record {
-      out_same = refl;
-      entropy_same = refl;
-      vault_same = refl;
-      out = adds_none old.client.out;
-      entropy = removes_none old.client.entropy;
-      keys = refl;
-      opened = keys_strayed next old.client.keys;
-      out_count = omega arith;
-      entropy_count = omega arith;
-      vault_count = omega arith;
-    };
-    wire = record {
-      names = refl;
-      version = refl;
-      tap = adds_none old.wire.tap;
-      log = adds_none old.wire.log;
-      state =
-          told_same (AreServed (Strayed next ∷ [])) (λ x. refl) old.wire.state;
-      count = omega arith;
-      closed = refl;
-    };
+    client = client_beside (Strayed next ∷ []) refl refl (keys_strayed next) old.client old.client.tally;
+    wire = wire_beside (Strayed next ∷ []) (λ version. refl) refl (λ x. refl) old.wire;
   };
   read = record { tally = refl; wire = record { comes = comes_strayed old.wire.version next old.wire.stream (queue_of old.wire) e; taken = omega arith } };
   limit = λ h. h;

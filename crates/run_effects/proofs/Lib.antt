@@ -6,5 +6,6 @@ mod Passing
 mod Queueing
 mod Reaching
 mod Reading
+mod Rising
 mod Unstreamed
 pub mod Interface

@@ -16,8 +16,8 @@ use Rattle.conversation.specs.Paths.{Event, Asked, Took, Strayed, Drew, Opened, 
 use Rattle.conversation.specs.Talk.{Talk}
 use Rattle.conversation.proofs.Interface.{drawn_are_bytes}
 use Rattle.run_effects.specs.Events.{stop_events}
-use Rattle.run_effects.specs.Shares.{Outside, AreServed, AreServedBy, exchanges_of, messages_of}
-use Rattle.run_effects.specs.Ways.{Proceeds, Breaks, StopsBy}
+use Rattle.run_effects.specs.Shares.{Counts, Outside, AreServed, AreServedBy, exchanges_of, messages_of}
+use Rattle.run_effects.specs.Ways.{ProceedsBy, Breaks, StopsBy, unwritten}
 use Rattle.run_effects.specs.declared.stops.Stop.{Stop}
 use Rattle.run_effects.specs.declared.stops.Stop.TheVariants as stop
 use Rattle.run_effects.proofs.Passing.{ahead, path_passes}
@@ -62,7 +62,7 @@ served_so told serving serves events a None s e h = let g : ⊥ = subst (λ x. W
 -- a conversation over a server that is told so, with keys that are told and no reply that waits
 pub record Starts (map : KeyMap) (from : Beside) (old : Outside) : Type 0 where
   pub state : old.wire.state ≡ Some from
-  pub keys : old.client.keys ≡ Some map
+  pub keys : old.client.vault.content ≡ Some map
   pub waiting : old.wire.waiting ≡ []
   pub queue : old.wire.stream ≡ None
 
@@ -93,7 +93,7 @@ module _ {S : Type 0} (serving : S → Request → Served S) (keys : KeyMap) (t 
 
 module _ {S : Type 0} (told : S → Beside) (serving : S → Request → Served S) (serves : ServesAs told serving)
     (keys : KeyMap) (t : Talk) (from : S) (old : Outside) (st : Starts keys (told from) old) where
-  module _ (u : Talk) (new : Outside) (g : Proceeds t u old new) where
+  module _ (C : Counts) (u : Talk) (new : Outside) (g : ProceedsBy C t u old new) where
     abbrev left : List Reply
     left = messages_of new.wire.waiting
 
@@ -104,7 +104,7 @@ module _ {S : Type 0} (told : S → Beside) (serving : S → Request → Served 
     pub reached : Reached serving keys t from u g.events state_there.0 left
     reached =
         let v = state_there in
-        let q = waits_from t u old new st.queue st.waiting g in
+        let q = waits_from C t u old new st.queue st.waiting g in
         let o : OpensAll g.events keys = subst (λ x. IfSome x (OpensAll g.events)) st.keys g.put.client.opened in
         record {
           taken = 0 + length (flat_map taken_in g.events);
@@ -162,14 +162,14 @@ module _ {S : Type 0} (told : S → Beside) (serving : S → Request → Served 
   -- ---- where it stopped
 
   module _ (new : Outside) where
-    breaks_begin : (b : Breaks t old new) → Begins serving keys t from (b.goes.events ++ b.last)
-    breaks_begin b = last_begins b.between b.mid b.goes b.rest b.last new.wire.state b.one (breaks_follow t old new st.queue b) b.put.wire.state
+    breaks_begin : (C : Counts) (b : Breaks C t old new) → Begins serving keys t from (b.goes.events ++ b.last)
+    breaks_begin C b = last_begins _ b.between b.mid b.goes b.rest b.last new.wire.state b.one (breaks_follow C t old new st.queue b) b.put.wire.state
 
     pub stops_begin : (why : Stop) (h : StopsBy why t old new) → Begins serving keys t from (stop_events why t old new h)
-    stops_begin (stop.BadReply place) h = goes_begin h.rest new h.goes
-    stops_begin stop.ReadFault h = absurd (never_unread _ _ _ st.queue h.1)
-    stops_begin stop.TooLong h = absurd (never_long _ _ (lacks_after t old new st.queue h.0) h.1)
-    stops_begin stop.EntropyFault h = let g = h.0 in goes_begin g.rest new g.goes
-    stops_begin stop.VaultFault h = let g = h.0 in goes_begin g.rest new g.goes
-    stops_begin stop.WriteFault h = breaks_begin h.0
-    stops_begin stop.OutOfMemory h = breaks_begin h
+    stops_begin (stop.BadReply place) h = goes_begin _ h.rest new h.goes
+    stops_begin stop.ReadFault h = absurd (never_unread _ _ (lacks_after _ t old new st.queue h.0) h.1)
+    stops_begin stop.TooLong h = absurd (never_long _ _ (lacks_after _ t old new st.queue h.0) h.1)
+    stops_begin stop.EntropyFault h = goes_begin _ h.rest new h.goes
+    stops_begin stop.VaultFault h = goes_begin _ h.rest new h.goes
+    stops_begin stop.WriteFault h = breaks_begin (unwritten h.0) h.1
+    stops_begin stop.OutOfMemory h = breaks_begin _ h

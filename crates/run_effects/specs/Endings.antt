@@ -17,8 +17,8 @@ pub record HasEnded (t : Talk) (old : Outside) (now : Option (List ℕ)) : Type 
   pub sessions : List Session
   pub end : Outside
   pub goes : Proceeds t (Ends sessions) old end
-  pub tap : now ≡ end.wire.tap
+  pub tap : now ≡ end.wire.tap.content
 
 -- the tap is closed where it was before; or it was closed behind the end
 abbrev pub ClosesBehind : Talk → Outside → Wire → Type 0
-ClosesBehind t old new = (new.closed ≡ old.wire.closed) ⊎ HasEnded t old new.tap
+ClosesBehind t old new = (new.closed ≡ old.wire.closed) ⊎ HasEnded t old new.tap.content

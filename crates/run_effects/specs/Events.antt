@@ -11,7 +11,7 @@ abbrev pub stop_events : (why : Stop) (t : Talk) (old new : Outside) → StopsBy
 stop_events (stop.BadReply place) t old new h = h.goes.events
 stop_events stop.ReadFault t old new h = h.0.goes.events ++ printed_off (off h.0.between)
 stop_events stop.TooLong t old new h = h.0.goes.events ++ printed_off (off h.0.between)
-stop_events stop.EntropyFault t old new h = h.0.goes.events
-stop_events stop.VaultFault t old new h = h.0.goes.events
-stop_events stop.WriteFault t old new h = h.0.goes.events ++ h.0.last
+stop_events stop.EntropyFault t old new h = h.goes.events
+stop_events stop.VaultFault t old new h = h.goes.events
+stop_events stop.WriteFault t old new h = h.1.goes.events ++ h.1.last
 stop_events stop.OutOfMemory t old new h = h.goes.events ++ h.last

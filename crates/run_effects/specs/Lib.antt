@@ -1,4 +1,5 @@
 pub mod Endings
 pub mod Events
 pub mod Shares
+pub mod Stops
 pub mod Ways

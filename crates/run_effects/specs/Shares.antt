@@ -1,8 +1,8 @@
 -- The exposed state of a run's devices, and the effect of each event on them.
-use Rattle.std.specs.Prelude.{◌≡◌, ℕ, ◌+◌, ◌≤◌, List, [], ◌∷◌, ◌++◌, length, map, flat_map, drop, Option, Some, None, IfSome, Bool}
+use Rattle.std.specs.Prelude.{◌≡◌, ℕ, ◌+◌, List, [], ◌∷◌, ◌++◌, length, map, flat_map, drop, Option, Some, None, IfSome, Bool}
 use Rattle.std.specs.Borrow.{GName}
 use Rattle.ae_base.specs.declared.frames.FrameVersion.{FrameVersion}
-use Rattle.ae_edge.specs.Devices.{WhereExposed, Adds, IsPrefix}
+use Rattle.ae_edge.specs.Devices.{Adds, Calls, Device, IsPrefix, Removes, Stays, WhereExposed}
 use Rattle.ae_edge.specs.Vaults.{KeyMap}
 use Rattle.wire_messages.specs.Exchanges.{Exchange, Served}
 use Rattle.wire_messages.specs.declared.requests.Request.{Request}
@@ -19,66 +19,51 @@ use Rattle.outcome_text.specs.Counting.{counted}
 use Rattle.outcome_text.specs.Printing.{printed_outcome}
 use Rattle.outcome_text.specs.declared.tallies.Tally.{Tally}
 
--- this side: what it is lent, the text, the random bytes to come and the keys, where they are told, what is counted, and the
--- counts of faults
+-- this side: the output, the source of random bytes and the vault, and what is counted
 pub record ClientSide : Type 0 where
-  pub out_names : List GName
-  pub entropy_names : List GName
-  pub vault_names : List GName
-  pub out : Option (List ℕ)
-  pub entropy : Option (List ℕ)
-  pub keys : Option KeyMap
+  pub out : Device (List ℕ)
+  pub entropy : Device (List ℕ)
+  pub vault : Device KeyMap
   pub tally : Tally
-  pub out_faults : ℕ
-  pub entropy_faults : ℕ
-  pub vault_faults : ℕ
 
 -- what the driver touches of it by itself
 abbrev pub devices_of : ClientSide → Devices
-devices_of d = record {
-  entropy = d.entropy;
-  keys = d.keys;
-  entropy_faults = d.entropy_faults;
-  vault_faults = d.vault_faults;
-  entropy_names = d.entropy_names;
-  vault_names = d.vault_names;
-}
+devices_of d = record { entropy = d.entropy; vault = d.vault }
 
 -- a client with these in its place
 abbrev pub with_devices : ClientSide → Devices → ClientSide
-with_devices d x = record d {
-  entropy = x.entropy;
-  keys = x.keys;
-  entropy_faults = x.entropy_faults;
-  vault_faults = x.vault_faults;
-  entropy_names = x.entropy_names;
-  vault_names = x.vault_names;
-}
+with_devices d x = record d { entropy = x.entropy; vault = x.vault }
 
 -- Replies that come as bytes: the place of the frame that stands first, how many of its replies were taken, the bytes that are held from
--- there on, those that are left, where they are told, and how often they couldn't be read.
+-- there on, and the source of those that are left.
 pub record Stream : Type 0 where
   pub at : ℕ
   pub skipped : ℕ
   pub held : List ℕ
-  pub left : Option (List ℕ)
-  pub faults : ℕ
+  pub source : Device (List ℕ)
 
--- The other side: what it is lent, its frames, what was asked and answered and the server and what others ask of it, where they are told; the version
--- in which all is spelled; the replies that wait, each with the place of its frame, and the place behind the frames of all that came; or the
--- stream as which they come; how many replies were taken, the count of faults, and whether the tap is closed.
+-- The other side: the tap, and whether it is closed; what was asked and answered and the server and what others ask of it, where they are
+-- told, and what else is lent; the version in which all is spelled; the replies that wait, each with the place of its frame, and the place
+-- behind the frames of all that came; or the stream as which they come; and how many replies were taken.
 pub record Wire : Type 0 where
-  pub names : List (List GName)
-  pub tap : Option (List ℕ)
+  pub tap : Device (List ℕ)
+  pub closed : Bool
   pub log : Option (List Exchange)
   pub state : Option Beside
+  pub names : List (List GName)
   pub version : FrameVersion
   pub waiting : List (Placed Reply)
   pub behind : ℕ
   pub stream : Option Stream
   pub taken : ℕ
-  pub faults : ℕ
-  pub closed : Bool
+
+-- the names of what the tap, the source of the replies and the rest of it are lent
+abbrev pub source_names : Option Stream → List (List GName)
+source_names None = []
+source_names (Some s) = s.source.names ∷ []
+
+abbrev pub names_in : Wire → List (List GName)
+names_in w = w.tap.names ∷ (source_names w.stream ++ w.names)
 
 pub record Outside : Type 0 where
   pub client : ClientSide
@@ -112,35 +97,46 @@ AreServedBy serving (Printed comes ∷ events) old new = AreServedBy serving eve
 abbrev pub AreServed : List Event → Beside → Beside → Type 0
 AreServed = AreServedBy serve_beside
 
+-- ---- which calls failed
+
+-- what is said of the count of faults of each device
+pub record Counts : Type 1 where
+  pub out : ℕ → ℕ → Type 0
+  pub entropy : ℕ → ℕ → Type 0
+  pub vault : ℕ → ℕ → Type 0
+  pub tap : ℕ → ℕ → Type 0
+  pub replies : ℕ → ℕ → Type 0
+
+-- whatever the count
+abbrev pub AnyCount : ℕ → ℕ → Type 0
+AnyCount old new = Unit {0}
+
+-- no call failed
+abbrev pub all_stay : Counts
+all_stay = record { out = Stays; entropy = Stays; vault = Stays; tap = Stays; replies = Stays }
+
 -- ---- what was put: whole, or a front of it
 
 abbrev pub Puts : Type 1
 Puts = List ℕ → Option (List ℕ) → Option (List ℕ) → Type 0
 
-pub record ClientPut (P : Puts) (events : List Event) (old new : ClientSide) : Type 0 where
-  pub out_same : new.out_names ≡ old.out_names
-  pub entropy_same : new.entropy_names ≡ old.entropy_names
-  pub vault_same : new.vault_names ≡ old.vault_names
-  pub out : P (flat_map text_of events) old.out new.out
-  pub entropy : WhereExposed (λ before after. before ≡ flat_map drawn_in events ++ after) old.entropy new.entropy
-  pub keys : new.keys ≡ old.keys
-  pub opened : IfSome old.keys (OpensAll events)
-  pub out_count : old.out_faults ≤ new.out_faults
-  pub entropy_count : old.entropy_faults ≤ new.entropy_faults
-  pub vault_count : old.vault_faults ≤ new.vault_faults
+pub record ClientPut (P : Puts) (C : Counts) (events : List Event) (old new : ClientSide) : Type 0 where
+  pub out : Calls (P (flat_map text_of events)) C.out old.out new.out
+  pub entropy : Calls (Removes (flat_map drawn_in events)) C.entropy old.entropy new.entropy
+  pub vault : Calls Stays C.vault old.vault new.vault
+  pub opened : IfSome old.vault.content (OpensAll events)
 
-pub record WirePut (P : Puts) (events : List Event) (old new : Wire) : Type 0 where
-  pub names : new.names ≡ old.names
-  pub version : new.version ≡ old.version
-  pub tap : P (flat_map (frames_of old.version) events) old.tap new.tap
+pub record WirePut (P : Puts) (C : ℕ → ℕ → Type 0) (events : List Event) (old new : Wire) : Type 0 where
+  pub tap : Calls (P (flat_map (frames_of old.version) events)) C old.tap new.tap
+  pub closed : new.closed ≡ old.closed
   pub log : Adds (flat_map exchanges_of events) old.log new.log
   pub state : WhereExposed (AreServed events) old.state new.state
-  pub count : old.faults ≤ new.faults
-  pub closed : new.closed ≡ old.closed
+  pub names : new.names ≡ old.names
+  pub version : new.version ≡ old.version
 
-pub record HasPut (P : Puts) (events : List Event) (old new : Outside) : Type 0 where
-  pub client : ClientPut P events old.client new.client
-  pub wire : WirePut P events old.wire new.wire
+pub record HasPut (P : Puts) (C : Counts) (events : List Event) (old new : Outside) : Type 0 where
+  pub client : ClientPut P C events old.client new.client
+  pub wire : WirePut P C.tap events old.wire new.wire
 
 -- ---- replies that wait
 
@@ -179,7 +175,7 @@ coming_behind held (Some left) = Some (held ++ left)
 coming_behind held None = None
 
 abbrev pub coming : Stream → Option (List ℕ)
-coming s = coming_behind s.held s.left
+coming s = coming_behind s.held s.source.content
 
 -- the place of the frame that stands first, how many of its replies were taken, and all bytes from there on
 pub record Standing : Type 0 where
@@ -227,22 +223,26 @@ Streams version (Drew bytes ∷ events) old new = Streams version events old new
 Streams version (Opened meta key ∷ events) old new = Streams version events old new
 Streams version (Printed comes ∷ events) old new = Streams version events old new
 
+-- whatever the content
+abbrev pub Anything : Option (List ℕ) → Option (List ℕ) → Type 0
+Anything old new = Unit {0}
+
 -- the replies that wait are taken in order; or those that come as bytes, of which none comes with a request
-abbrev pub Comes : FrameVersion → List Event → Option Stream → Option Stream → Queue → Queue → Type 0
-Comes version events None None old new = Queues version events old new
-Comes version events (Some s) (Some t) old new = (flat_map replies_to events ≡ []) × Streams version events (standing_of s) (standing_of t) × (s.faults ≤ t.faults)
-Comes version events None (Some t) old new = ⊥
-Comes version events (Some s) None old new = ⊥
+abbrev pub Comes : (ℕ → ℕ → Type 0) → FrameVersion → List Event → Option Stream → Option Stream → Queue → Queue → Type 0
+Comes C version events None None old new = Queues version events old new
+Comes C version events (Some s) (Some t) old new = (flat_map replies_to events ≡ []) × Streams version events (standing_of s) (standing_of t) × Calls Anything C s.source t.source
+Comes C version events None (Some t) old new = ⊥
+Comes C version events (Some s) None old new = ⊥
 
 -- ---- what was read: the replies in order; and what was counted
 
-pub record WireRead (events : List Event) (old new : Wire) : Type 0 where
-  pub comes : Comes old.version events old.stream new.stream (queue_of old) (queue_of new)
+pub record WireRead (C : ℕ → ℕ → Type 0) (events : List Event) (old new : Wire) : Type 0 where
+  pub comes : Comes C old.version events old.stream new.stream (queue_of old) (queue_of new)
   pub taken : new.taken ≡ old.taken + length (flat_map taken_in events)
 
-pub record HasRead (events : List Event) (old new : Outside) : Type 0 where
+pub record HasRead (C : Counts) (events : List Event) (old new : Outside) : Type 0 where
   pub tally : new.client.tally ≡ counted events old.client.tally
-  pub wire : WireRead events old.wire new.wire
+  pub wire : WireRead C.replies events old.wire new.wire
 
 -- ---- the place of the next reply
 

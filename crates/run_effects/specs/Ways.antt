@@ -1,7 +1,7 @@
 -- How much of a conversation took place, its effect on each device, and why it stopped.
-use Rattle.std.specs.Prelude.{◌≡◌, ◌⊎◌, ℕ, ◌+◌, ◌≤◌, List, [], ◌∷◌, ◌++◌, length, map, flat_map, Option, Some, None, IfSome, Result, Ok, Err}
+use Rattle.std.specs.Prelude.{◌≡◌, ◌⊎◌, ℕ, ◌+◌, ◌≤◌, List, [], ◌∷◌, ◌++◌, length, map, flat_map, Bool, true, false, Option, Some, None, IfSome, Result, Ok, Err}
 use Rattle.ae_base.specs.declared.frames.FrameVersion.{FrameVersion}
-use Rattle.ae_edge.specs.Devices.{Rose, Adds, AddsPrefix, Removes}
+use Rattle.ae_edge.specs.Devices.{Adds, AddsPrefix, Calls, Removes, Rose, Stays}
 use Rattle.wire_messages.specs.declared.replies.Reply.{Reply}
 use Rattle.wire_messages.specs.declared.requests.Request.{Request}
 use Rattle.wire_frames.specs.Frames.{Placed, IsNotYet, is_reply_head}
@@ -10,7 +10,7 @@ use Rattle.conversation.specs.Drive.{outcomes_in}
 use Rattle.conversation.specs.Paths.{Event, Asked, Took, Printed, Follows, next_of, replies_to}
 use Rattle.conversation.specs.Talk.{Talk, Ends, Stops, Asks, Hears, Notes, Draws, Opens, Prints, broken}
 use Rattle.conversation.specs.declared.outcomes.Outcome.{Outcome}
-use Rattle.run_effects.specs.Shares.{Outside, Stream, Wire, HasPut, HasRead, WirePut, WireRead, Begins, IsNext, coming, messages_of, place_of}
+use Rattle.run_effects.specs.Shares.{AnyCount, Anything, Counts, Outside, Stream, Wire, HasPut, HasRead, WirePut, WireRead, Begins, IsNext, all_stay, coming, messages_of, place_of}
 use Rattle.run_effects.specs.declared.stops.Stop.{Stop}
 use Rattle.run_effects.specs.declared.stops.Stop.TheVariants as stop
 pub use Rattle.ae_base.specs.Limits.{most_stream_bytes}
@@ -24,18 +24,22 @@ IsWithin None = Unit {0}
 abbrev pub StaysWithin : Wire → Wire → Type 0
 StaysWithin old new = IsWithin old.stream → IsWithin new.stream
 
--- from t it was followed to u, and all has passed whole
-pub record Proceeds (t u : Talk) (old new : Outside) : Type 0 where
+-- from t it was followed to u, and all has passed whole; of the counts of faults this is said
+pub record ProceedsBy (C : Counts) (t u : Talk) (old new : Outside) : Type 0 where
   pub events : List Event
   pub follows : Follows t events u
-  pub put : HasPut Adds events old new
-  pub read : HasRead events old new
+  pub put : HasPut Adds C events old new
+  pub read : HasRead C events old new
   pub limit : StaysWithin old.wire new.wire
 
+-- no call failed
+abbrev pub Proceeds : Talk → Talk → Outside → Outside → Type 0
+Proceeds = ProceedsBy all_stay
+
 -- it came whole to a place of this kind, and no further
-pub record HaltsAt (P : Talk → Outside → Type 0) (t : Talk) (old new : Outside) : Type 0 where
+pub record HaltsAt (C : Counts) (P : Talk → Outside → Type 0) (t : Talk) (old new : Outside) : Type 0 where
   pub rest : Talk
-  pub goes : Proceeds t rest old new
+  pub goes : ProceedsBy C t rest old new
   pub place : P rest new
 
 -- ---- where replies that come as bytes can't be read further
@@ -62,19 +66,20 @@ IsAtFrame (Some s) = s.skipped ≡ 0
 IsAtFrame None = ⊥
 
 -- it came whole to a place where a reply is awaited; the part of an answer before it broke off is printed
-pub record Lacks (t : Talk) (old new : Outside) : Type 0 where
+pub record Lacks (C : Counts) (t : Talk) (old new : Outside) : Type 0 where
   pub between : Talk
   pub mid : Outside
   pub goes : Proceeds t between old mid
   pub awaits : IsAtReply between
-  pub put : HasPut Adds (printed_off (off between)) mid new
-  pub read : HasRead (printed_off (off between)) mid new
+  pub put : HasPut Adds C (printed_off (off between)) mid new
+  pub read : HasRead C (printed_off (off between)) mid new
 
 -- ---- where it broke off
 
 -- of the bytes from the frame that stands first on, a front was taken, of those within the limit and one more at most
 abbrev pub ReadsPrefix : Option Stream → Option Stream → Type 0
-ReadsPrefix (Some s) (Some t) = IsWithin (Some s) → (front : List ℕ) × Removes front (coming s) t.left × (s.at + length front ≤ most_stream_bytes + 1)
+ReadsPrefix (Some s) (Some t) =
+    Calls Anything AnyCount s.source t.source × (IsWithin (Some s) → (front : List ℕ) × Removes front (coming s) t.source.content × (s.at + length front ≤ most_stream_bytes + 1))
 ReadsPrefix (Some s) None = ⊥
 ReadsPrefix None (Some t) = ⊥
 ReadsPrefix None None = Unit {0}
@@ -89,7 +94,7 @@ abbrev pub GoesOn : Talk → List Event → Talk → Wire → Type 0
 GoesOn t events u wire = (Follows t events u × IsSilent wire.stream events) ⊎ (IsAtFrame wire.stream × IsAtReply t × (events ≡ printed_off (off t)))
 
 -- it broke off: events passed whole up to `mid`, and of at most one more a front was put
-pub record Breaks (t : Talk) (old new : Outside) : Type 0 where
+pub record Breaks (C : Counts) (t : Talk) (old new : Outside) : Type 0 where
   pub between : Talk
   pub rest : Talk
   pub mid : Outside
@@ -97,7 +102,7 @@ pub record Breaks (t : Talk) (old new : Outside) : Type 0 where
   pub goes : Proceeds t between old mid
   pub one : length last ≤ 1
   pub follows : GoesOn between last rest mid.wire
-  pub put : HasPut AddsPrefix last mid new
+  pub put : HasPut AddsPrefix C last mid new
   pub reads : ReadsPrefix mid.wire.stream new.wire.stream
 
 -- it can't be followed further: a reply isn't awaited, or none came, or something is left at the end
@@ -137,12 +142,10 @@ LacksAt version (Notes session shown f) skipped held = LacksReply version skippe
 LacksAt version (Ends sessions) skipped held = HoldsNothing skipped held
 LacksAt version other skipped held = ⊥
 
--- the stream couldn't be read, and holds this
-abbrev pub CantBeRead : Lacking → Option Stream → Option Stream → Type 0
-CantBeRead lacks (Some s) (Some t) = Rose s.faults t.faults × lacks t.skipped t.held
-CantBeRead lacks (Some s) None = ⊥
-CantBeRead lacks None (Some t) = ⊥
-CantBeRead lacks None None = ⊥
+-- the replies come as bytes, and this is held
+abbrev pub CantBeRead : Lacking → Option Stream → Type 0
+CantBeRead lacks (Some s) = lacks s.skipped s.held
+CantBeRead lacks None = ⊥
 
 -- one byte past the limit came, and this is held before it
 pub record IsPast (lacks : Lacking) (at skipped : ℕ) (held : List ℕ) : Type 0 where
@@ -156,15 +159,20 @@ abbrev pub IsTooLong : Lacking → Option Stream → Type 0
 IsTooLong lacks (Some s) = IsPast lacks s.at s.skipped s.held
 IsTooLong lacks None = ⊥
 
--- each way to stop, with its cause
+-- a call of the tap failed, or one of the output
+abbrev pub unwritten : Bool → Counts
+unwritten true = record all_stay { tap = Rose }
+unwritten false = record all_stay { out = Rose }
+
+-- each way to stop, with its cause; a call that failed was the last
 abbrev pub StopsBy : Stop → Talk → Outside → Outside → Type 0
-StopsBy (stop.BadReply place) t old new = HaltsAt (λ rest now. IsStuckOn rest now.wire.stream now.wire.waiting × (place_of now.wire ≡ place)) t old new
-StopsBy stop.ReadFault t old new = (l : Lacks t old new) × CantBeRead (LacksAt new.wire.version l.between) old.wire.stream new.wire.stream × StaysWithin old.wire new.wire
-StopsBy stop.TooLong t old new = (l : Lacks t old new) × IsTooLong (LacksAt new.wire.version l.between) new.wire.stream
-StopsBy stop.EntropyFault t old new = HaltsAt (λ rest now. IsAtDraw rest) t old new × Rose old.client.entropy_faults new.client.entropy_faults
-StopsBy stop.VaultFault t old new = HaltsAt (λ rest now. IsAtKey rest) t old new × Rose old.client.vault_faults new.client.vault_faults
-StopsBy stop.WriteFault t old new = Breaks t old new × (Rose old.client.out_faults new.client.out_faults ⊎ Rose old.wire.faults new.wire.faults)
-StopsBy stop.OutOfMemory t old new = Breaks t old new
+StopsBy (stop.BadReply place) t old new = HaltsAt all_stay (λ rest now. IsStuckOn rest now.wire.stream now.wire.waiting × (place_of now.wire ≡ place)) t old new
+StopsBy stop.ReadFault t old new = (l : Lacks (record all_stay { replies = Rose }) t old new) × CantBeRead (LacksAt new.wire.version l.between) new.wire.stream × StaysWithin old.wire new.wire
+StopsBy stop.TooLong t old new = (l : Lacks all_stay t old new) × IsTooLong (LacksAt new.wire.version l.between) new.wire.stream
+StopsBy stop.EntropyFault t old new = HaltsAt (record all_stay { entropy = Rose }) (λ rest now. IsAtDraw rest) t old new
+StopsBy stop.VaultFault t old new = HaltsAt (record all_stay { vault = Rose }) (λ rest now. IsAtKey rest) t old new
+StopsBy stop.WriteFault t old new = (tap : Bool) × Breaks (unwritten tap) t old new
+StopsBy stop.OutOfMemory t old new = Breaks all_stay t old new
 
 -- what a call does on the way from t: it goes on to what its result gives, or it stops
 abbrev pub Advances : {A : Type 0} → Result A Stop → Talk → (A → Talk) → Outside → Outside → Type 0
@@ -174,9 +182,10 @@ Advances (Err s) t onward old new = StopsBy s t old new
 -- ---- the wire by itself
 
 -- of the request, with what came back, a front was put; or it wasn't asked; and no stream was read
-abbrev pub AsksInPart : Request → Wire → Wire → Type 0
-AsksInPart request old new = (new.stream ≡ old.stream) ×
-    (WirePut AddsPrefix [] old new ⊎ ((replies : List Reply) × IsSilent old.stream (Asked request replies ∷ []) × WirePut AddsPrefix (Asked request replies ∷ []) old new))
+abbrev pub AsksInPart : (ℕ → ℕ → Type 0) → Request → Wire → Wire → Type 0
+AsksInPart C request old new =
+    (new.stream ≡ old.stream) ×
+    (WirePut AddsPrefix C [] old new ⊎ ((replies : List Reply) × IsSilent old.stream (Asked request replies ∷ []) × WirePut AddsPrefix C (Asked request replies ∷ []) old new))
 
 -- the reply that waits first, or is the next of the frame that stands first in the bytes that are held
 abbrev pub IsFirstOf : FrameVersion → Reply → Option Stream → List (Placed Reply) → Type 0
@@ -206,10 +215,10 @@ IsLeftOn (Some s) waiting = IsLeft s.held
 -- nothing is left
 abbrev pub IsReadOut : Option Stream → List (Placed Reply) → Type 0
 IsReadOut None waiting = waiting ≡ []
-IsReadOut (Some s) waiting = (s.held ≡ []) × IfSome s.left (λ left. left ≡ [])
+IsReadOut (Some s) waiting = (s.held ≡ []) × IfSome s.source.content (λ left. left ≡ [])
 
 -- a reply was taken
 pub record TakesOne (reply : Reply) (old new : Wire) : Type 0 where
-  pub put : WirePut Adds (Took reply ∷ []) old new
-  pub read : WireRead (Took reply ∷ []) old new
+  pub put : WirePut Adds Stays (Took reply ∷ []) old new
+  pub read : WireRead Stays (Took reply ∷ []) old new
   pub limit : StaysWithin old new

@@ -1,5 +1,7 @@
 //! Why a run stops.
 
+use ae_edge::streams::WriteError;
+
 /// Why a conversation is followed no further.
 #[derive(Clone, Copy, PartialEq, Eq, Debug)]
 pub enum Stop {
@@ -16,4 +18,18 @@ pub enum Stop {
     /// The text or the tap couldn't be put.
     WriteFault,
     OutOfMemory,
+}
+
+impl From<WriteError> for Stop {
+    ghost use Rattle.std.specs.Prelude.{◌≡◌};
+    ghost use Rattle.run_effects.specs.Stops.{stop_of_write};
+
+    ghost from_gives = { λ error stop. stop ≡ stop_of_write error };
+
+    fn from(error: WriteError) -> Stop {
+        match error {
+            WriteError::Failed => Stop::WriteFault,
+            WriteError::OutOfMemory => Stop::OutOfMemory,
+        }
+    }
 }

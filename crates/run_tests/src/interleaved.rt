@@ -71,7 +71,7 @@ pub fn session(number: u16) -> SessionId
 
 /// A driver that keeps no key, beside a vault.
 fn new_driver<V: Vault>(alloc: Global, vault: &V) -> Result<Driver, AllocError>
-    ensures { IfOk result (λ driver. IsOfVault (V.keys vault.now) driver) }
+    ensures { IfOk result (λ driver. IsOfVault (V.seen vault.now).content driver) }
 {
     Driver::new(alloc)
 }
@@ -104,8 +104,8 @@ fn begun<V: Vault>(
     text: &str,
     vault: &V,
 ) -> Result<Result<Vec<u8>, DriverFault>, AllocError>
-    requires { IsOfVault (V.keys vault.now) driver.old }
-    ensures { IsOfVault (V.keys vault.now) driver.new }
+    requires { IsOfVault (V.seen vault.now).content driver.old }
+    ensures { IsOfVault (V.seen vault.now).content driver.new }
 {
     let text = Txt::copied(alloc, text)?;
     let batch = Batch {
@@ -124,8 +124,8 @@ fn described<V: Vault>(
     frame: &[u8],
     vault: &V,
 ) -> Result<DescribeAnswer, Halt>
-    requires { IsOfVault (V.keys vault.now) driver.old }
-    ensures { IsOfVault (V.keys vault.now) driver.new }
+    requires { IsOfVault (V.seen vault.now).content driver.old }
+    ensures { IsOfVault (V.seen vault.now).content driver.new }
 {
     match reply_of(alloc, frame) {
         Some(reply) => driver.described(alloc, number, &reply),
@@ -140,8 +140,8 @@ fn executed<V: Vault, E: Entropy>(
     vault: &mut V,
     entropy: &mut E,
 ) -> Result<Result<Vec<u8>, DriverFault>, AllocError>
-    requires { IsOfVault (V.keys vault.old) driver.old }
-    ensures { IsOfVault (V.keys vault.new) driver.new }
+    requires { IsOfVault (V.seen vault.old).content driver.old }
+    ensures { IsOfVault (V.seen vault.new).content driver.new }
 {
     match driver.execute(alloc, number, vault, entropy) {
         Ok(answer) => framed(alloc, answer),
@@ -156,8 +156,8 @@ fn replied<V: Vault>(
     frame: &[u8],
     vault: &mut V,
 ) -> Result<ReplyAnswer, Halt>
-    requires { IsOfVault (V.keys vault.old) driver.old }
-    ensures { IsOfVault (V.keys vault.new) driver.new }
+    requires { IsOfVault (V.seen vault.old).content driver.old }
+    ensures { IsOfVault (V.seen vault.new).content driver.new }
 {
     match reply_of(alloc, frame) {
         Some(reply) => driver.replied(alloc, number, &reply, vault),
@@ -219,7 +219,7 @@ fn keep_their_batches<V: Vault, E: Entropy>(
     vault: &mut V,
     entropy: &mut E,
 ) -> [bool; 13]
-    requires { IsOfVault (V.keys vault.old) driver.old }
+    requires { IsOfVault (V.seen vault.old).content driver.old }
 {
     let (one, two) = (session(1), session(2));
     [

@@ -32,13 +32,13 @@ front_still None None g = refl
 front_still (Some x) None g = absurd g
 front_still None (Some y) g = absurd g
 
-pub finished_tap : (result : Result (Unit {0}) EndFault) (old new : Wire) → Finishes result old new → new.tap ≡ old.tap
-finished_tap (Ok o) old new f = still old.tap new.tap f.0.0.tap
-finished_tap (Err ending.WriteFault) old new f = still old.tap new.tap f.0.0.tap
-finished_tap (Err (ending.Replies fault.BadReply)) old new f = still old.tap new.tap f.0.0.tap
-finished_tap (Err (ending.Replies fault.ReadFault)) old new f = still old.tap new.tap f.0.0.tap
-finished_tap (Err (ending.Replies fault.TooLong)) old new f = still old.tap new.tap f.0.tap
-finished_tap (Err (ending.Replies fault.OutOfMemory)) old new f = front_still old.tap new.tap f.0.tap
+pub finished_tap : (result : Result (Unit {0}) EndFault) (old new : Wire) → Finishes result old new → new.tap.content ≡ old.tap.content
+finished_tap (Ok o) old new f = still old.tap.content new.tap.content f.0.0.tap.content
+finished_tap (Err ending.WriteFault) old new f = still old.tap.content new.tap.content f.0.tap.content
+finished_tap (Err (ending.Replies fault.BadReply)) old new f = still old.tap.content new.tap.content f.0.0.tap.content
+finished_tap (Err (ending.Replies fault.ReadFault)) old new f = still old.tap.content new.tap.content f.0.0.tap.content
+finished_tap (Err (ending.Replies fault.TooLong)) old new f = still old.tap.content new.tap.content f.0.tap.content
+finished_tap (Err (ending.Replies fault.OutOfMemory)) old new f = front_still old.tap.content new.tap.content f.0.tap.content
 
 -- ---- to the end, or no further
 
@@ -51,7 +51,7 @@ ends_then result t sessions a b c p l =
 pub stops_so : (s : Stop) (t : Talk) (a b : Outside) → StopsBy s t a b → StopsBy s t a (closed_as a.wire.closed b)
 stops_so s t a b h = let e = (fails_same s t a b h).closed in subst (λ w. StopsBy s t a (closed_as w b)) e h
 
-pub behind_end : (t : Talk) (sessions : List Session) (a b c : Outside) → Proceeds t (Ends sessions) a b → c.wire.tap ≡ b.wire.tap → ClosesBehind t a c.wire
+pub behind_end : (t : Talk) (sessions : List Session) (a b c : Outside) → Proceeds t (Ends sessions) a b → c.wire.tap.content ≡ b.wire.tap.content → ClosesBehind t a c.wire
 behind_end t sessions a b c p e = inr (record { sessions = sessions; end = b; goes = p; tap = e })
 
 pub as_before : (s : Stop) (t : Talk) (a b : Outside) → StopsBy s t a b → ClosesBehind t a b.wire

@@ -58,14 +58,15 @@ pub trait Around {
         ensures leads { (t : Talk) → Advances result (Asks request.now t) (λ _. t)
             (outside self.old) (outside self.new) }
         ensures keys { IfOk result
-            (λ _. (outside self.new).client.keys ≡ (outside self.old).client.keys) };
+            (λ _. (outside self.new).client.vault.content
+            ≡ (outside self.old).client.vault.content) };
 
     /// Ends it, where nothing more is asked, and looks whether any reply is left. None may be.
     fn finish(&mut self, alloc: Global) -> Result<(), Stop>
         ensures leads { (sessions : List Session) → Advances result (Ends sessions)
             (λ _. Ends sessions) (outside self.old)
             (closed_as (outside self.old).wire.closed (outside self.new)) }
-        ensures tap { (outside self.new).wire.tap ≡ (outside self.old).wire.tap }
+        ensures tap { (outside self.new).wire.tap.content ≡ (outside self.old).wire.tap.content }
         ensures read { IfOk result
             (λ _. IsReadOut (outside self.new).wire.stream (outside self.new).wire.waiting) }
         ensures ended { IfOk result (λ _. is_ended self.new) };
@@ -75,7 +76,8 @@ pub trait Around {
         ensures leads { (t : Talk) → Advances result (Prints outcome.now t) (λ _. t)
             (outside self.old) (outside self.new) }
         ensures keys { IfOk result
-            (λ _. (outside self.new).client.keys ≡ (outside self.old).client.keys) };
+            (λ _. (outside self.new).client.vault.content
+            ≡ (outside self.old).client.vault.content) };
 
     /// Executes what is pending: the request.
     fn execute<'r>(
@@ -84,7 +86,7 @@ pub trait Around {
         driver: &mut Driver,
         number: SessionId,
     ) -> Result<Result<Request<'r>, DriverFault>, Stop>
-        requires { IsOfVault (outside self.old).client.keys driver.old }
+        requires { IsOfVault (outside self.old).client.vault.content driver.old }
         ensures leads { (k : Result Request DriverFault → Session → Talk) → Advances result
             (turns.execute driver.old.trusted number (session_of driver.old number) k)
             (λ answer. k answer (session_of driver.new number)) (outside self.old)
@@ -92,7 +94,7 @@ pub trait Around {
         ensures sent { IfOk result
             (λ answer. IfOk answer (λ request. session_of driver.new number ≡ Sent)) }
         ensures keeps { IfOk result
-            (λ _. Keeps number driver.old driver.new (outside self.new).client.keys) };
+            (λ _. Keeps number driver.old driver.new (outside self.new).client.vault.content) };
 
     /// Hears the description of a batch, aloud or quietly.
     fn hear_description(
@@ -102,14 +104,14 @@ pub trait Around {
         number: SessionId,
     ) -> Result<DescribeAnswer, Stop>
         requires begun { IsBegun (session_of driver.old number) }
-        requires of_vault { IsOfVault (outside self.old).client.keys driver.old }
+        requires of_vault { IsOfVault (outside self.old).client.vault.content driver.old }
         ensures leads { (aloud : Bool) (f : Heard → Talk) → Advances result
             (turns.hearing aloud (session_of driver.old number) nothing_shown f)
             (told_on f (session_of driver.new number)) (outside self.old) (outside self.new) }
         ensures described { IfOk result
             (λ answer. IsDescribed answer (session_of driver.new number)) }
         ensures keeps { IfOk result
-            (λ _. Keeps number driver.old driver.new (outside self.new).client.keys) };
+            (λ _. Keeps number driver.old driver.new (outside self.new).client.vault.content) };
 
     /// Hears the first reply to an execution, aloud or quietly.
     fn hear_answer(
@@ -119,7 +121,7 @@ pub trait Around {
         number: SessionId,
     ) -> Result<First, Stop>
         requires sent { session_of driver.old number ≡ Sent }
-        requires of_vault { IsOfVault (outside self.old).client.keys driver.old }
+        requires of_vault { IsOfVault (outside self.old).client.vault.content driver.old }
         ensures leads { (aloud : Bool) (k : Onward) → Advances result
             (turns.hearing aloud (session_of driver.old number) nothing_shown
             (turns.answered_on aloud driver.old.trusted k))
@@ -129,7 +131,7 @@ pub trait Around {
         ensures columns { IfOk result
             (said_first (columns_of driver.old number) (columns_of driver.new number)) }
         ensures leaves { IfOk result
-            (λ _. Leaves number driver.old driver.new (outside self.new).client.keys) };
+            (λ _. Leaves number driver.old driver.new (outside self.new).client.vault.content) };
 
     /// Hears one more reply where rows are awaited. Aloud, a listing that breaks off is printed.
     fn hear_row(
@@ -141,7 +143,7 @@ pub trait Around {
         shown: &mut Listing,
     ) -> Result<RowHeard, Stop>
         requires rows { IsRows (session_of driver.old number) }
-        requires of_vault { IsOfVault (outside self.old).client.keys driver.old }
+        requires of_vault { IsOfVault (outside self.old).client.vault.content driver.old }
         ensures leads { (f : Heard → Talk) → Advances result
             (turns.hearing aloud (session_of driver.old number) shown.old f)
             (row_on aloud f (session_of driver.new number) shown.new) (outside self.old)
@@ -151,5 +153,5 @@ pub trait Around {
             (λ _. ((outside self.old).wire.taken < (outside self.new).wire.taken)
             × ((outside self.new).wire.taken < 2 ^ 64)) }
         ensures keeps { IfOk result
-            (λ _. Keeps number driver.old driver.new (outside self.new).client.keys) };
+            (λ _. Keeps number driver.old driver.new (outside self.new).client.vault.content) };
 }

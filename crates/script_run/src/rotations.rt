@@ -99,14 +99,14 @@ pub(crate) fn run_rotation<A: Around>(
     old: &Name,
     new: &Name,
 ) -> Result<Result<u64, Fault>, Stop>
-    requires { IsOfVault (A.outside env.old).client.keys driver.old }
+    requires { IsOfVault (A.outside env.old).client.vault.content driver.old }
     ensures leads { (k : Ends) → Advances result
         (rotating_as.beginning driver.old.trusted number old.now new.now k
         (session_of driver.old number))
         (λ rotated. k (rotated_as rotated) (session_of driver.new number)) (A.outside env.old)
         (A.outside env.new) }
     ensures leaves { IfOk result
-        (λ _. Leaves number driver.old driver.new (A.outside env.new).client.keys) }
+        (λ _. Leaves number driver.old driver.new (A.outside env.new).client.vault.content) }
 {
     let mut rotation = match start(number, old, new) {
         Ok(rotation) => rotation,
@@ -138,13 +138,13 @@ pub fn rotate<A: Around>(
     old: &Name,
     new: &Name,
 ) -> Result<(), Stop>
-    requires { IsOfVault (A.outside env.old).client.keys driver.old }
+    requires { IsOfVault (A.outside env.old).client.vault.content driver.old }
     ensures leads { (k : Session → Talk) → Advances result
         (rotating_as.rotates driver.old.trusted number old.now new.now
         (session_of driver.old number) k)
         (λ _. k (session_of driver.new number)) (A.outside env.old) (A.outside env.new) }
     ensures leaves { IfOk result
-        (λ _. Leaves number driver.old driver.new (A.outside env.new).client.keys) }
+        (λ _. Leaves number driver.old driver.new (A.outside env.new).client.vault.content) }
 {
     match run_rotation(alloc, env, driver, number, old, new) {
         Ok(rotated) => print(alloc, env, rotated_as(rotated)),

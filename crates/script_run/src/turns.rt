@@ -48,7 +48,8 @@ fn say<A: Around>(
         (A.outside env.new) }
     ensures same { IfOk result (λ said. said ≡ outcome) }
     ensures keys { IfOk result
-        (λ _. (A.outside env.new).client.keys ≡ (A.outside env.old).client.keys) }
+        (λ _. (A.outside env.new).client.vault.content
+        ≡ (A.outside env.old).client.vault.content) }
 {
     if !aloud {
         return Ok(outcome);
@@ -70,7 +71,8 @@ fn say_heard<A: Around>(
         (turns.saying aloud outcome (onward (turns.outcome_or outcome))) onward
         (A.outside env.old) (A.outside env.new) }
     ensures keys { IfOk result
-        (λ _. (A.outside env.new).client.keys ≡ (A.outside env.old).client.keys) }
+        (λ _. (A.outside env.new).client.vault.content
+        ≡ (A.outside env.old).client.vault.content) }
 {
     match outcome {
         Some(outcome) => say(alloc, env, aloud, outcome),
@@ -88,13 +90,13 @@ fn hear_rows<A: Around>(
     shown: &mut Listing,
 ) -> Result<Option<Outcome>, Stop>
     requires rows { IsRows (session_of driver.old number) }
-    requires of_vault { IsOfVault (A.outside env.old).client.keys driver.old }
+    requires of_vault { IsOfVault (A.outside env.old).client.vault.content driver.old }
     ensures leads { (f : Heard → Talk) → Advances result
         (turns.hearing aloud (session_of driver.old number) shown.old f)
         (λ comes. f (Said comes (session_of driver.new number))) (A.outside env.old)
         (A.outside env.new) }
     ensures keeps { IfOk result
-        (λ _. Keeps number driver.old driver.new (A.outside env.new).client.keys) }
+        (λ _. Keeps number driver.old driver.new (A.outside env.new).client.vault.content) }
 {
     'replies: loop {
         match env.hear_row(alloc, driver, number, aloud, shown) {
@@ -115,13 +117,13 @@ fn hear_out<A: Around>(
     shown: Listing,
 ) -> Result<Outcome, Stop>
     requires rows { IsRows (session_of driver.old number) }
-    requires of_vault { IsOfVault (A.outside env.old).client.keys driver.old }
+    requires of_vault { IsOfVault (A.outside env.old).client.vault.content driver.old }
     ensures leads { (f : Heard → Talk) (k : comes_as.Outcome → Session → Talk) → SaysThen aloud f k
         → Advances result (turns.hearing aloud (session_of driver.old number) shown f)
         (λ comes. k comes (session_of driver.new number)) (A.outside env.old)
         (A.outside env.new) }
     ensures keeps { IfOk result
-        (λ _. Keeps number driver.old driver.new (A.outside env.new).client.keys) }
+        (λ _. Keeps number driver.old driver.new (A.outside env.new).client.vault.content) }
 {
     let mut shown = shown;
     match hear_rows(alloc, env, driver, number, aloud, &mut shown) {
@@ -148,13 +150,13 @@ fn rest<A: Around>(
     aloud: bool,
     outcome: Outcome,
 ) -> Result<Outcome, Stop>
-    requires { IsOfVault (A.outside env.old).client.keys driver.old }
+    requires { IsOfVault (A.outside env.old).client.vault.content driver.old }
     ensures leads { (k : comes_as.Outcome → Session → Talk) → Advances result
         (turns.rested aloud (k outcome) (session_of driver.old number))
         (λ comes. k comes (session_of driver.new number)) (A.outside env.old)
         (A.outside env.new) }
     ensures keeps { IfOk result
-        (λ _. Keeps number driver.old driver.new (A.outside env.new).client.keys) }
+        (λ _. Keeps number driver.old driver.new (A.outside env.new).client.vault.content) }
 {
     if !is_skipping(driver.session(number)) {
         return Ok(outcome);
@@ -175,13 +177,13 @@ fn read<A: Around>(
     shown: Listing,
 ) -> Result<Outcome, Stop>
     requires rows { IsRows (session_of driver.old number) }
-    requires of_vault { IsOfVault (A.outside env.old).client.keys driver.old }
+    requires of_vault { IsOfVault (A.outside env.old).client.vault.content driver.old }
     ensures leads { (k : comes_as.Outcome → Session → Talk) → Advances result
         (turns.hearing aloud (session_of driver.old number) shown (turns.rows_on aloud k))
         (λ comes. k comes (session_of driver.new number)) (A.outside env.old)
         (A.outside env.new) }
     ensures keeps { IfOk result
-        (λ _. Keeps number driver.old driver.new (A.outside env.new).client.keys) }
+        (λ _. Keeps number driver.old driver.new (A.outside env.new).client.vault.content) }
 {
     match hear_out(alloc, env, driver, number, aloud, shown) {
         Ok(outcome) => rest(alloc, env, driver, number, aloud, outcome),
@@ -198,14 +200,14 @@ fn say_and_rest<A: Around>(
     aloud: bool,
     fault: DriverFault,
 ) -> Result<Outcome, Stop>
-    requires { IsOfVault (A.outside env.old).client.keys driver.old }
+    requires { IsOfVault (A.outside env.old).client.vault.content driver.old }
     ensures leads { (k : comes_as.Outcome → Session → Talk) → Advances result
         (turns.saying aloud (Some (outcome_of.Failed fault))
         (turns.rested aloud (k (outcome_of.Failed fault)) (session_of driver.old number)))
         (λ comes. k comes (session_of driver.new number)) (A.outside env.old)
         (A.outside env.new) }
     ensures keeps { IfOk result
-        (λ _. Keeps number driver.old driver.new (A.outside env.new).client.keys) }
+        (λ _. Keeps number driver.old driver.new (A.outside env.new).client.vault.content) }
 {
     match say(alloc, env, aloud, Outcome::Failed(fault)) {
         Ok(outcome) => rest(alloc, env, driver, number, aloud, outcome),
@@ -222,14 +224,14 @@ fn hear_answer<A: Around>(
     aloud: bool,
 ) -> Result<Outcome, Stop>
     requires sent { session_of driver.old number ≡ Sent }
-    requires of_vault { IsOfVault (A.outside env.old).client.keys driver.old }
+    requires of_vault { IsOfVault (A.outside env.old).client.vault.content driver.old }
     ensures leads { (k : Onward) → LooksAside (columns_of driver.old number) k → Advances result
         (turns.hearing aloud (session_of driver.old number) nothing_shown
         (turns.answered_on aloud driver.old.trusted k))
         (λ comes. k comes (columns_of driver.new number) (session_of driver.new number))
         (A.outside env.old) (A.outside env.new) }
     ensures leaves { IfOk result
-        (λ _. Leaves number driver.old driver.new (A.outside env.new).client.keys) }
+        (λ _. Leaves number driver.old driver.new (A.outside env.new).client.vault.content) }
 {
     match env.hear_answer(alloc, driver, number) {
         Ok(First::Shows(titles)) => {
@@ -247,7 +249,8 @@ fn ask<A: Around>(alloc: Global, env: &mut A, request: Request<'_>) -> Result<()
     ensures leads { (t : Talk) → Advances result (Asks request.entry t) (λ _. t) (A.outside env.old)
         (A.outside env.new) }
     ensures keys { IfOk result
-        (λ _. (A.outside env.new).client.keys ≡ (A.outside env.old).client.keys) }
+        (λ _. (A.outside env.new).client.vault.content
+        ≡ (A.outside env.old).client.vault.content) }
 {
     env.ask(alloc, &request)
 }
@@ -262,7 +265,7 @@ fn answered<A: Around>(
     answer: Result<Request<'_>, DriverFault>,
 ) -> Result<Outcome, Stop>
     requires sent { IfOk answer (λ request. session_of driver.old number ≡ Sent) }
-    requires of_vault { IsOfVault (A.outside env.old).client.keys driver.old }
+    requires of_vault { IsOfVault (A.outside env.old).client.vault.content driver.old }
     ensures leads { (k : Onward) → LooksAside (columns_of driver.old number) k → Advances result
         (turns.asked aloud (λ after. turns.hearing aloud after nothing_shown
         (turns.answered_on aloud driver.old.trusted k)) k answer.entry
@@ -270,7 +273,7 @@ fn answered<A: Around>(
         (λ comes. k comes (columns_of driver.new number) (session_of driver.new number))
         (A.outside env.old) (A.outside env.new) }
     ensures leaves { IfOk result
-        (λ _. Leaves number driver.old driver.new (A.outside env.new).client.keys) }
+        (λ _. Leaves number driver.old driver.new (A.outside env.new).client.vault.content) }
 {
     match answer {
         Ok(request) => match ask(alloc, env, request) {
@@ -289,13 +292,13 @@ fn execute<A: Around>(
     number: SessionId,
     aloud: bool,
 ) -> Result<Outcome, Stop>
-    requires { IsOfVault (A.outside env.old).client.keys driver.old }
+    requires { IsOfVault (A.outside env.old).client.vault.content driver.old }
     ensures leads { (k : Onward) → LooksAside (columns_of driver.old number) k → Advances result
         (turns.executing aloud driver.old.trusted number (session_of driver.old number) k)
         (λ comes. k comes (columns_of driver.new number) (session_of driver.new number))
         (A.outside env.old) (A.outside env.new) }
     ensures leaves { IfOk result
-        (λ _. Leaves number driver.old driver.new (A.outside env.new).client.keys) }
+        (λ _. Leaves number driver.old driver.new (A.outside env.new).client.vault.content) }
 {
     match env.execute(alloc, driver, number) {
         Ok(answer) => answered(alloc, env, driver, number, aloud, answer),
@@ -315,7 +318,8 @@ fn refused<A: Around>(
         (A.outside env.old) (A.outside env.new) }
     ensures refused { IfOk result (λ described. described ≡ described_as.Refused outcome) }
     ensures keys { IfOk result
-        (λ _. (A.outside env.new).client.keys ≡ (A.outside env.old).client.keys) }
+        (λ _. (A.outside env.new).client.vault.content
+        ≡ (A.outside env.old).client.vault.content) }
 {
     match say(alloc, env, aloud, outcome) {
         Ok(outcome) => Ok(Described::Refused(outcome)),
@@ -332,14 +336,14 @@ fn hear_description<A: Around>(
     aloud: bool,
 ) -> Result<Described, Stop>
     requires begun { IsBegun (session_of driver.old number) }
-    requires of_vault { IsOfVault (A.outside env.old).client.keys driver.old }
+    requires of_vault { IsOfVault (A.outside env.old).client.vault.content driver.old }
     ensures leads { (ready : told.Pending → Talk) (k : Onward) → Advances result
         (turns.hearing aloud (session_of driver.old number) nothing_shown
         (turns.described_on aloud ready k))
         (ready_on ready k (session_of driver.new number)) (A.outside env.old) (A.outside env.new) }
     ensures ready { IfOk result (IsReady (session_of driver.new number)) }
     ensures keeps { IfOk result
-        (λ _. Keeps number driver.old driver.new (A.outside env.new).client.keys) }
+        (λ _. Keeps number driver.old driver.new (A.outside env.new).client.vault.content) }
 {
     match env.hear_description(alloc, driver, number) {
         Ok(DescribeAnswer::Ready(params)) => Ok(Described::Ready(params)),
@@ -360,7 +364,7 @@ fn ask_description<A: Around>(
 ) -> Result<Described, Stop>
     requires begun { IfOk answer (λ request. IsBegun (session_of driver.old number)) }
     requires columns { IfOk answer (λ request. columns_of driver.old number ≡ None) }
-    requires of_vault { IsOfVault (A.outside env.old).client.keys driver.old }
+    requires of_vault { IsOfVault (A.outside env.old).client.vault.content driver.old }
     ensures leads { (ready : told.Pending → Talk) (k : Onward) → Advances result
         (turns.asked aloud (λ after. turns.hearing aloud after nothing_shown
         (turns.described_on aloud ready k)) k answer.entry (session_of driver.old number))
@@ -368,7 +372,7 @@ fn ask_description<A: Around>(
     ensures ready { IfOk result (IsReady (session_of driver.new number)) }
     ensures cleared { IfOk result (IsCleared (columns_of driver.new number)) }
     ensures leaves { IfOk result
-        (λ _. Leaves number driver.old driver.new (A.outside env.new).client.keys) }
+        (λ _. Leaves number driver.old driver.new (A.outside env.new).client.vault.content) }
 {
     match answer {
         Ok(request) => match ask(alloc, env, request) {
@@ -388,14 +392,14 @@ fn describe<A: Around>(
     aloud: bool,
     batch: Batch,
 ) -> Result<Described, Stop>
-    requires { IsOfVault (A.outside env.old).client.keys driver.old }
+    requires { IsOfVault (A.outside env.old).client.vault.content driver.old }
     ensures leads { (ready : told.Pending → Talk) (k : Onward) → Advances result
         (turns.describing aloud number batch (session_of driver.old number) ready k)
         (ready_on ready k (session_of driver.new number)) (A.outside env.old) (A.outside env.new) }
     ensures ready { IfOk result (IsReady (session_of driver.new number)) }
     ensures cleared { IfOk result (IsCleared (columns_of driver.new number)) }
     ensures leaves { IfOk result
-        (λ _. Leaves number driver.old driver.new (A.outside env.new).client.keys) }
+        (λ _. Leaves number driver.old driver.new (A.outside env.new).client.vault.content) }
 {
     match driver.begin(alloc, number, batch) {
         Ok(answer) => ask_description(alloc, env, driver, number, aloud, answer),
@@ -412,13 +416,13 @@ pub fn run<A: Around>(
     aloud: bool,
     batch: Batch,
 ) -> Result<Outcome, Stop>
-    requires { IsOfVault (A.outside env.old).client.keys driver.old }
+    requires { IsOfVault (A.outside env.old).client.vault.content driver.old }
     ensures leads { (k : Onward) → IsBlind k → Advances result
         (turns.running aloud driver.old.trusted number batch (session_of driver.old number) k)
         (λ comes. k comes (columns_of driver.new number) (session_of driver.new number))
         (A.outside env.old) (A.outside env.new) }
     ensures leaves { IfOk result
-        (λ _. Leaves number driver.old driver.new (A.outside env.new).client.keys) }
+        (λ _. Leaves number driver.old driver.new (A.outside env.new).client.vault.content) }
 {
     match describe(alloc, env, driver, number, aloud, batch) {
         Ok(Described::Ready(_)) => execute(alloc, env, driver, number, aloud),
@@ -435,12 +439,12 @@ pub fn whole<A: Around>(
     number: SessionId,
     batch: Batch,
 ) -> Result<(), Stop>
-    requires { IsOfVault (A.outside env.old).client.keys driver.old }
+    requires { IsOfVault (A.outside env.old).client.vault.content driver.old }
     ensures leads { (k : Session → Talk) → Advances result
         (turns.whole driver.old.trusted number batch (session_of driver.old number) k)
         (λ _. k (session_of driver.new number)) (A.outside env.old) (A.outside env.new) }
     ensures leaves { IfOk result
-        (λ _. Leaves number driver.old driver.new (A.outside env.new).client.keys) }
+        (λ _. Leaves number driver.old driver.new (A.outside env.new).client.vault.content) }
 {
     match run(alloc, env, driver, number, true, batch) {
         Ok(outcome) => {
@@ -458,13 +462,13 @@ pub fn execute_pending<A: Around>(
     driver: &mut Driver,
     number: SessionId,
 ) -> Result<(), Stop>
-    requires { IsOfVault (A.outside env.old).client.keys driver.old }
+    requires { IsOfVault (A.outside env.old).client.vault.content driver.old }
     ensures leads { (k : Session → Talk) → Advances result
         (turns.executing true driver.old.trusted number (session_of driver.old number)
         (turns.after_all k))
         (λ _. k (session_of driver.new number)) (A.outside env.old) (A.outside env.new) }
     ensures leaves { IfOk result
-        (λ _. Leaves number driver.old driver.new (A.outside env.new).client.keys) }
+        (λ _. Leaves number driver.old driver.new (A.outside env.new).client.vault.content) }
 {
     match execute(alloc, env, driver, number, true) {
         Ok(outcome) => {
@@ -483,12 +487,12 @@ pub fn half<A: Around>(
     number: SessionId,
     batch: Batch,
 ) -> Result<(), Stop>
-    requires { IsOfVault (A.outside env.old).client.keys driver.old }
+    requires { IsOfVault (A.outside env.old).client.vault.content driver.old }
     ensures leads { (k : Session → Talk) → Advances result
         (turns.half number batch (session_of driver.old number) k)
         (λ _. k (session_of driver.new number)) (A.outside env.old) (A.outside env.new) }
     ensures leaves { IfOk result
-        (λ _. Leaves number driver.old driver.new (A.outside env.new).client.keys) }
+        (λ _. Leaves number driver.old driver.new (A.outside env.new).client.vault.content) }
 {
     match describe(alloc, env, driver, number, true, batch) {
         Ok(Described::Ready(params)) => print(alloc, env, Outcome::Described(params)),
@@ -502,7 +506,8 @@ pub fn print<A: Around>(alloc: Global, env: &mut A, outcome: Outcome) -> Result<
     ensures leads { (t : Talk) → Advances result (Prints outcome t) (λ _. t) (A.outside env.old)
         (A.outside env.new) }
     ensures keys { IfOk result
-        (λ _. (A.outside env.new).client.keys ≡ (A.outside env.old).client.keys) }
+        (λ _. (A.outside env.new).client.vault.content
+        ≡ (A.outside env.old).client.vault.content) }
 {
     env.print(alloc, &outcome)
 }

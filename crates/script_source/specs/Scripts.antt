@@ -1,7 +1,10 @@
 -- A script's bytes: its steps, or why it has none, and how many bytes are taken to know.
 use Rattle.std.specs.Prelude.{◌≡◌, ℕ, ◌+◌, ◌≤◌, ◌<◌, List, [], length, Result, Ok, Err}
 use Rattle.std.specs.List.{All}
+use Rattle.ae_edge.specs.Devices.{Rose, Stays}
 use Rattle.ae_edge.specs.Streams.{HasTaken}
+use Rattle.ae_edge.specs.declared.streams.ReadError.{ReadError}
+use Rattle.ae_edge.specs.declared.streams.ReadError.TheVariants as read
 use Rattle.script_lang.specs.Limits.{IsProperStep, IsWithinLimits}
 use Rattle.script_lang.specs.Script.{steps_of}
 use Rattle.script_lang.specs.declared.steps.Step.{Step}
@@ -19,6 +22,12 @@ pub record AreScriptSteps (bytes : List ℕ) (steps : List Step) : Type 0 where
   pub script : IsScript bytes steps
   pub limits : All IsWithinLimits steps
   pub proper : All IsProperStep steps
+
+-- why it has none whose source wasn't read to its end
+abbrev pub unread_of : ReadError → Unread
+unread_of read.TooLong = unread.TooLong
+unread_of read.Failed = unread.ReadFault
+unread_of read.OutOfMemory = unread.OutOfMemory
 
 -- why bytes have no steps
 abbrev pub HasNoSteps : Unread → List ℕ → Type 0
@@ -43,3 +52,14 @@ TakesUnread unread.OutOfMemory bytes left = HasTaken (λ n. n ≤ most_script_by
 abbrev pub TakesScript : {A : Type 0} → Result A Unread → List ℕ → List ℕ → Type 0
 TakesScript (Ok steps) bytes left = left ≡ []
 TakesScript (Err why) bytes left = TakesUnread why bytes left
+
+-- the source's count of faults stays, but where a call of it failed
+abbrev pub CountsUnread : Unread → ℕ → ℕ → Type 0
+CountsUnread unread.ReadFault = Rose
+CountsUnread unread.TooLong = Stays
+CountsUnread (unread.BadLine line) = Stays
+CountsUnread unread.OutOfMemory = Stays
+
+abbrev pub CountsScript : {A : Type 0} → Result A Unread → ℕ → ℕ → Type 0
+CountsScript (Ok steps) = Stays
+CountsScript (Err why) = CountsUnread why

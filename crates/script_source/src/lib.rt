@@ -1,15 +1,15 @@
 //! A script that is read from its source: its steps, or why it has none.
 #![tactic(auto)]
 
-ghost use Rattle.std.specs.Prelude.{◌≡◌, ◌≤◌, ℕ, List, IfSome, IsErrOf, length};
-ghost use Rattle.ae_edge.specs.Devices.{Rose, WhereExposed};
-ghost use Rattle.script_source.specs.Scripts.{ReadsScript, TakesScript, most_script_bytes};
+ghost use Rattle.std.specs.Prelude.{◌≡◌, ◌≤◌, Err, length};
+ghost use Rattle.ae_edge.specs.Streams.{Reads};
+ghost use Rattle.script_source.specs.Scripts.{CountsScript, ReadsScript, TakesScript, most_script_bytes};
 
 use ae_base::blobs::Blob;
 use ae_base::limits::MOST_SCRIPT_BYTES;
 use ae_base::lists::Seq;
 use ae_edge::sources::Source;
-use ae_edge::streams::{ReadAll, read_all};
+use ae_edge::streams::{ReadError, read_all};
 use script_lang::scripts::{ScriptFault, read_script};
 use script_lang::steps::Step;
 use std::alloc::Global;
@@ -24,6 +24,21 @@ pub enum Unread {
     /// The first line that no script has, from 1.
     BadLine(u64),
     OutOfMemory,
+}
+
+impl From<ReadError> for Unread {
+    ghost use Rattle.std.specs.Prelude.{◌≡◌};
+    ghost use Rattle.script_source.specs.Scripts.{unread_of};
+
+    ghost from_gives = { λ error unread. unread ≡ unread_of error };
+
+    fn from(error: ReadError) -> Unread {
+        match error {
+            ReadError::TooLong => Unread::TooLong,
+            ReadError::Failed => Unread::ReadFault,
+            ReadError::OutOfMemory => Unread::OutOfMemory,
+        }
+    }
 }
 
 /// The steps of a script's bytes.
@@ -43,19 +58,9 @@ fn steps_in(alloc: Global, script: &Blob) -> Result<Seq<Step>, Unread>
 /// Reads a script to its end: its steps, or why it has none. At most one byte more than the limit
 /// is taken.
 pub fn read_steps<S: Source>(alloc: Global, script: &mut S) -> Result<Seq<Step>, Unread>
-    // There are bytes, the source's where it tells them, of which this was read.
-    ensures reads { (bytes : List ℕ) × IfSome (S.left script.old) (λ left. bytes ≡ left)
-        × ReadsScript result bytes }
-    // What was taken of them.
-    ensures taken { WhereExposed (TakesScript result) (S.left script.old) (S.left script.new) }
-    // A fault of the source comes only where its count rose.
-    ensures fault { IsErrOf result Unread.ReadFault
-        → Rose (S.faults script.old) (S.faults script.new) }
+    ensures { Reads (ReadsScript result) (TakesScript result) (CountsScript result)
+        (S.seen script.old) (S.seen script.new) }
 {
-    match read_all(script, alloc, MOST_SCRIPT_BYTES) {
-        ReadAll::Whole(bytes) => steps_in(alloc, &bytes),
-        ReadAll::TooLong => Err(Unread::TooLong),
-        ReadAll::ReadFault => Err(Unread::ReadFault),
-        ReadAll::OutOfMemory => Err(Unread::OutOfMemory),
-    }
+    let bytes = read_all(script, alloc, MOST_SCRIPT_BYTES)?;
+    steps_in(alloc, &bytes)
 }

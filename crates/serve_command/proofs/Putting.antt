@@ -1,16 +1,20 @@
 -- The frames of an answer are put as they are made.
-use Rattle.std.proofs.Common.{◌≡◌, ◌+◌, ◌-◌, ◌≤◌, ℕ, List, [], ◌∷◌, ◌++◌, length, take, drop, Option, refl, sym, ap, subst, ◌∙◌, append_assoc, append-nil, arith, length-drop}
+use Rattle.std.proofs.Common.{◌≡◌, ◌+◌, ◌-◌, ◌≤◌, ℕ, List, [], ◌∷◌, ◌++◌, length, take, drop, Option, Result, Ok, Err, refl, sym, ap, subst, ◌∙◌, append_assoc, append-nil, arith, length-drop}
 use Rattle.std.proofs.lemmas.List.{drop-drop, take_rest}
 use Rattle.ae_base.specs.declared.frames.FrameVersion.{FrameVersion}
 use Rattle.ae_edge.specs.Devices.{Adds, AddsPrefix}
 use Rattle.ae_edge.specs.Streams.{PutsAll}
-use Rattle.ae_edge.specs.declared.streams.PutAll.{PutAll}
-use Rattle.ae_edge.specs.declared.streams.PutAll.TheVariants as put
+use Rattle.ae_edge.specs.declared.streams.WriteError.{WriteError}
 use Rattle.ae_edge.proofs.Interface.{adds_front_then, adds_then, adds_then_front}
 use Rattle.wire_messages.specs.declared.replies.Reply.{Reply}
 use Rattle.wire_encoding.specs.Packing.{PutsPrefix, packed}
 use Rattle.wire_encoding.proofs.Interface.{packed_front, packed_none}
-use Rattle.serve_command.specs.Answers.{PutsSome}
+use Rattle.serve_command.specs.Answers.{PutsOrKeeps, PutsSome}
+
+-- a buffer that was put is empty
+pub put_or_kept : {A : Type 0} (frames left : List ℕ) (r : Result A WriteError) (old new : Option (List ℕ)) → left ≡ [] → PutsAll frames r old new → PutsOrKeeps frames left r old new
+put_or_kept frames left (Ok x) old new e p = record { front = frames; whole = sym (ap (λ (l : List ℕ). frames ++ l) e ∙ append-nil frames); put = p }
+put_or_kept frames left (Err x) old new e p = p
 
 -- some frames were put, others stand in the buffer, and then come those of the other replies
 pub record PutSoFar (version : FrameVersion) (replies rest : List Reply) (frames : List ℕ) (old now : Option (List ℕ)) : Type 0 where
@@ -56,13 +60,12 @@ module _ (version : FrameVersion) (replies rest : List Reply) (frames : List ℕ
       (record { rest = packed version rest; is = s.whole ∙ sym (append_assoc s.front frames (packed version rest)) })
 
   -- no reply is left, and the buffer was put
-  pub all_put : (r : PutAll) (new : Option (List ℕ)) → length rest ≡ 0 → PutsAll frames r now new → PutsAll (packed version replies) r old new
-  all_put put.Whole new none p =
+  pub all_put : {A : Type 0} (r : Result A WriteError) (new : Option (List ℕ)) → length rest ≡ 0 → PutsAll frames r now new → PutsAll (packed version replies) r old new
+  all_put (Ok x) new none p =
       let nothing : packed version rest ≡ [] = ap (packed version) (empty rest none) ∙ packed_none version in
       let whole : packed version replies ≡ s.front ++ frames = s.whole ∙ ap (λ (l : List ℕ). s.front ++ (frames ++ l)) nothing ∙ ap (λ (l : List ℕ). s.front ++ l) (append-nil frames) in
       subst (λ (l : List ℕ). Adds l old new) (sym whole) (adds_then s.front frames old now new s.put p)
-  all_put put.WriteFault new none p = stops_in_buffer new p
-  all_put put.OutOfMemory new none p = stops_in_buffer new p
+  all_put (Err e) new none p = stops_in_buffer new p
 
 -- one frame more of the replies behind a place
 module _ (version : FrameVersion) (replies : List Reply) (done count : ℕ) (frames more : List ℕ) (p : PutsPrefix version (take (length replies - done) (drop done replies)) frames more count) where

@@ -1,6 +1,6 @@
 -- What is done with the bytes that a feed holds.
 use Rattle.std.specs.Prelude.{◌≡◌, ◌⊎◌, ℕ, ◌<◌, ◌≤◌, List, [], length, take, flat_map, false, Option}
-use Rattle.ae_edge.specs.Devices.{Adds, AddsPrefix, Rose}
+use Rattle.ae_edge.specs.Devices.{Adds, AddsPrefix, Rose, Stays}
 use Rattle.wire_messages.specs.declared.requests.Request.{Request}
 use Rattle.wire_payloads.specs.declared.versioned.Versioned.{Versioned}
 use Rattle.wire_encoding.specs.Spelling.{SpellsRequest, asked_frame}
@@ -65,11 +65,11 @@ Turns turn.OutOfMemory feed state after old new = (new ≡ old) ⊎ BreaksNext f
 
 -- the count of faults stays, but where a call failed
 abbrev pub CountsTurn : Turn → ℕ → ℕ → Type 0
-CountsTurn (turn.Answered used) old new = new ≡ old
-CountsTurn turn.Waits old new = new ≡ old
-CountsTurn (turn.Refused place) old new = new ≡ old
-CountsTurn turn.WriteFault old new = Rose old new
-CountsTurn turn.OutOfMemory old new = new ≡ old
+CountsTurn (turn.Answered used) = Stays
+CountsTurn turn.Waits = Stays
+CountsTurn (turn.Refused place) = Stays
+CountsTurn turn.WriteFault = Rose
+CountsTurn turn.OutOfMemory = Stays
 
 -- ---- all that is held
 
@@ -90,10 +90,10 @@ Comes start came.WriteFault taken feed state old now = BreaksOff start taken old
 Comes start came.OutOfMemory taken feed state old now = AnswersFirst start taken old now ⊎ BreaksOff start taken old now
 
 abbrev pub CountsCame : Came → ℕ → ℕ → Type 0
-CountsCame came.Waits old new = new ≡ old
-CountsCame (came.Refused place) old new = new ≡ old
-CountsCame came.WriteFault old new = Rose old new
-CountsCame came.OutOfMemory old new = new ≡ old
+CountsCame came.Waits = Stays
+CountsCame (came.Refused place) = Stays
+CountsCame came.WriteFault = Rose
+CountsCame came.OutOfMemory = Stays
 
 -- ---- the end of the input
 

@@ -1,6 +1,7 @@
 //! One request, and the frames of its replies.
 
-ghost use Rattle.std.specs.Prelude.{◌≡◌, ◌<◌, length};
+ghost use Rattle.std.specs.Prelude.{◌≡◌, ◌<◌, OnOk, length};
+ghost use Rattle.ae_edge.specs.Devices.{Calls};
 ghost use Rattle.ae_edge.specs.Streams.{CountsPutAll, PutsAll};
 ghost use Rattle.server_core.specs.Serve.{serve};
 ghost use Rattle.wire_encoding.specs.Packing.{packed};
@@ -9,7 +10,7 @@ ghost use Rattle.serve_command.specs.ServeAll.{answer_frames};
 
 use ae_base::frames::FrameVersion;
 use ae_edge::sinks::Sink;
-use ae_edge::streams::{PutAll, put_all};
+use ae_edge::streams::{WriteError, put_all};
 use server_core::server::Server;
 use std::alloc::Global;
 use wire_encoding::push_front;
@@ -21,14 +22,13 @@ use wire_payloads::versioned::Versioned;
 const FULL_BUFFER_BYTES: usize = 65_536;
 
 /// Puts the frames of a full buffer, and empties it; the frames of another stay in it.
-fn put_full<W: Sink>(frames: &mut Vec<u8>, out: &mut W) -> PutAll
-    ensures content { PutsOrKeeps frames.old.items frames.new.items result (W.held out.old)
-        (W.held out.new) }
+fn put_full<W: Sink>(frames: &mut Vec<u8>, out: &mut W) -> Result<(), WriteError>
+    ensures call { Calls (PutsOrKeeps frames.old.items frames.new.items result)
+        (CountsPutAll result) (W.seen out.old) (W.seen out.new) }
     ensures small { length frames.new.items < 65536 }
-    ensures counts { CountsPutAll result (W.faults out.old) (W.faults out.new) }
 {
     if frames.len() < FULL_BUFFER_BYTES {
-        return PutAll::Whole;
+        return Ok(());
     }
     let put = put_all(out, frames.as_slice());
     frames.clear();
@@ -42,23 +42,18 @@ pub fn put_replies<W: Sink>(
     version: FrameVersion,
     replies: &[Reply<'_>],
     out: &mut W,
-) -> PutAll
-    ensures content { PutsAll (packed version replies.now) result (W.held out.old)
-        (W.held out.new) }
-    ensures counts { CountsPutAll result (W.faults out.old) (W.faults out.new) }
+) -> Result<(), WriteError>
+    ensures { Calls (PutsAll (packed version replies.now) result) (CountsPutAll result)
+        (W.seen out.old) (W.seen out.new) }
 {
     let mut frames = Vec::new(alloc);
     let mut done = 0;
     'frames: while done < replies.len() {
         let Ok(count) = push_front(&mut frames, version, &replies[done..]) else {
-            return PutAll::OutOfMemory;
+            return Err(WriteError::OutOfMemory);
         };
         done += count;
-        match put_full(&mut frames, out) {
-            PutAll::Whole => {}
-            PutAll::WriteFault => return PutAll::WriteFault,
-            PutAll::OutOfMemory => return PutAll::OutOfMemory,
-        }
+        put_full(&mut frames, out)?;
     }
     put_all(out, frames.as_slice())
 }
@@ -69,15 +64,13 @@ pub(crate) fn answer<W: Sink>(
     asked: &Versioned<Request<'_>>,
     server: &mut Server,
     out: &mut W,
-) -> PutAll
-    ensures left { result ≡ PutAll.Whole
-        → server.new ≡ (serve server.old asked.now.message).after }
-    ensures content { PutsAll (answer_frames server.old asked.now) result (W.held out.old)
-        (W.held out.new) }
-    ensures counts { CountsPutAll result (W.faults out.old) (W.faults out.new) }
+) -> Result<(), WriteError>
+    ensures left { OnOk result (server.new ≡ (serve server.old asked.now.message).after) }
+    ensures call { Calls (PutsAll (answer_frames server.old asked.now) result)
+        (CountsPutAll result) (W.seen out.old) (W.seen out.new) }
 {
     match server.serve(alloc, &asked.message) {
         Ok(replies) => put_replies(alloc, asked.version, replies.as_slice(), out),
-        Err(_) => PutAll::OutOfMemory,
+        Err(_) => Err(WriteError::OutOfMemory),
     }
 }

@@ -62,9 +62,10 @@ fn answer_piece<W: Sink>(
     ensures way { feed.new.way ≡ ToServer }
     ensures comes { (taken : List ℕ) (first : Option (List ℕ))
         → length (taken ++ piece.now) < 2 ^ 64
-        → Stands empty_state taken feed.old server.old first (W.held out.old)
-        → Comes empty_state result (taken ++ piece.now) feed.new server.new first (W.held out.new) }
-    ensures counts { CountsCame result (W.faults out.old) (W.faults out.new) }
+        → Stands empty_state taken feed.old server.old first (W.seen out.old).content
+        → Comes empty_state result (taken ++ piece.now) feed.new server.new first
+        (W.seen out.new).content }
+    ensures counts { CountsCame result (W.seen out.old).faults (W.seen out.new).faults }
 {
     match feed.feed(piece.as_slice()) {
         Ok(()) => answer_held(alloc, feed, server, out),
@@ -82,10 +83,12 @@ fn serve_pieces<S: Source, W: Sink>(
 ) -> Served
     requires unfed { feed.old ≡ empty_feed ToServer }
     requires empty { server.old ≡ empty_state }
-    ensures content { ServesStream result (S.left input.old) (S.left input.new) (W.held out.old)
-        (W.held out.new) }
-    ensures read { result ≡ Served.ReadFault → Rose (S.faults input.old) (S.faults input.new) }
-    ensures write { result ≡ Served.WriteFault → Rose (W.faults out.old) (W.faults out.new) }
+    ensures content { ServesStream result (S.seen input.old).content (S.seen input.new).content
+        (W.seen out.old).content (W.seen out.new).content }
+    ensures read { result ≡ Served.ReadFault
+        → Rose (S.seen input.old).faults (S.seen input.new).faults }
+    ensures write { result ≡ Served.WriteFault
+        → Rose (W.seen out.old).faults (W.seen out.new).faults }
 {
     requests_are_serial();
     let mut left = MOST_STREAM_BYTES;
@@ -117,18 +120,20 @@ fn serve_pieces<S: Source, W: Sink>(
 pub fn serve_stream<S: Source, W: Sink>(alloc: Global, input: &mut S, out: &mut W) -> Served
     // What was taken of the input, and what was put for it, by how it ended; and that transactions
     // took effect one after another.
-    ensures content { ServesStream result (S.left input.old) (S.left input.new) (W.held out.old)
-        (W.held out.new) }
+    ensures content { ServesStream result (S.seen input.old).content (S.seen input.new).content
+        (W.seen out.old).content (W.seen out.new).content }
     // Where the input tells its bytes: by how those within the limit end, and the frames of their
     // replies. So whole frames within the limit end with `Done` and all frames, unless memory or a
     // device fails.
     ensures exact { (bytes frames : List ℕ) (end : End) (after : State)
-        → S.left input.old ≡ Some bytes
+        → (S.seen input.old).content ≡ Some bytes
         → ServeAll empty_state (take most_stream_bytes bytes) end frames after
-        → IsServed result bytes end frames (W.held out.old) (W.held out.new) }
+        → IsServed result bytes end frames (W.seen out.old).content (W.seen out.new).content }
     // The faults of the outside come only where a count rose.
-    ensures read { result ≡ Served.ReadFault → Rose (S.faults input.old) (S.faults input.new) }
-    ensures write { result ≡ Served.WriteFault → Rose (W.faults out.old) (W.faults out.new) }
+    ensures read { result ≡ Served.ReadFault
+        → Rose (S.seen input.old).faults (S.seen input.new).faults }
+    ensures write { result ≡ Served.WriteFault
+        → Rose (W.seen out.old).faults (W.seen out.new).faults }
 {
     one_reading();
     streams_are_read_once();

@@ -7,7 +7,7 @@ ghost use Rattle.serve_command.specs.Turns.{Answers, Comes, CountsCame, CountsTu
 
 use crate::answers::answer;
 use ae_edge::sinks::Sink;
-use ae_edge::streams::PutAll;
+use ae_edge::streams::WriteError;
 use frame_feed::{FrameFeed, Message, Next};
 use server_core::server::Server;
 use std::alloc::Global;
@@ -35,15 +35,15 @@ fn answer_message<W: Sink>(
     out: &mut W,
 ) -> Turn
     requires { IsAsked message.now }
-    ensures answers { Answers result used message.now server.old server.new (W.held out.old)
-        (W.held out.new) }
-    ensures counts { CountsTurn result (W.faults out.old) (W.faults out.new) }
+    ensures answers { Answers result used message.now server.old server.new (W.seen out.old).content
+        (W.seen out.new).content }
+    ensures counts { CountsTurn result (W.seen out.old).faults (W.seen out.new).faults }
 {
     match message {
         Message::Asks(asked) => match answer(alloc, asked, server, out) {
-            PutAll::Whole => Turn::Answered(used),
-            PutAll::WriteFault => Turn::WriteFault,
-            PutAll::OutOfMemory => Turn::OutOfMemory,
+            Ok(()) => Turn::Answered(used),
+            Err(WriteError::Failed) => Turn::WriteFault,
+            Err(WriteError::OutOfMemory) => Turn::OutOfMemory,
         },
         Message::Tells(_) => unreachable!(),
     }
@@ -52,8 +52,9 @@ fn answer_message<W: Sink>(
 /// Answers the request that stands next. It stays in the feed.
 fn answer_next<W: Sink>(alloc: Global, feed: &FrameFeed, server: &mut Server, out: &mut W) -> Turn
     requires { feed.now.way ≡ ToServer }
-    ensures turns { Turns result feed.now server.old server.new (W.held out.old) (W.held out.new) }
-    ensures counts { CountsTurn result (W.faults out.old) (W.faults out.new) }
+    ensures turns { Turns result feed.now server.old server.new (W.seen out.old).content
+        (W.seen out.new).content }
+    ensures counts { CountsTurn result (W.seen out.old).faults (W.seen out.new).faults }
 {
     match feed.front(alloc) {
         Next::One { message, used, .. } => answer_message(alloc, &message, used, server, out),
@@ -85,9 +86,9 @@ pub(crate) fn answer_held<W: Sink>(
     requires { feed.old.way ≡ ToServer }
     ensures way { feed.new.way ≡ ToServer }
     ensures comes { (taken : List ℕ) (first : Option (List ℕ)) → length taken < 2 ^ 64
-        → Stands empty_state taken feed.old server.old first (W.held out.old)
-        → Comes empty_state result taken feed.new server.new first (W.held out.new) }
-    ensures counts { CountsCame result (W.faults out.old) (W.faults out.new) }
+        → Stands empty_state taken feed.old server.old first (W.seen out.old).content
+        → Comes empty_state result taken feed.new server.new first (W.seen out.new).content }
+    ensures counts { CountsCame result (W.seen out.old).faults (W.seen out.new).faults }
 {
     'requests: loop {
         match answer_next(alloc, feed, server, out) {

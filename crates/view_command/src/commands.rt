@@ -10,7 +10,7 @@ use crate::pages::{put_foot, put_mark};
 use crate::pieces::put_pieces;
 use ae_edge::sinks::Sink;
 use ae_edge::sources::Source;
-use ae_edge::streams::PutAll;
+use ae_edge::streams::WriteError;
 use std::alloc::Global;
 use std::fmt;
 
@@ -84,16 +84,18 @@ impl fmt::Display for Viewed {
 /// seen. Up to the limit all whole frames are put, before a byte past it is asked for.
 pub fn view<S: Source, W: Sink>(alloc: Global, page: bool, input: &mut S, out: &mut W) -> Viewed
     // What was taken of the input, and what was put for it, by how it ended.
-    ensures content { ViewsInput page result (S.left input.old) (S.left input.new) (W.held out.old)
-        (W.held out.new) }
+    ensures content { ViewsInput page result (S.seen input.old).content (S.seen input.new).content
+        (W.seen out.old).content (W.seen out.new).content }
     // The faults of the outside come only where a count rose.
-    ensures read { result ≡ Viewed.ReadFault → Rose (S.faults input.old) (S.faults input.new) }
-    ensures write { result ≡ Viewed.WriteFault → Rose (W.faults out.old) (W.faults out.new) }
+    ensures read { result ≡ Viewed.ReadFault
+        → Rose (S.seen input.old).faults (S.seen input.new).faults }
+    ensures write { result ≡ Viewed.WriteFault
+        → Rose (W.seen out.old).faults (W.seen out.new).faults }
 {
     match put_mark(page, tap_page::head(), out) {
-        PutAll::Whole => {}
-        PutAll::WriteFault => return Viewed::WriteFault,
-        PutAll::OutOfMemory => return Viewed::OutOfMemory,
+        Ok(()) => {}
+        Err(WriteError::Failed) => return Viewed::WriteFault,
+        Err(WriteError::OutOfMemory) => return Viewed::OutOfMemory,
     }
     let mut seen = Seen::new(alloc);
     let viewed = put_pieces(alloc, page, input, &mut seen, out);
@@ -101,8 +103,8 @@ pub fn view<S: Source, W: Sink>(alloc: Global, page: bool, input: &mut S, out: &
         return viewed;
     }
     match put_foot(alloc, page, &seen.tally, viewed, out) {
-        PutAll::Whole => viewed,
-        PutAll::WriteFault => Viewed::WriteFault,
-        PutAll::OutOfMemory => Viewed::OutOfMemory,
+        Ok(()) => viewed,
+        Err(WriteError::Failed) => Viewed::WriteFault,
+        Err(WriteError::OutOfMemory) => Viewed::OutOfMemory,
     }
 }

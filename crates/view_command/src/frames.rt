@@ -10,7 +10,7 @@ ghost use Rattle.tap_text.specs.Text.{frame_text};
 ghost use Rattle.view_command.specs.Streaming.{Passes};
 
 use ae_edge::sinks::Sink;
-use ae_edge::streams::{PutAll, put_all};
+use ae_edge::streams::{WriteError, put_all};
 use std::alloc::{AllocError, Global};
 use std::mem;
 use tap_counts::{Tally, count_frame};
@@ -83,15 +83,15 @@ pub(crate) fn put_frame<W: Sink>(
     seen: &mut Seen,
     frame: &Frame<'_>,
     out: &mut W,
-) -> PutAll
+) -> Result<(), WriteError>
     ensures content { (past : List (Spot Class)) → Tells seen.old.cells past
         → PutsAll (frame_text page at seen.old.classes.items frame.now past) result
-        (W.held out.old) (W.held out.new) }
-    ensures passes { result ≡ PutAll.Whole → Passes frame.now seen.old seen.new }
-    ensures counts { CountsPutAll result (W.faults out.old) (W.faults out.new) }
+        (W.seen out.old).content (W.seen out.new).content }
+    ensures passes { OnOk result (Passes frame.now seen.old seen.new) }
+    ensures counts { CountsPutAll result (W.seen out.old).faults (W.seen out.new).faults }
 {
     match text_of(alloc, page, at, seen, frame) {
         Ok(text) => put_all(out, text.as_bytes()),
-        Err(_) => PutAll::OutOfMemory,
+        Err(_) => Err(WriteError::OutOfMemory),
     }
 }

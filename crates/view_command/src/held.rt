@@ -6,7 +6,7 @@ ghost use Rattle.view_command.specs.Streaming.{Comes, CountsCame, CountsTurn, St
 use crate::frames::{Seen, put_frame};
 use ae_base::blobs::Blob;
 use ae_edge::sinks::Sink;
-use ae_edge::streams::PutAll;
+use ae_edge::streams::WriteError;
 use bytes::BytesMut;
 use std::alloc::{AllocError, Global};
 use tap_reading::decode;
@@ -48,15 +48,15 @@ enum Turn {
 
 /// Puts the frame that stands next. It stays held.
 fn put_next<W: Sink>(alloc: Global, page: bool, held: &Held, seen: &mut Seen, out: &mut W) -> Turn
-    ensures turns { Turns page result held.now seen.old seen.new (W.held out.old)
-        (W.held out.new) }
-    ensures counts { CountsTurn result (W.faults out.old) (W.faults out.new) }
+    ensures turns { Turns page result held.now seen.old seen.new (W.seen out.old).content
+        (W.seen out.new).content }
+    ensures counts { CountsTurn result (W.seen out.old).faults (W.seen out.new).faults }
 {
     match decode(alloc, held.bytes.as_slice()) {
         Decoded::One(frame, used) => match put_frame(alloc, page, held.at, seen, &frame, out) {
-            PutAll::Whole => Turn::Put(used),
-            PutAll::WriteFault => Turn::WriteFault,
-            PutAll::OutOfMemory => Turn::OutOfMemory,
+            Ok(()) => Turn::Put(used),
+            Err(WriteError::Failed) => Turn::WriteFault,
+            Err(WriteError::OutOfMemory) => Turn::OutOfMemory,
         },
         Decoded::NotYet => Turn::Waits,
         Decoded::Bad => Turn::Bad,
@@ -86,9 +86,9 @@ fn put_held<W: Sink>(
 ) -> Came
     requires { held.old.at + length held.old.bytes.items < 2 ^ 64 }
     ensures comes { (taken : List ℕ) (first : Option (List ℕ))
-        → Stands page taken held.old seen.old first (W.held out.old)
-        → Comes page result taken held.new seen.new first (W.held out.new) }
-    ensures counts { CountsCame result (W.faults out.old) (W.faults out.new) }
+        → Stands page taken held.old seen.old first (W.seen out.old).content
+        → Comes page result taken held.new seen.new first (W.seen out.new).content }
+    ensures counts { CountsCame result (W.seen out.old).faults (W.seen out.new).faults }
 {
     'frames: loop {
         match put_next(alloc, page, held, seen, out) {
@@ -115,9 +115,9 @@ pub(crate) fn put_piece<W: Sink>(
 ) -> Came
     requires { held.old.at + length (held.old.bytes.items ++ piece.now) < 2 ^ 64 }
     ensures comes { (taken : List ℕ) (first : Option (List ℕ))
-        → Stands page taken held.old seen.old first (W.held out.old)
-        → Comes page result (taken ++ piece.now) held.new seen.new first (W.held out.new) }
-    ensures counts { CountsCame result (W.faults out.old) (W.faults out.new) }
+        → Stands page taken held.old seen.old first (W.seen out.old).content
+        → Comes page result (taken ++ piece.now) held.new seen.new first (W.seen out.new).content }
+    ensures counts { CountsCame result (W.seen out.old).faults (W.seen out.new).faults }
 {
     match held.bytes.extend_from_slice(piece.as_slice()) {
         Ok(()) => put_held(alloc, page, held, seen, out),

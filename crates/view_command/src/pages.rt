@@ -1,6 +1,7 @@
 //! What stands before and behind the frames of a recording.
 
 ghost use Rattle.std.specs.Prelude.{◌≡◌, ◌++◌, IfOk, OnOk, string_bytes};
+ghost use Rattle.ae_edge.specs.Devices.{Calls};
 ghost use Rattle.ae_edge.specs.Streams.{CountsPutAll, PutsAll};
 ghost use Rattle.tap_page.specs.Page.{page_foot};
 ghost use Rattle.tap_text.specs.Text.{mark};
@@ -8,20 +9,20 @@ ghost use Rattle.view_command.specs.Viewing.{ended_text, foot_text};
 
 use crate::commands::Viewed;
 use ae_edge::sinks::Sink;
-use ae_edge::streams::{PutAll, put_all};
+use ae_edge::streams::{WriteError, put_all};
 use std::alloc::{AllocError, Global};
 use std::fmt::Write;
 use tap_counts::{Tally, push_tally};
 
 /// Puts a part that only a page has.
-pub(crate) fn put_mark<W: Sink>(page: bool, html: &str, out: &mut W) -> PutAll
-    ensures content { PutsAll (mark page html.now) result (W.held out.old) (W.held out.new) }
-    ensures counts { CountsPutAll result (W.faults out.old) (W.faults out.new) }
+pub(crate) fn put_mark<W: Sink>(page: bool, html: &str, out: &mut W) -> Result<(), WriteError>
+    ensures { Calls (PutsAll (mark page html.now) result) (CountsPutAll result)
+        (W.seen out.old) (W.seen out.new) }
 {
     if page {
         put_all(out, html.as_bytes())
     } else {
-        PutAll::Whole
+        Ok(())
     }
 }
 
@@ -68,13 +69,12 @@ pub(crate) fn put_foot<W: Sink>(
     tally: &Tally,
     viewed: Viewed,
     out: &mut W,
-) -> PutAll
-    ensures content { PutsAll (foot_text page tally.now (ended_text viewed)) result
-        (W.held out.old) (W.held out.new) }
-    ensures counts { CountsPutAll result (W.faults out.old) (W.faults out.new) }
+) -> Result<(), WriteError>
+    ensures { Calls (PutsAll (foot_text page tally.now (ended_text viewed)) result)
+        (CountsPutAll result) (W.seen out.old) (W.seen out.new) }
 {
     match foot_of(alloc, page, tally, viewed) {
         Ok(text) => put_all(out, text.as_bytes()),
-        Err(_) => PutAll::OutOfMemory,
+        Err(_) => Err(WriteError::OutOfMemory),
     }
 }

@@ -40,10 +40,11 @@ pub(crate) fn put_pieces<S: Source, W: Sink>(
     requires classes { seen.old.classes.items ≡ [] }
     requires cells { seen.old.cells ≡ no_tables }
     requires tally { seen.old.tally ≡ no_tally }
-    ensures content { ListsInput page result seen.new.tally (S.left input.old) (S.left input.new)
-        (W.held out.old) (W.held out.new) }
-    ensures read { result ≡ Viewed.ReadFault → Rose (S.faults input.old) (S.faults input.new) }
-    ensures counts { CountsViewed result (W.faults out.old) (W.faults out.new) }
+    ensures content { ListsInput page result seen.new.tally (S.seen input.old).content
+        (S.seen input.new).content (W.seen out.old).content (W.seen out.new).content }
+    ensures read { result ≡ Viewed.ReadFault
+        → Rose (S.seen input.old).faults (S.seen input.new).faults }
+    ensures counts { CountsViewed result (W.seen out.old).faults (W.seen out.new).faults }
 {
     let mut held = Held::new(alloc);
     let mut left = MOST_STREAM_BYTES;

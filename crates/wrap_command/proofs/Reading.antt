@@ -1,15 +1,16 @@
 -- What was read of an input.
-use Rattle.std.proofs.Common.{◌≡◌, ℕ, ◌+◌, ◌≤◌, List, [], length, Option, Some, None, sym, subst, arith}
+use Rattle.std.proofs.Common.{◌≡◌, ℕ, ◌+◌, ◌≤◌, List, [], length, Option, Some, None, Ok, sym, inl, arith}
 use Rattle.std.proofs.lemmas.List.{append-nil}
-use Rattle.ae_edge.specs.Devices.{WhereExposed}
+use Rattle.ae_edge.specs.Devices.{Calls, Device, Stays, WhereExposed}
 use Rattle.ae_edge.specs.Streams.{ReadsAll}
-use Rattle.ae_edge.specs.declared.streams.ReadAll.TheVariants as read
-use Rattle.wrap_command.specs.Wrapping.{IsRead, Takes, most_script_bytes}
+use Rattle.ae_edge.specs.Vaults.{KeyMap}
+use Rattle.ae_edge.proofs.Interface.{told_map}
+use Rattle.wrap_command.specs.Wrapping.{CountsInput, IsLineOf, IsRead, Makes, Puts, Takes, most_script_bytes}
 use Rattle.wrap_command.specs.declared.commands.Wrapped.{Wrapped}
 use Rattle.wrap_command.specs.declared.commands.Wrapped.TheVariants as ended
 
 -- all of it was taken
-takes : (r : Wrapped) (bytes xs left : List ℕ) → IsRead r → ReadsAll most_script_bytes (read.Whole bytes) xs left → Takes r xs left
+takes : (r : Wrapped) (bytes xs left : List ℕ) → IsRead r → ReadsAll most_script_bytes (Ok bytes) xs left → Takes r xs left
 takes ended.Done bytes xs left w h = h.1
 takes ended.WriteFault bytes xs left w h = h.1
 takes ended.OutOfMemory bytes xs left w h =
@@ -21,11 +22,43 @@ takes ended.BadLine bytes xs left w h = h.1
 takes ended.VaultFault bytes xs left w h = h.1
 takes ended.NoMasterKey bytes xs left w h = h.1
 
-pub takes_whole : (r : Wrapped) (bytes : List ℕ) (old new : Option (List ℕ)) → IsRead r → WhereExposed (ReadsAll most_script_bytes (read.Whole bytes)) old new → WhereExposed (Takes r) old new
-takes_whole r bytes (Some xs) (Some left) w h = takes r bytes xs left w h
-takes_whole r bytes (Some xs) None w h = absurd h
-takes_whole r bytes None (Some left) w h = absurd h
-takes_whole r bytes None None w h = tt
+counts : (r : Wrapped) (n m : ℕ) → IsRead r → Stays n m → CountsInput r n m
+counts ended.Done n m w h = h
+counts ended.WriteFault n m w h = h
+counts ended.OutOfMemory n m w h = h
+counts ended.ReadFault n m w h = absurd w
+counts ended.TooLong n m w h = absurd w
+counts ended.BadLine n m w h = h
+counts ended.VaultFault n m w h = h
+counts ended.NoMasterKey n m w h = h
 
-pub not_read : (r bad : Wrapped) → IsRead r → (IsRead bad → ⊥) → r ≡ bad → ⊥
-not_read r bad w unread e = unread (subst IsRead e w)
+pub takes_whole : (r : Wrapped) (bytes : List ℕ) (old new : Device (List ℕ)) → IsRead r → Calls (WhereExposed (ReadsAll most_script_bytes (Ok bytes))) Stays old new
+    → Calls (WhereExposed (Takes r)) (CountsInput r) old new
+takes_whole r bytes old new w h = record {
+  content = told_map (ReadsAll most_script_bytes (Ok bytes)) (Takes r) (λ x y p. takes r bytes x y w p) old.content new.content h.content;
+  count = h.count;
+  counts = counts r old.faults new.faults w h.counts;
+  same = h.same;
+}
+
+-- as the line is put
+pub makes_line : (r : Wrapped) (path bytes line : List ℕ) (vault asked : Device KeyMap) (old new : Device (List ℕ)) → IsLineOf path bytes vault line → asked ≡ vault → Puts r line old new
+    → Makes r path bytes vault asked old new
+makes_line ended.Done path bytes line vault asked old new i e p = (line, i, e, p)
+makes_line ended.WriteFault path bytes line vault asked old new i e p = (line, i, e, p)
+makes_line ended.OutOfMemory path bytes line vault asked old new i e p = inl (line, i, e, p)
+makes_line ended.ReadFault path bytes line vault asked old new i e p = absurd p
+makes_line ended.TooLong path bytes line vault asked old new i e p = absurd p
+makes_line ended.BadLine path bytes line vault asked old new i e p = absurd p
+makes_line ended.VaultFault path bytes line vault asked old new i e p = absurd p
+makes_line ended.NoMasterKey path bytes line vault asked old new i e p = absurd p
+
+pub is_read : (r : Wrapped) (line : List ℕ) (old new : Device (List ℕ)) → Puts r line old new → IsRead r
+is_read ended.Done line old new p = tt
+is_read ended.WriteFault line old new p = tt
+is_read ended.OutOfMemory line old new p = tt
+is_read ended.ReadFault line old new p = absurd p
+is_read ended.TooLong line old new p = absurd p
+is_read ended.BadLine line old new p = absurd p
+is_read ended.VaultFault line old new p = absurd p
+is_read ended.NoMasterKey line old new p = absurd p

@@ -2,8 +2,8 @@
 use Rattle.std.specs.Prelude.{◌≡◌, ◌≢◌, ◌⊎◌, ℕ, ◌≤◌, ◌<◌, ◌+◌, List, [], ◌∷◌, ◌++◌, length, Option, Some, None, Ok, IfSome}
 use Rattle.std.specs.List.{AllPass}
 use Rattle.hex.specs.Hex.{decode_of, encode_lower, is_hex_digit}
-use Rattle.ae_edge.specs.Devices.{Adds, AddsPrefix}
-use Rattle.ae_edge.specs.Streams.{HasTaken}
+use Rattle.ae_edge.specs.Devices.{Adds, AddsPrefix, Calls, Device, Rose, Stays}
+use Rattle.ae_edge.specs.Streams.{HasTaken, Reads}
 use Rattle.ae_edge.specs.Vaults.{KeyMap, key_at}
 use Rattle.key_wrap.specs.Wrap.{wrapping_of}
 use Rattle.wrap_command.specs.declared.commands.Wrapped.{Wrapped}
@@ -44,44 +44,40 @@ EndsLine line bytes =
 abbrev pub wrapped_line : List ℕ → List ℕ → List ℕ
 wrapped_line master key = encode_lower (wrapping_of master key) ++ 10 ∷ []
 
--- what is seen of the vault and of the output
-pub record WrapDevices : Type 0 where
-  pub keys : Option KeyMap
-  pub vault_faults : ℕ
-  pub out : Option (List ℕ)
-
--- the vault was asked, which has the keys that it had
-abbrev pub HasAsked : WrapDevices → WrapDevices → Type 0
-HasAsked old new = (new.keys ≡ old.keys) × (old.vault_faults ≤ new.vault_faults)
-
--- the input is a key, the vault has a master key at the path, and P holds of the line and of the output before and after
-abbrev pub PutsWrapped : (List ℕ → Option (List ℕ) → Option (List ℕ) → Type 0) → List ℕ → List ℕ → WrapDevices → WrapDevices → Type 0
-PutsWrapped P path bytes old new =
-    (key master : List ℕ) × SpellsKey bytes key × IfSome old.keys (λ keys. key_at keys path ≡ Some master) × P (wrapped_line master key) old.out new.out
-    × HasAsked old new
+-- the input is a key, the vault has a master key at the path, and this is the line of the key wrapped under it
+pub record IsLineOf (path bytes : List ℕ) (vault : Device KeyMap) (line : List ℕ) : Type 0 where
+  pub key : List ℕ
+  pub master : List ℕ
+  pub spells : SpellsKey bytes key
+  pub found : IfSome vault.content (λ keys. key_at keys path ≡ Some master)
+  pub is : line ≡ wrapped_line master key
 
 -- all of a line was put, or a front of it
-abbrev pub Puts : Wrapped → List ℕ → Option (List ℕ) → Option (List ℕ) → Type 0
-Puts ended.Done line old new = Adds line old new
-Puts ended.WriteFault line old new = AddsPrefix line old new
-Puts ended.OutOfMemory line old new = AddsPrefix line old new
+abbrev pub Puts : Wrapped → List ℕ → Device (List ℕ) → Device (List ℕ) → Type 0
+Puts ended.Done line old new = Calls (Adds line) Stays old new
+Puts ended.WriteFault line old new = Calls (AddsPrefix line) Rose old new
+Puts ended.OutOfMemory line old new = Calls (AddsPrefix line) Stays old new
 Puts ended.ReadFault line old new = ⊥
 Puts ended.TooLong line old new = ⊥
 Puts ended.BadLine line old new = ⊥
 Puts ended.VaultFault line old new = ⊥
 Puts ended.NoMasterKey line old new = ⊥
 
--- how it ended, with its cause, and what stands at the output: the line, a front of it, or nothing more. The vault is asked once the input is
--- read and is a key; else nothing is touched.
-abbrev pub Wraps : Wrapped → List ℕ → List ℕ → WrapDevices → WrapDevices → Type 0
-Wraps ended.Done path bytes old new = PutsWrapped Adds path bytes old new
-Wraps ended.WriteFault path bytes old new = PutsWrapped AddsPrefix path bytes old new
-Wraps ended.OutOfMemory path bytes old new = PutsWrapped AddsPrefix path bytes old new ⊎ (new ≡ old)
-Wraps ended.ReadFault path bytes old new = new ≡ old
-Wraps ended.TooLong path bytes old new = (most_script_bytes < length bytes) × (new ≡ old)
-Wraps ended.BadLine path bytes old new = (length bytes ≤ most_script_bytes) × ((key : List ℕ) → ¬ SpellsKey bytes key) × (new ≡ old)
-Wraps ended.VaultFault path bytes old new = ((key : List ℕ) × SpellsKey bytes key) × (new.out ≡ old.out) × HasAsked old new
-Wraps ended.NoMasterKey path bytes old new = ((key : List ℕ) × SpellsKey bytes key) × IfSome old.keys (λ keys. key_at keys path ≡ None) × (new.out ≡ old.out) × HasAsked old new
+-- the line of the wrapped key was put so, and the vault is as it was
+abbrev pub PutsLine : Wrapped → List ℕ → List ℕ → Device KeyMap → Device KeyMap → Device (List ℕ) → Device (List ℕ) → Type 0
+PutsLine end path bytes vault asked old new = (line : List ℕ) × IsLineOf path bytes vault line × (asked ≡ vault) × Puts end line old new
+
+-- How it ended, with its cause, and its effect on the vault and on the output: the line, a front of it, or nothing more. The vault is asked
+-- once the input is read and is a key, and is as it was unless it failed.
+abbrev pub Makes : Wrapped → List ℕ → List ℕ → Device KeyMap → Device KeyMap → Device (List ℕ) → Device (List ℕ) → Type 0
+Makes ended.Done path bytes vault asked old new = PutsLine ended.Done path bytes vault asked old new
+Makes ended.WriteFault path bytes vault asked old new = PutsLine ended.WriteFault path bytes vault asked old new
+Makes ended.OutOfMemory path bytes vault asked old new = PutsLine ended.OutOfMemory path bytes vault asked old new ⊎ ((asked ≡ vault) × (new ≡ old))
+Makes ended.ReadFault path bytes vault asked old new = (asked ≡ vault) × (new ≡ old)
+Makes ended.TooLong path bytes vault asked old new = (most_script_bytes < length bytes) × (asked ≡ vault) × (new ≡ old)
+Makes ended.BadLine path bytes vault asked old new = (length bytes ≤ most_script_bytes) × ((key : List ℕ) → ¬ SpellsKey bytes key) × (asked ≡ vault) × (new ≡ old)
+Makes ended.VaultFault path bytes vault asked old new = ((key : List ℕ) × SpellsKey bytes key) × Calls Stays Rose vault asked × (new ≡ old)
+Makes ended.NoMasterKey path bytes vault asked old new = ((key : List ℕ) × SpellsKey bytes key) × IfSome vault.content (λ keys. key_at keys path ≡ None) × (asked ≡ vault) × (new ≡ old)
 
 -- what was taken of the input: all of it, unless it wasn't read
 abbrev pub Takes : Wrapped → List ℕ → List ℕ → Type 0
@@ -93,6 +89,27 @@ Takes ended.TooLong bytes left = HasTaken (λ n. n ≡ most_script_bytes + 1) by
 Takes ended.BadLine bytes left = left ≡ []
 Takes ended.VaultFault bytes left = left ≡ []
 Takes ended.NoMasterKey bytes left = left ≡ []
+
+-- the input's count of faults stays, but where a call of it failed
+abbrev pub CountsInput : Wrapped → ℕ → ℕ → Type 0
+CountsInput ended.Done = Stays
+CountsInput ended.WriteFault = Stays
+CountsInput ended.OutOfMemory = Stays
+CountsInput ended.ReadFault = Rose
+CountsInput ended.TooLong = Stays
+CountsInput ended.BadLine = Stays
+CountsInput ended.VaultFault = Stays
+CountsInput ended.NoMasterKey = Stays
+
+-- what is seen of the input, the vault and the output
+pub record WrapDevices : Type 0 where
+  pub input : Device (List ℕ)
+  pub vault : Device KeyMap
+  pub out : Device (List ℕ)
+
+-- what the command makes of the input's bytes, and what was taken of them
+abbrev pub Wraps : Wrapped → List ℕ → WrapDevices → WrapDevices → Type 0
+Wraps end path old new = Reads (λ bytes. Makes end path bytes old.vault new.vault old.out new.out) (Takes end) (CountsInput end) old.input new.input
 
 -- the input was read whole
 abbrev pub IsRead : Wrapped → Type 0

@@ -1,15 +1,14 @@
 //! The command `wrap`.
 
-ghost use Rattle.std.specs.Prelude.{◌≡◌, ◌≤◌, ℕ, List, IfSome, length};
-ghost use Rattle.ae_edge.specs.Devices.{Rose, WhereExposed};
-ghost use Rattle.wrap_command.specs.Wrapping.{IsRead, Puts, Takes, Wraps, most_script_bytes, wrapped_line};
+ghost use Rattle.std.specs.Prelude.{◌≡◌, ◌≤◌, length};
+ghost use Rattle.wrap_command.specs.Wrapping.{IsRead, Makes, Puts, Wraps, most_script_bytes, wrapped_line};
 
 use crate::lines::key_in;
 use ae_base::limits::MOST_SCRIPT_BYTES;
 use ae_base::texts::Txt;
 use ae_edge::sinks::Sink;
 use ae_edge::sources::Source;
-use ae_edge::streams::{PutAll, ReadAll, put_all, read_all};
+use ae_edge::streams::{ReadError, WriteError, put_all, read_all};
 use ae_edge::vaults::{MasterKey, Vault};
 use aes_block::Aes256;
 use std::alloc::Global;
@@ -45,34 +44,21 @@ fn line_of(master: &[u8; 32], key: &[u8; 32]) -> [u8; 81]
 }
 
 fn put_line<W: Sink>(out: &mut W, line: &[u8]) -> Wrapped
-    ensures content { Puts result line.now (W.held out.old) (W.held out.new) }
-    ensures count { W.faults out.old ≤ W.faults out.new }
-    ensures fault { result ≡ Wrapped.WriteFault → Rose (W.faults out.old) (W.faults out.new) }
+    ensures { Puts result line.now (W.seen out.old) (W.seen out.new) }
 {
     match put_all(out, line) {
-        PutAll::Whole => Wrapped::Done,
-        PutAll::WriteFault => Wrapped::WriteFault,
-        PutAll::OutOfMemory => Wrapped::OutOfMemory,
+        Ok(()) => Wrapped::Done,
+        Err(WriteError::Failed) => Wrapped::WriteFault,
+        Err(WriteError::OutOfMemory) => Wrapped::OutOfMemory,
     }
 }
 
 /// Wraps the key that the input spells.
 fn wrap_input<V: Vault, W: Sink>(path: &Txt, input: &[u8], vault: &mut V, out: &mut W) -> Wrapped
     requires { length input.now ≤ most_script_bytes }
-    ensures content { Wraps result path.now input.now
-        (record {
-          keys = V.keys vault.old;
-          vault_faults = V.faults vault.old;
-          out = W.held out.old;
-        })
-        (record {
-          keys = V.keys vault.new;
-          vault_faults = V.faults vault.new;
-          out = W.held out.new;
-        }) }
+    ensures makes { Makes result path.now input.now
+        (V.seen vault.old) (V.seen vault.new) (W.seen out.old) (W.seen out.new) }
     ensures read { IsRead result }
-    ensures vault { result ≡ Wrapped.VaultFault → Rose (V.faults vault.old) (V.faults vault.new) }
-    ensures write { result ≡ Wrapped.WriteFault → Rose (W.faults out.old) (W.faults out.new) }
 {
     let Some(key) = key_in(input) else {
         return Wrapped::BadLine;
@@ -87,7 +73,7 @@ fn wrap_input<V: Vault, W: Sink>(path: &Txt, input: &[u8], vault: &mut V, out: &
 /// Reads a column key, 64 hexadecimal digits, from the input, wraps it under the master key at the
 /// path (RFC 3394), and puts the 80 digits of the wrapped key and LF to the output. The input is
 /// read to its end before anything else happens. Of a line that can't be put whole a front is put;
-/// else the output stays as it was.
+/// else the output stays as it was. A fault ends the command: no call comes after one that failed.
 pub fn wrap<S: Source, V: Vault, W: Sink>(
     alloc: Global,
     path: &Txt,
@@ -95,30 +81,14 @@ pub fn wrap<S: Source, V: Vault, W: Sink>(
     vault: &mut V,
     out: &mut W,
 ) -> Wrapped
-    // There are bytes, the input's where it tells them, of which this is what the command makes.
-    ensures content { (bytes : List ℕ) × IfSome (S.left input.old) (λ left. bytes ≡ left)
-        × Wraps result path.now bytes
-        (record {
-          keys = V.keys vault.old;
-          vault_faults = V.faults vault.old;
-          out = W.held out.old;
-        })
-        (record {
-          keys = V.keys vault.new;
-          vault_faults = V.faults vault.new;
-          out = W.held out.new;
-        }) }
-    // What was taken of the input.
-    ensures taken { WhereExposed (Takes result) (S.left input.old) (S.left input.new) }
-    // The faults of the outside come only where a count rose.
-    ensures read { result ≡ Wrapped.ReadFault → Rose (S.faults input.old) (S.faults input.new) }
-    ensures vault { result ≡ Wrapped.VaultFault → Rose (V.faults vault.old) (V.faults vault.new) }
-    ensures write { result ≡ Wrapped.WriteFault → Rose (W.faults out.old) (W.faults out.new) }
+    ensures { Wraps result path.now
+        (record { input = S.seen input.old; vault = V.seen vault.old; out = W.seen out.old })
+        (record { input = S.seen input.new; vault = V.seen vault.new; out = W.seen out.new }) }
 {
     match read_all(input, alloc, MOST_SCRIPT_BYTES) {
-        ReadAll::Whole(bytes) => wrap_input(path, bytes.as_slice(), vault, out),
-        ReadAll::TooLong => Wrapped::TooLong,
-        ReadAll::ReadFault => Wrapped::ReadFault,
-        ReadAll::OutOfMemory => Wrapped::OutOfMemory,
+        Ok(bytes) => wrap_input(path, bytes.as_slice(), vault, out),
+        Err(ReadError::TooLong) => Wrapped::TooLong,
+        Err(ReadError::Failed) => Wrapped::ReadFault,
+        Err(ReadError::OutOfMemory) => Wrapped::OutOfMemory,
     }
 }

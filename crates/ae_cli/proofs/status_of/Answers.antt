@@ -3,11 +3,12 @@ use Rattle.std.proofs.Common.{Some, None, ap, refl}
 use Rattle.std.specs.Prelude.{false}
 use Rattle.server_core.specs.Serve.{empty_state}
 use Rattle.ae_cli.proofs.Doing.{no_memory}
-use Rattle.ae_cli.specs.Seen.{Device, Seen}
+use Rattle.ae_edge.specs.Devices.{Device, silent}
+use Rattle.ae_cli.specs.Seen.{Seen}
 use Rattle.ae_cli.proofs.status_of.Goals as goal
 
 abbrev untold : {A : Type 0} → Device A
-untold = record { content = None; faults = 0 }
+untold = silent 0
 
 abbrev untouched : Seen
 untouched = record {

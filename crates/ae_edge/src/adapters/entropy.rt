@@ -1,7 +1,8 @@
 //! A source of random bytes over a generator of std's kind.
 
-ghost use Rattle.std.specs.Prelude.{◌≡◌, ◌≤◌, None, List, ℕ, []};
-ghost use Rattle.ae_edge.specs.Devices.{Rose};
+ghost use Rattle.std.specs.Prelude.{◌≡◌, ◌≤◌, List, ℕ};
+ghost use Rattle.ae_edge.specs.Devices.{silent};
+ghost use Rattle.ae_edge.specs.Draws.{CountsDraw};
 
 use crate::entropies::{Draw, Entropy};
 use rand_core::TryRng;
@@ -17,22 +18,18 @@ impl<T: TryRng> RngEntropy<T> {
     /// The generator as a random source, none of whose calls has failed yet.
     pub fn new(rng: T) -> RngEntropy<T>
         ensures rng { result.rng ≡ rng }
-        ensures fresh { ⟦<RngEntropy<T> as Entropy>⟧.faults result ≡ 0 }
+        ensures fresh { ⟦<RngEntropy<T> as Entropy>⟧.seen result ≡ silent 0 }
     {
         RngEntropy { rng, faults: 0 }
     }
 }
 
 impl<T: TryRng> Entropy for RngEntropy<T> {
-    ghost to_come = { λ e. None };
-
-    ghost faults = { λ e. e.faults };
-
-    ghost names = { λ e. [] };
+    ghost seen = { λ e. silent e.faults };
 
     fn draw(&mut self) -> Draw
         ensures count { self.old.faults ≤ self.new.faults }
-        ensures failed { result ≡ Draw.Failed → Rose self.old.faults self.new.faults }
+        ensures counts { CountsDraw result self.old.faults self.new.faults }
         ensures drawn { (bytes : List ℕ) → result ≡ Draw.Drawn bytes
             → T.may_fill self.old.rng bytes self.new.rng }
     {

@@ -1,7 +1,7 @@
 //! Files that are opened at their first use, as a sink or a source.
 
-ghost use Rattle.std.specs.Prelude.{◌≡◌, ◌≤◌, [], None, false, true};
-ghost use Rattle.ae_edge.specs.Devices.{Rose};
+ghost use Rattle.std.specs.Prelude.{◌≡◌, ◌≤◌, None, false, true};
+ghost use Rattle.ae_edge.specs.Devices.{silent};
 ghost use Rattle.ae_edge.specs.Files.{IsKept, OpensThen};
 ghost use Rattle.ae_edge.specs.Sinks.{Closes, CountsClosing, CountsPut, IsPut, PutsKnown};
 ghost use Rattle.ae_edge.specs.Sources.{CountsTake, IsPiece, TakesKnown};
@@ -81,18 +81,13 @@ impl<R: Files + Drop, D: OpensFile<R>> LazyFile<R, D> {
 }
 
 impl<R: Files + Drop> Sink for LazyFile<R, StdSink<R::File>> {
-    ghost held = { λ s. None };
-
-    ghost faults = { λ s. s.faults };
-
-    ghost names = { λ s. [] };
+    ghost seen = { λ s. silent s.faults };
 
     ghost closed = { λ s. s.closed };
 
     fn put(&mut self, bytes: &[u8]) -> Put
         ensures piece { IsPut bytes.now result }
         ensures count { self.old.faults ≤ self.new.faults }
-        ensures failed { result ≡ Put.Failed → Rose self.old.faults self.new.faults }
         ensures counts { CountsPut result self.old.faults self.new.faults }
         ensures stays { self.new.closed ≡ self.old.closed }
         ensures nothing { self.old.closed ≡ true → result ≡ Put.Failed }
@@ -122,7 +117,6 @@ impl<R: Files + Drop> Close for LazyFile<R, StdSink<R::File>> {
     // reader of a named pipe sees an end.
     fn close(&mut self) -> Closing
         ensures count { self.old.faults ≤ self.new.faults }
-        ensures failed { result ≡ Closing.Failed → Rose self.old.faults self.new.faults }
         ensures counts { CountsClosing result self.old.faults self.new.faults }
         ensures closed { Closes result self.old.closed self.new.closed }
         ensures files { self.new.files ≡ self.old.files }
@@ -141,17 +135,12 @@ impl<R: Files + Drop> Close for LazyFile<R, StdSink<R::File>> {
 }
 
 impl<R: Files + Drop> Source for LazyFile<R, StdSource<R::File>> {
-    ghost left = { λ s. None };
-
-    ghost faults = { λ s. s.faults };
-
-    ghost names = { λ s. [] };
+    ghost seen = { λ s. silent s.faults };
 
     fn take(&mut self, alloc: Global, max: usize) -> Taken
         requires { 1 ≤ max }
         ensures piece { IsPiece max result }
         ensures count { self.old.faults ≤ self.new.faults }
-        ensures failed { result ≡ Taken.Failed → Rose self.old.faults self.new.faults }
         ensures counts { CountsTake result self.old.faults self.new.faults }
         ensures files { self.new.files ≡ self.old.files }
         ensures name { self.new.name ≡ self.old.name }

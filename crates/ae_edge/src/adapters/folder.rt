@@ -1,9 +1,10 @@
 //! A vault over the key files of a folder.
 
-ghost use Rattle.std.specs.Prelude.{◌≡◌, ◌≤◌, ◌+◌, ◌++◌, IfOk, IfSome, None, codes, length, string_bytes, string_len, []};
+ghost use Rattle.std.specs.Prelude.{◌≡◌, ◌≤◌, ◌+◌, ◌++◌, IfOk, IfSome, codes, length, string_bytes, string_len};
 ghost use Rattle.std.specs.String.{string_capacity};
-ghost use Rattle.ae_edge.specs.Devices.{Rose};
+ghost use Rattle.ae_edge.specs.Devices.{silent};
 ghost use Rattle.ae_edge.specs.KeyFiles.{HasFilled, IsKeyOf, IsKeyPath};
+ghost use Rattle.ae_edge.specs.Vaults.{CountsMaster};
 
 use crate::adapters::interrupts::read_once;
 use crate::adapters::key_files::{is_key_path, key_of_file};
@@ -103,15 +104,11 @@ fn open_key<R: Files>(files: &R, name: &str) -> io::Result<Option<[u8; 32]>> {
 }
 
 impl<R: Files + Drop> Vault for FolderVault<R> {
-    ghost keys = { λ v. None };
-
-    ghost faults = { λ v. v.faults };
-
-    ghost names = { λ v. [] };
+    ghost seen = { λ v. silent v.faults };
 
     fn master(&mut self, path: &Txt) -> MasterKey
         ensures count { self.old.faults ≤ self.new.faults }
-        ensures failed { result ≡ MasterKey.Failed → Rose self.old.faults self.new.faults }
+        ensures counts { CountsMaster result self.old.faults self.new.faults }
         ensures folder { self.new.folder ≡ self.old.folder }
         ensures other { ¬ IsKeyPath path.now → result ≡ MasterKey.NotThere }
     {

@@ -1,7 +1,7 @@
 //! A sink over a writer.
 
-ghost use Rattle.std.specs.Prelude.{◌≡◌, ◌≤◌, None, [], false, true};
-ghost use Rattle.ae_edge.specs.Devices.{Rose};
+ghost use Rattle.std.specs.Prelude.{◌≡◌, ◌≤◌, false, true};
+ghost use Rattle.ae_edge.specs.Devices.{silent};
 ghost use Rattle.ae_edge.specs.Sinks.{CountsPut, IsPut, PutsKnown};
 
 use crate::adapters::interrupts::write_once;
@@ -19,25 +19,20 @@ impl<W: Write> StdSink<W> {
     /// The writer as a sink, none of whose calls has failed yet.
     pub fn new(writer: W) -> StdSink<W>
         ensures writer { result.writer ≡ writer }
-        ensures fresh { ⟦<StdSink<W> as Sink>⟧.faults result ≡ 0 }
+        ensures fresh { ⟦<StdSink<W> as Sink>⟧.seen result ≡ silent 0 }
     {
         StdSink { writer, faults: 0 }
     }
 }
 
 impl<W: Write> Sink for StdSink<W> {
-    ghost held = { λ s. None };
-
-    ghost faults = { λ s. s.faults };
-
-    ghost names = { λ s. [] };
+    ghost seen = { λ s. silent s.faults };
 
     ghost closed = { λ s. false };
 
     fn put(&mut self, bytes: &[u8]) -> Put
         ensures piece { IsPut bytes.now result }
         ensures count { self.old.faults ≤ self.new.faults }
-        ensures failed { result ≡ Put.Failed → Rose self.old.faults self.new.faults }
         ensures counts { CountsPut result self.old.faults self.new.faults }
         ensures known { PutsKnown bytes.now result
             (W.contents self.old.writer) (W.contents self.new.writer) }

@@ -1,7 +1,7 @@
 //! A source over a reader.
 
-ghost use Rattle.std.specs.Prelude.{◌≡◌, ◌≤◌, None, []};
-ghost use Rattle.ae_edge.specs.Devices.{Rose};
+ghost use Rattle.std.specs.Prelude.{◌≡◌, ◌≤◌};
+ghost use Rattle.ae_edge.specs.Devices.{silent};
 ghost use Rattle.ae_edge.specs.Sources.{CountsTake, IsPiece, TakesKnown};
 
 use crate::adapters::interrupts::read_once;
@@ -24,24 +24,19 @@ impl<R: Read> StdSource<R> {
     /// The reader as a source, none of whose calls has failed yet.
     pub fn new(reader: R) -> StdSource<R>
         ensures reader { result.reader ≡ reader }
-        ensures fresh { ⟦<StdSource<R> as Source>⟧.faults result ≡ 0 }
+        ensures fresh { ⟦<StdSource<R> as Source>⟧.seen result ≡ silent 0 }
     {
         StdSource { reader, faults: 0 }
     }
 }
 
 impl<R: Read> Source for StdSource<R> {
-    ghost left = { λ s. None };
-
-    ghost faults = { λ s. s.faults };
-
-    ghost names = { λ s. [] };
+    ghost seen = { λ s. silent s.faults };
 
     fn take(&mut self, alloc: Global, max: usize) -> Taken
         requires { 1 ≤ max }
         ensures piece { IsPiece max result }
         ensures count { self.old.faults ≤ self.new.faults }
-        ensures failed { result ≡ Taken.Failed → Rose self.old.faults self.new.faults }
         ensures counts { CountsTake result self.old.faults self.new.faults }
         ensures known { TakesKnown result
             (R.remaining self.old.reader) (R.remaining self.new.reader) }

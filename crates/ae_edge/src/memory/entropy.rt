@@ -1,8 +1,8 @@
 //! Random bytes out of memory.
 
-ghost use Rattle.std.specs.Prelude.{◌≡◌, ◌≤◌, ◌↔◌, ◌⊎◌, Some, []};
-ghost use Rattle.ae_edge.specs.Devices.{Rose};
-ghost use Rattle.ae_edge.specs.Draws.{Draws};
+ghost use Rattle.std.specs.Prelude.{◌≡◌, ◌≤◌, ◌↔◌, ◌⊎◌};
+ghost use Rattle.ae_edge.specs.Devices.{telling};
+ghost use Rattle.ae_edge.specs.Draws.{CountsDraw, Draws};
 ghost use Rattle.ae_edge.specs.Memory.{IsDry, IsListed, MemDraws, fresh};
 
 use crate::entropies::{Draw, Entropy};
@@ -51,16 +51,12 @@ impl MemEntropy {
 }
 
 impl Entropy for MemEntropy {
-    ghost to_come = { λ e. Some e.to_come };
-
-    ghost faults = { λ e. e.calls.faults };
-
-    ghost names = { λ e. [] };
+    ghost seen = { λ e. telling e.to_come e.calls.faults };
 
     fn draw(&mut self) -> Draw
         ensures content { Draws result self.old.to_come self.new.to_come }
         ensures count { self.old.calls.faults ≤ self.new.calls.faults }
-        ensures failed { result ≡ Draw.Failed → Rose self.old.calls.faults self.new.calls.faults }
+        ensures counts { CountsDraw result self.old.calls.faults self.new.calls.faults }
         ensures fails { (result ≡ Draw.Failed) ↔ (IsListed self.old.calls ⊎ IsDry self.old) }
         ensures state { MemDraws result self.old self.new }
     {

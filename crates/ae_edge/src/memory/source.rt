@@ -1,7 +1,7 @@
 //! A source of bytes in memory.
 
-ghost use Rattle.std.specs.Prelude.{◌≡◌, ◌≤◌, ◌↔◌, Some, []};
-ghost use Rattle.ae_edge.specs.Devices.{Rose};
+ghost use Rattle.std.specs.Prelude.{◌≡◌, ◌≤◌, ◌↔◌};
+ghost use Rattle.ae_edge.specs.Devices.{telling};
 ghost use Rattle.ae_edge.specs.Memory.{IsListed, MemTakes, fresh};
 ghost use Rattle.ae_edge.specs.Sources.{CountsTake, IsPiece, Takes};
 
@@ -62,18 +62,13 @@ impl MemSource {
 }
 
 impl Source for MemSource {
-    ghost left = { λ s. Some s.left };
-
-    ghost faults = { λ s. s.calls.faults };
-
-    ghost names = { λ s. [] };
+    ghost seen = { λ s. telling s.left s.calls.faults };
 
     fn take(&mut self, alloc: Global, max: usize) -> Taken
         requires { 1 ≤ max }
         ensures piece { IsPiece max result }
         ensures content { Takes result self.old.left self.new.left }
         ensures count { self.old.calls.faults ≤ self.new.calls.faults }
-        ensures failed { result ≡ Taken.Failed → Rose self.old.calls.faults self.new.calls.faults }
         ensures counts { CountsTake result self.old.calls.faults self.new.calls.faults }
         ensures listed { (result ≡ Taken.Failed) ↔ IsListed self.old.calls }
         ensures state { MemTakes max result self.old self.new }

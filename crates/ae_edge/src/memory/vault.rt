@@ -1,9 +1,9 @@
 //! A vault of keys in memory.
 
-ghost use Rattle.std.specs.Prelude.{◌≡◌, ◌≤◌, ◌↔◌, Some, []};
-ghost use Rattle.ae_edge.specs.Devices.{Rose};
+ghost use Rattle.std.specs.Prelude.{◌≡◌, ◌≤◌, ◌↔◌};
+ghost use Rattle.ae_edge.specs.Devices.{telling};
 ghost use Rattle.ae_edge.specs.Memory.{IsListed, MemFinds, fresh};
-ghost use Rattle.ae_edge.specs.Vaults.{Finds, key_at};
+ghost use Rattle.ae_edge.specs.Vaults.{CountsMaster, Finds, key_at};
 
 use crate::memory::calls::Calls;
 use crate::vaults::{MasterKey, Vault};
@@ -54,18 +54,13 @@ fn key_at(keys: &[(Txt, [u8; 32])], path: &Txt) -> Option<[u8; 32]>
 }
 
 impl Vault for MemVault {
-    ghost keys = { λ v. Some v.keys };
-
-    ghost faults = { λ v. v.calls.faults };
-
-    ghost names = { λ v. [] };
+    ghost seen = { λ v. telling v.keys v.calls.faults };
 
     fn master(&mut self, path: &Txt) -> MasterKey
         ensures found { Finds path.now result self.old.keys }
         ensures unchanged { self.new.keys ≡ self.old.keys }
         ensures count { self.old.calls.faults ≤ self.new.calls.faults }
-        ensures failed { result ≡ MasterKey.Failed
-            → Rose self.old.calls.faults self.new.calls.faults }
+        ensures counts { CountsMaster result self.old.calls.faults self.new.calls.faults }
         ensures listed { (result ≡ MasterKey.Failed) ↔ IsListed self.old.calls }
         ensures state { MemFinds result self.old self.new }
     {

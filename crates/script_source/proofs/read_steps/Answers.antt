@@ -1,19 +1,14 @@
 -- As its bytes are read, or they weren't taken.
-use Rattle.ae_edge.proofs.Interface.{some_bytes, too_many_bytes, whole_bytes}
-use Rattle.script_source.proofs.Taken.{takes_whole}
+use Rattle.std.proofs.lemmas.Result.{err_from_is_err_and}
+use Rattle.script_source.proofs.Taken.{reads_whole, unread_so}
 use Rattle.script_source.proofs.read_steps.Goals as goal
 
-pub returns-in-Whole-clause-reads : goal.returns-in-Whole-clause-reads
-returns-in-Whole-clause-reads g c = (_, whole_bytes _ _ _ _ c.in-Whole.ensures.content, c.steps_in.ensures.reads)
+pub returns : goal.returns
+returns g c =
+    reads_whole c.steps_in.result c.in_ok-bytes.bytes (g.S.Source.seen c.args.script.now) (g.S.Source.seen c.read_all.new.source)
+    c.steps_in.ensures.read c.steps_in.ensures.whole c.in_ok-bytes.ensures.call c.steps_in.ensures.reads
 
-pub returns-in-Whole-clause-taken : goal.returns-in-Whole-clause-taken
-returns-in-Whole-clause-taken g c = takes_whole _ _ _ _ c.steps_in.ensures.read c.steps_in.ensures.whole c.in-Whole.ensures.content
-
-pub returns-in-TooLong-clause-reads : goal.returns-in-TooLong-clause-reads
-returns-in-TooLong-clause-reads g c = too_many_bytes _ _ _ c.in-TooLong.ensures.content
-
-pub returns-in-ReadFault-clause-reads : goal.returns-in-ReadFault-clause-reads
-returns-in-ReadFault-clause-reads g c = let t = some_bytes _ in (t.0, t.1, tt)
-
-pub returns-in-OutOfMemory-clause-reads : goal.returns-in-OutOfMemory-clause-reads
-returns-in-OutOfMemory-clause-reads g c = let t = some_bytes _ in (t.0, t.1, tt)
+pub returns-in_err-bytes : goal.returns-in_err-bytes
+returns-in_err-bytes g c =
+    let p = err_from_is_err_and c.from_residual.result c.from_residual.ensures.1 in
+    rw (p.1, p.2) (unread_so c.in_err-bytes.field-0.0 (g.S.Source.seen c.args.script.now) (g.S.Source.seen c.read_all.new.source) c.in_err-bytes.ensures.call)

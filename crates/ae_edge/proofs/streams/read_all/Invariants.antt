@@ -5,9 +5,9 @@ use Rattle.ae_edge.proofs.streams.read_all.Given as goal
 
 abbrev pub invariant-pieces : goal.invariant-pieces
 invariant-pieces g l = record {
-  told : Removes l.bytes.items (g.S.Source.left l.fn.source) (g.S.Source.left l.source);
-  count : g.S.Source.faults l.source ≡ g.S.Source.faults l.fn.source;
-  same : g.S.Source.names l.source ≡ g.S.Source.names l.fn.source;
+  told : Removes l.bytes.items (g.S.Source.seen l.fn.source).content (g.S.Source.seen l.source).content;
+  count : (g.S.Source.seen l.source).faults ≡ (g.S.Source.seen l.fn.source).faults;
+  same : (g.S.Source.seen l.source).names ≡ (g.S.Source.seen l.fn.source).names;
   within : vec_len l.bytes ≤ l.limit + 1;
 }
 

@@ -12,9 +12,10 @@ returns-in-Ok-clause-comes g c =
     λ start taken first short s.
     c.answer_held.ensures.comes start (taken ++ c.args.piece.now) first short
     (subst (λ (f : Feeding). IsSoFar start (taken ++ c.args.piece.now) f c.args.durable.now first
-    (outside c.args.durable.now.journal.gate (g.D.Disk.told c.args.disk.now) (g.W.Sink.held c.args.out.now))) (sym fed)
-    (so_far_fed start taken c.args.piece.now c.args.feed.now c.args.durable.now first (outside c.args.durable.now.journal.gate (g.D.Disk.told c.args.disk.now) (g.W.Sink.held c.args.out.now)) s))
+    (outside c.args.durable.now.journal.gate (g.D.Disk.seen c.args.disk.now).content (g.W.Sink.seen c.args.out.now).content)) (sym fed)
+    (so_far_fed start taken c.args.piece.now c.args.feed.now c.args.durable.now first
+    (outside c.args.durable.now.journal.gate (g.D.Disk.seen c.args.disk.now).content (g.W.Sink.seen c.args.out.now).content) s))
 
 pub returns-in-Err-clause-comes : goal.returns-in-Err-clause-comes
 returns-in-Err-clause-comes g c = λ start taken first short s. unfed start taken c.args.piece.now c.args.feed.now
-    c.args.durable.now first (outside c.args.durable.now.journal.gate (g.D.Disk.told c.args.disk.now) (g.W.Sink.held c.args.out.now)) s
+    c.args.durable.now first (outside c.args.durable.now.journal.gate (g.D.Disk.seen c.args.disk.now).content (g.W.Sink.seen c.args.out.now).content) s

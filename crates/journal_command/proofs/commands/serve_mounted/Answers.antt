@@ -4,6 +4,7 @@ use Rattle.journal_command.proofs.commands.serve_mounted.Goals as goal
 
 pub returns-in-Ready-clause-content : goal.returns-in-Ready-clause-content
 returns-in-Ready-clause-content g c =
-    serves_journal c.requests_may_be_asked.ensures c.in-Ready.journal (g.D.Disk.told c.args.disk.now) (g.D.Disk.told c.mount.new.disk) c.in-Ready.ensures.content
-    (g.S.Source.left c.args.input.now) (g.S.Source.left c.serve_found.new.input) (g.W.Sink.held c.args.out.now) (g.W.Sink.held c.serve_found.new.out) (g.D.Disk.told c.serve_found.new.disk)
+    serves_journal c.requests_may_be_asked.ensures c.in-Ready.journal (g.D.Disk.seen c.args.disk.now).content (g.D.Disk.seen c.mount.new.disk).content c.in-Ready.ensures.call.content
+    (g.S.Source.seen c.args.input.now).content (g.S.Source.seen c.serve_found.new.input).content
+    (g.W.Sink.seen c.args.out.now).content (g.W.Sink.seen c.serve_found.new.out).content (g.D.Disk.seen c.serve_found.new.disk).content
     c.serve_found.result c.serve_found.ensures.serves

@@ -7,14 +7,14 @@ use Rattle.journal_command.proofs.commands.serve_pieces.Given as goal
 
 abbrev pub invariant-pieces : goal.invariant-pieces
 invariant-pieces g l = record {
-  goes : Going l.fn.durable.state l.left l.feed l.durable (g.S.Source.left l.fn.input) (g.S.Source.left l.input)
-      (outside l.fn.durable.journal.gate (g.D.Disk.told l.fn.disk) (g.W.Sink.held l.fn.out))
-      (outside l.durable.journal.gate (g.D.Disk.told l.disk) (g.W.Sink.held l.out));
-  sound : IsSound l.durable (g.D.Disk.told l.disk);
-  names : g.D.Disk.names l.disk ≡ g.D.Disk.names l.fn.disk;
-  takes : g.S.Source.faults l.input ≡ g.S.Source.faults l.fn.input;
-  disk_count : g.D.Disk.faults l.disk ≡ g.D.Disk.faults l.fn.disk;
-  puts : g.W.Sink.faults l.out ≡ g.W.Sink.faults l.fn.out;
+  goes : Going l.fn.durable.state l.left l.feed l.durable (g.S.Source.seen l.fn.input).content (g.S.Source.seen l.input).content
+      (outside l.fn.durable.journal.gate (g.D.Disk.seen l.fn.disk).content (g.W.Sink.seen l.fn.out).content)
+      (outside l.durable.journal.gate (g.D.Disk.seen l.disk).content (g.W.Sink.seen l.out).content);
+  sound : IsSound l.durable (g.D.Disk.seen l.disk).content;
+  names : (g.D.Disk.seen l.disk).names ≡ (g.D.Disk.seen l.fn.disk).names;
+  takes : (g.S.Source.seen l.input).faults ≡ (g.S.Source.seen l.fn.input).faults;
+  disk_count : (g.D.Disk.seen l.disk).faults ≡ (g.D.Disk.seen l.fn.disk).faults;
+  puts : (g.W.Sink.seen l.out).faults ≡ (g.W.Sink.seen l.fn.out).faults;
 }
 
 abbrev pub decreases-pieces : goal.decreases-pieces

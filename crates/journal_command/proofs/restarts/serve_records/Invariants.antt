@@ -7,11 +7,11 @@ use Rattle.journal_command.proofs.restarts.serve_records.Given as goal
 
 abbrev pub invariant-entries : goal.invariant-entries
 invariant-entries g l = record {
-  served : HasServedTo l.journal.gate l.place l.fn.server l.server (g.D.Disk.told l.fn.disk) (g.D.Disk.told l.disk);
+  served : HasServedTo l.journal.gate l.place l.fn.server l.server (g.D.Disk.seen l.fn.disk).content (g.D.Disk.seen l.disk).content;
   inside : l.place ≤ l.journal.gate;
-  mounted : IfSome (g.D.Disk.told l.disk) (IsMounted l.journal.gate);
-  counts : g.D.Disk.faults l.disk ≡ g.D.Disk.faults l.fn.disk;
-  same : g.D.Disk.names l.disk ≡ g.D.Disk.names l.fn.disk;
+  mounted : IfSome (g.D.Disk.seen l.disk).content (IsMounted l.journal.gate);
+  counts : (g.D.Disk.seen l.disk).faults ≡ (g.D.Disk.seen l.fn.disk).faults;
+  same : (g.D.Disk.seen l.disk).names ≡ (g.D.Disk.seen l.fn.disk).names;
 }
 
 abbrev pub decreases-entries : goal.decreases-entries

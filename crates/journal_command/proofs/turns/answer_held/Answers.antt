@@ -23,9 +23,9 @@ requests-preserved g c =
           let so = c.requests.invariant.so_far start taken first short s in
           let turns = c.in-Answered.ensures.turns (held_after start nothing_held so.stands.answered) so.held in
           rw e (so_far_more start taken c.requests.feed c.requests.durable first
-          (outside c.requests.durable.journal.gate (g.D.Disk.told c.requests.disk) (g.W.Sink.held c.requests.out))
+          (outside c.requests.durable.journal.gate (g.D.Disk.seen c.requests.disk).content (g.W.Sink.seen c.requests.out).content)
           so c.in-Answered.used c.answer_next.new.durable
-          (outside c.answer_next.new.durable.journal.gate (g.D.Disk.told c.answer_next.new.disk) (g.W.Sink.held c.answer_next.new.out)) short turns);
+          (outside c.answer_next.new.durable.journal.gate (g.D.Disk.seen c.answer_next.new.disk).content (g.W.Sink.seen c.answer_next.new.out).content) short turns);
       sound = c.in-Answered.ensures.sound;
       names = c.in-Answered.ensures.same ∙ c.requests.invariant.names;
       disk_count = ap (λ (f : Faults). f.disk) counts ∙ c.requests.invariant.disk_count;
@@ -37,21 +37,23 @@ returns-in-Waits-clause-comes g c = λ start taken first short s.
     let so = c.requests.invariant.so_far start taken first short s in
     let turns = c.in-Waits.ensures.turns (held_after start nothing_held so.stands.answered) so.held in
     waits_so_far start taken c.requests.feed c.requests.durable first
-    (outside c.requests.durable.journal.gate (g.D.Disk.told c.requests.disk) (g.W.Sink.held c.requests.out))
-    so c.answer_next.new.durable (outside c.answer_next.new.durable.journal.gate (g.D.Disk.told c.answer_next.new.disk) (g.W.Sink.held c.answer_next.new.out)) turns
+    (outside c.requests.durable.journal.gate (g.D.Disk.seen c.requests.disk).content (g.W.Sink.seen c.requests.out).content)
+    so c.answer_next.new.durable (outside c.answer_next.new.durable.journal.gate (g.D.Disk.seen c.answer_next.new.disk).content (g.W.Sink.seen c.answer_next.new.out).content) turns
 
 pub returns-in-Refused-clause-comes : goal.returns-in-Refused-clause-comes
 returns-in-Refused-clause-comes g c = λ start taken first short s.
     let so = c.requests.invariant.so_far start taken first short s in
     let turns = c.in-Refused.ensures.turns (held_after start nothing_held so.stands.answered) so.held in
     refused_so_far start taken c.requests.feed c.requests.durable first
-    (outside c.requests.durable.journal.gate (g.D.Disk.told c.requests.disk) (g.W.Sink.held c.requests.out))
-    so c.in-Refused.place c.answer_next.new.durable (outside c.answer_next.new.durable.journal.gate (g.D.Disk.told c.answer_next.new.disk) (g.W.Sink.held c.answer_next.new.out)) turns
+    (outside c.requests.durable.journal.gate (g.D.Disk.seen c.requests.disk).content (g.W.Sink.seen c.requests.out).content)
+    so c.in-Refused.place c.answer_next.new.durable
+    (outside c.answer_next.new.durable.journal.gate (g.D.Disk.seen c.answer_next.new.disk).content (g.W.Sink.seen c.answer_next.new.out).content) turns
 
 pub returns-in-Stopped-clause-comes : goal.returns-in-Stopped-clause-comes
 returns-in-Stopped-clause-comes g c = λ start taken first short s.
     let so = c.requests.invariant.so_far start taken first short s in
     let turns = c.in-Stopped.ensures.turns (held_after start nothing_held so.stands.answered) so.held in
     stops_so start taken c.requests.feed c.requests.durable first
-    (outside c.requests.durable.journal.gate (g.D.Disk.told c.requests.disk) (g.W.Sink.held c.requests.out))
-    so c.in-Stopped.stop c.answer_next.new.durable (outside c.answer_next.new.durable.journal.gate (g.D.Disk.told c.answer_next.new.disk) (g.W.Sink.held c.answer_next.new.out)) turns
+    (outside c.requests.durable.journal.gate (g.D.Disk.seen c.requests.disk).content (g.W.Sink.seen c.requests.out).content)
+    so c.in-Stopped.stop c.answer_next.new.durable
+    (outside c.answer_next.new.durable.journal.gate (g.D.Disk.seen c.answer_next.new.disk).content (g.W.Sink.seen c.answer_next.new.out).content) turns

@@ -11,12 +11,12 @@ abbrev pub invariant-requests : goal.invariant-requests
 invariant-requests g l = record {
   way : l.feed.way ≡ ToServer;
   so_far : (start : State) (taken : List ℕ) (first : Outside) → length taken < 2 ^ 64
-      → IsSoFar start taken l.fn.feed l.fn.durable first (outside l.fn.durable.journal.gate (g.D.Disk.told l.fn.disk) (g.W.Sink.held l.fn.out))
-      → IsSoFar start taken l.feed l.durable first (outside l.durable.journal.gate (g.D.Disk.told l.disk) (g.W.Sink.held l.out));
-  sound : IsSound l.durable (g.D.Disk.told l.disk);
-  names : g.D.Disk.names l.disk ≡ g.D.Disk.names l.fn.disk;
-  disk_count : g.D.Disk.faults l.disk ≡ g.D.Disk.faults l.fn.disk;
-  out_count : g.W.Sink.faults l.out ≡ g.W.Sink.faults l.fn.out;
+      → IsSoFar start taken l.fn.feed l.fn.durable first (outside l.fn.durable.journal.gate (g.D.Disk.seen l.fn.disk).content (g.W.Sink.seen l.fn.out).content)
+      → IsSoFar start taken l.feed l.durable first (outside l.durable.journal.gate (g.D.Disk.seen l.disk).content (g.W.Sink.seen l.out).content);
+  sound : IsSound l.durable (g.D.Disk.seen l.disk).content;
+  names : (g.D.Disk.seen l.disk).names ≡ (g.D.Disk.seen l.fn.disk).names;
+  disk_count : (g.D.Disk.seen l.disk).faults ≡ (g.D.Disk.seen l.fn.disk).faults;
+  out_count : (g.W.Sink.seen l.out).faults ≡ (g.W.Sink.seen l.fn.out).faults;
 }
 
 abbrev pub decreases-requests : goal.decreases-requests

@@ -13,5 +13,5 @@ returns-in-Served-clause-untouched g c = still_untouched c.in-Served.journal.gat
 
 pub returns-in-Served-clause-counts : goal.returns-in-Served-clause-counts
 returns-in-Served-clause-counts g c =
-    subst (λ (n : ℕ). CountsCompacted c.replace.result n (g.D.Disk.faults c.replace.new.disk) (g.E.Disk.faults c.args.new.now) (g.E.Disk.faults c.replace.new.new))
-    c.in-Served.ensures.counts c.replace.ensures.counts
+    subst (λ (n : ℕ). CountsCompacted c.replace.result n (g.D.Disk.seen c.replace.new.disk).faults
+    (g.E.Disk.seen c.args.new.now).faults (g.E.Disk.seen c.replace.new.new).faults) c.in-Served.ensures.counts c.replace.ensures.counts

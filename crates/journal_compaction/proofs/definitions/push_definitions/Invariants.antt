@@ -9,10 +9,10 @@ use Rattle.journal_compaction.proofs.definitions.push_definitions.Given as goal
 abbrev pub invariant-entries : goal.invariant-entries
 invariant-entries g l = record {
   inside : l.place ≤ l.journal.gate;
-  mounted : IfSome (g.D.Disk.told l.disk) (IsMounted l.journal.gate);
-  stays : WhereExposed StaysKept (g.D.Disk.told l.fn.disk) (g.D.Disk.told l.disk);
-  counts : g.D.Disk.faults l.disk ≡ g.D.Disk.faults l.fn.disk;
-  same : g.D.Disk.names l.disk ≡ g.D.Disk.names l.fn.disk;
+  mounted : IfSome (g.D.Disk.seen l.disk).content (IsMounted l.journal.gate);
+  stays : WhereExposed StaysKept (g.D.Disk.seen l.fn.disk).content (g.D.Disk.seen l.disk).content;
+  counts : (g.D.Disk.seen l.disk).faults ≡ (g.D.Disk.seen l.fn.disk).faults;
+  same : (g.D.Disk.seen l.disk).names ≡ (g.D.Disk.seen l.fn.disk).names;
 }
 
 abbrev pub decreases-entries : goal.decreases-entries

@@ -8,8 +8,8 @@ use Rattle.journal_compaction.proofs.writing.put_records.Given as goal
 
 abbrev pub invariant-records : goal.invariant-records
 invariant-records g l = record {
-  put : WhereExposed (PutsBehind stored.Done (opened (take l.entry-index l.records))) (g.E.Disk.told l.fn.disk) (g.E.Disk.told l.disk);
+  put : WhereExposed (PutsBehind stored.Done (opened (take l.entry-index l.records))) (g.E.Disk.seen l.fn.disk).content (g.E.Disk.seen l.disk).content;
   place : l.at ≡ place_behind (take l.entry-index l.records);
-  count : g.E.Disk.faults l.disk ≡ g.E.Disk.faults l.fn.disk;
-  same : g.E.Disk.names l.disk ≡ g.E.Disk.names l.fn.disk;
+  count : (g.E.Disk.seen l.disk).faults ≡ (g.E.Disk.seen l.fn.disk).faults;
+  same : (g.E.Disk.seen l.disk).names ≡ (g.E.Disk.seen l.fn.disk).names;
 }

@@ -1,4 +1,5 @@
 -- The record is put behind the closed gate, and then the gate is opened.
+use Rattle.std.proofs.Common.{rules}
 use Rattle.std.proofs.Common.{◌≤◌, ◌+◌, ℕ, List, length, arith}
 use Rattle.journal_core.specs.Journals.{IsEntry}
 use Rattle.journal_core.specs.Records.{IsRecord}
@@ -23,15 +24,30 @@ pub write_through-requires-clause-inside : goal.write_through-requires-clause-in
 write_through-requires-clause-inside g c =
     staged_inside_told c.args.gate c.args.entry.now (is_entry c.args.gate c.args.entry.now c.requires.proper c.requires.room) _ _ c.requires.mounted c.in-Done.ensures.content
 
-pub returns-in-Done-clause-content : goal.returns-in-Done-clause-content
-returns-in-Done-clause-content g c =
-    entry_written_told c.args.gate c.args.entry.now (is_entry c.args.gate c.args.entry.now c.requires.proper c.requires.room)
-    c.write_through.result _ _ _ c.requires.mounted c.in-Done.ensures.content c.write_through.ensures.content
+pub returns-in-Done : goal.returns-in-Done
+returns-in-Done g c =
+    record {
+      content = entry_written_told c.args.gate c.args.entry.now (is_entry c.args.gate c.args.entry.now c.requires.proper c.requires.room)
+          c.write_through.result _ _ _ c.requires.mounted c.in-Done.ensures.content c.write_through.ensures.content;
+      count = search rules;
+      counts = search rules;
+      same = search rules;
+    }
 
-pub returns-in-Failed-clause-content : goal.returns-in-Failed-clause-content
-returns-in-Failed-clause-content g c =
-    entry_stopped_told c.args.gate c.args.entry.now (is_entry c.args.gate c.args.entry.now c.requires.proper c.requires.room) _ _ c.requires.mounted c.in-Failed.ensures.content
+pub returns-in-Failed : goal.returns-in-Failed
+returns-in-Failed g c =
+    record {
+      content = entry_stopped_told c.args.gate c.args.entry.now (is_entry c.args.gate c.args.entry.now c.requires.proper c.requires.room) _ _ c.requires.mounted c.in-Failed.ensures.content;
+      count = search rules;
+      counts = search rules;
+      same = search rules;
+    }
 
-pub returns-in-OutOfMemory-clause-content : goal.returns-in-OutOfMemory-clause-content
-returns-in-OutOfMemory-clause-content g c =
-    entry_unwritten_told c.args.gate c.args.entry.now (is_entry c.args.gate c.args.entry.now c.requires.proper c.requires.room) _ _ c.requires.mounted c.in-OutOfMemory.ensures.content
+pub returns-in-OutOfMemory : goal.returns-in-OutOfMemory
+returns-in-OutOfMemory g c =
+    record {
+      content = entry_unwritten_told c.args.gate c.args.entry.now (is_entry c.args.gate c.args.entry.now c.requires.proper c.requires.room) _ _ c.requires.mounted c.in-OutOfMemory.ensures.content;
+      count = search rules;
+      counts = search rules;
+      same = search rules;
+    }

@@ -6,10 +6,10 @@ use Rattle.journal_core.proofs.reading.read_part.Given as goal
 
 abbrev pub invariant-pieces : goal.invariant-pieces
 invariant-pieces g l = record {
-  read : WhereExposed (HasPart l.at l.bytes.items) (g.D.Disk.told l.fn.disk) (g.D.Disk.told l.disk);
+  read : WhereExposed (HasPart l.at l.bytes.items) (g.D.Disk.seen l.fn.disk).content (g.D.Disk.seen l.disk).content;
   few : length l.bytes.items ≤ l.len;
-  counts : g.D.Disk.faults l.disk ≡ g.D.Disk.faults l.fn.disk;
-  same : g.D.Disk.names l.disk ≡ g.D.Disk.names l.fn.disk;
+  counts : (g.D.Disk.seen l.disk).faults ≡ (g.D.Disk.seen l.fn.disk).faults;
+  same : (g.D.Disk.seen l.disk).names ≡ (g.D.Disk.seen l.fn.disk).names;
 }
 
 abbrev pub decreases-pieces : goal.decreases-pieces

@@ -1,24 +1,52 @@
 -- The bytes are a record, or none.
-use Rattle.std.proofs.Common.{◌≡◌, true, false, rules}
+use Rattle.std.proofs.Common.{rules}
 use Rattle.journal_core.specs.Records.{IsRecord}
 use Rattle.journal_core.proofs.Heads.{is_told, isnt_told, lost_told, unheld_told, unread_told}
 use Rattle.journal_core.proofs.reading.record_at.Goals as goal
 
-pub returns-in-Ok-true-clause-content : goal.returns-in-Ok-true-clause-content
-returns-in-Ok-true-clause-content g c =
+pub returns-in-Ok-true-clause-call : goal.returns-in-Ok-true-clause-call
+returns-in-Ok-true-clause-call g c =
     let proper : IsRecord c.in-Bytes.entry = search rules in
-    is_told c.args.at c.args.len c.in-Bytes.entry _ _ proper c.in-Bytes.ensures.content
+    record {
+      content = is_told c.args.at c.args.len c.in-Bytes.entry _ _ proper c.in-Bytes.ensures.call.content;
+      count = search rules;
+      counts = search rules;
+      same = search rules;
+    }
 
-pub returns-in-Ok-false-clause-content : goal.returns-in-Ok-false-clause-content
-returns-in-Ok-false-clause-content g c =
+pub returns-in-Ok-false-clause-call : goal.returns-in-Ok-false-clause-call
+returns-in-Ok-false-clause-call g c =
     let other : IsRecord c.in-Bytes.entry → ⊥ = search rules in
-    isnt_told c.args.at c.args.len c.in-Bytes.entry _ _ other c.in-Bytes.ensures.content
+    record {
+      content = isnt_told c.args.at c.args.len c.in-Bytes.entry _ _ other c.in-Bytes.ensures.call.content;
+      count = search rules;
+      counts = search rules;
+      same = search rules;
+    }
 
-pub returns-in-Err-clause-content : goal.returns-in-Err-clause-content
-returns-in-Err-clause-content g c = unheld_told c.args.at c.args.len c.in-Bytes.entry _ _ c.in-Bytes.ensures.content
+pub returns-in-Err-clause-call : goal.returns-in-Err-clause-call
+returns-in-Err-clause-call g c =
+    record {
+      content = unheld_told c.args.at c.args.len c.in-Bytes.entry _ _ c.in-Bytes.ensures.call.content;
+      count = search rules;
+      counts = search rules;
+      same = search rules;
+    }
 
-pub returns-in-Failed-clause-content : goal.returns-in-Failed-clause-content
-returns-in-Failed-clause-content g c = lost_told c.args.at c.args.len _ _ c.in-Failed.ensures.content
+pub returns-in-Failed-clause-call : goal.returns-in-Failed-clause-call
+returns-in-Failed-clause-call g c =
+    record {
+      content = lost_told c.args.at c.args.len _ _ c.in-Failed.ensures.call.content;
+      count = search rules;
+      counts = search rules;
+      same = search rules;
+    }
 
-pub returns-in-OutOfMemory-clause-content : goal.returns-in-OutOfMemory-clause-content
-returns-in-OutOfMemory-clause-content g c = unread_told c.args.at c.args.len _ _ c.in-OutOfMemory.ensures.content
+pub returns-in-OutOfMemory-clause-call : goal.returns-in-OutOfMemory-clause-call
+returns-in-OutOfMemory-clause-call g c =
+    record {
+      content = unread_told c.args.at c.args.len _ _ c.in-OutOfMemory.ensures.call.content;
+      count = search rules;
+      counts = search rules;
+      same = search rules;
+    }

@@ -1,5 +1,5 @@
 -- One record more, or the end.
-use Rattle.std.proofs.Common.{◌∙◌, refl, rules, arith}
+use Rattle.std.proofs.Common.{◌∙◌, refl, rules}
 use Rattle.journal_core.proofs.Scans.{scan_first, scan_kept, scan_more, scan_closed, scan_broken, scan_failed, scan_unheld}
 use Rattle.journal_core.proofs.scanning.scan.Goals as goal
 
@@ -11,20 +11,44 @@ stood_at-requires-clause-kept g c = scan_kept c.args.last c.gates.gate _ _ c.gat
 
 pub gates-preserved : goal.gates-preserved
 gates-preserved g c = record {
-  scanned = search (rules, scan_more c.args.last c.gates.gate c.in-Open.entry _ _ _ c.gates.invariant.scanned c.in-Open.ensures.content);
+  scanned = search (rules, scan_more c.args.last c.gates.gate c.in-Open.entry _ _ _ c.gates.invariant.scanned c.in-Open.ensures.call.content);
   inside = search rules;
-  counts = c.in-Open.ensures.counts ∙ c.gates.invariant.counts;
-  same = c.stood_at.ensures.same ∙ c.gates.invariant.same;
+  counts = c.in-Open.ensures.call.counts ∙ c.gates.invariant.counts;
+  same = c.stood_at.ensures.call.same ∙ c.gates.invariant.same;
 }
 
-pub returns-in-Closed-clause-content : goal.returns-in-Closed-clause-content
-returns-in-Closed-clause-content g c = scan_closed c.args.last c.gates.gate _ _ _ c.gates.invariant.scanned c.in-Closed.ensures.content
+pub returns-in-Closed : goal.returns-in-Closed
+returns-in-Closed g c =
+    record {
+      content = scan_closed c.args.last c.gates.gate _ _ _ c.gates.invariant.scanned c.in-Closed.ensures.call.content;
+      count = search rules;
+      counts = search rules;
+      same = search rules;
+    }
 
-pub returns-in-Broken-clause-content : goal.returns-in-Broken-clause-content
-returns-in-Broken-clause-content g c = scan_broken c.args.last c.gates.gate c.requires.long _ _ _ c.gates.invariant.scanned c.in-Broken.ensures.content
+pub returns-in-Broken : goal.returns-in-Broken
+returns-in-Broken g c =
+    record {
+      content = scan_broken c.args.last c.gates.gate c.requires.long _ _ _ c.gates.invariant.scanned c.in-Broken.ensures.call.content;
+      count = search rules;
+      counts = search rules;
+      same = search rules;
+    }
 
-pub returns-in-Failed-clause-content : goal.returns-in-Failed-clause-content
-returns-in-Failed-clause-content g c = scan_failed c.args.last c.gates.gate _ _ _ c.gates.invariant.scanned c.in-Failed.ensures.content
+pub returns-in-Failed : goal.returns-in-Failed
+returns-in-Failed g c =
+    record {
+      content = scan_failed c.args.last c.gates.gate _ _ _ c.gates.invariant.scanned c.in-Failed.ensures.call.content;
+      count = search rules;
+      counts = search rules;
+      same = search rules;
+    }
 
-pub returns-in-OutOfMemory-clause-content : goal.returns-in-OutOfMemory-clause-content
-returns-in-OutOfMemory-clause-content g c = scan_unheld c.args.last c.gates.gate _ _ _ c.gates.invariant.scanned c.in-OutOfMemory.ensures.content
+pub returns-in-OutOfMemory : goal.returns-in-OutOfMemory
+returns-in-OutOfMemory g c =
+    record {
+      content = scan_unheld c.args.last c.gates.gate _ _ _ c.gates.invariant.scanned c.in-OutOfMemory.ensures.call.content;
+      count = search rules;
+      counts = search rules;
+      same = search rules;
+    }

@@ -6,10 +6,10 @@ use Rattle.journal_core.proofs.scanning.scan.Given as goal
 
 abbrev pub invariant-gates : goal.invariant-gates
 invariant-gates g l = record {
-  scanned : WhereExposed (HasScanned l.last l.gate) (g.D.Disk.told l.fn.disk) (g.D.Disk.told l.disk);
+  scanned : WhereExposed (HasScanned l.last l.gate) (g.D.Disk.seen l.fn.disk).content (g.D.Disk.seen l.disk).content;
   inside : l.gate ≤ l.last;
-  counts : g.D.Disk.faults l.disk ≡ g.D.Disk.faults l.fn.disk;
-  same : g.D.Disk.names l.disk ≡ g.D.Disk.names l.fn.disk;
+  counts : (g.D.Disk.seen l.disk).faults ≡ (g.D.Disk.seen l.fn.disk).faults;
+  same : (g.D.Disk.seen l.disk).names ≡ (g.D.Disk.seen l.fn.disk).names;
 }
 
 abbrev pub decreases-gates : goal.decreases-gates

@@ -9,7 +9,7 @@ use Rattle.script_run.proofs.rotations.run_rotation.Given as goal
 
 abbrev pub invariant-batches : goal.invariant-batches
 invariant-batches g l = record {
-  of_vault : let o = g.A.Around.outside l.env in IsOfVault o.client.keys l.driver;
+  of_vault : let o = g.A.Around.outside l.env in IsOfVault o.client.vault.content l.driver;
   others : IsApart l.number l.fn.driver l.driver;
   session : l.rotation.session ≡ l.number;
   from : l.rotation.from ≡ l.old;

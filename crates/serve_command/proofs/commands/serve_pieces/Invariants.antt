@@ -5,9 +5,9 @@ use Rattle.serve_command.proofs.commands.serve_pieces.Given as goal
 
 abbrev pub invariant-pieces : goal.invariant-pieces
 invariant-pieces g l = record {
-  goes : Going l.left l.feed l.server (g.S.Source.left l.fn.input) (g.S.Source.left l.input) (g.W.Sink.held l.fn.out) (g.W.Sink.held l.out);
-  takes : g.S.Source.faults l.input ≡ g.S.Source.faults l.fn.input;
-  puts : g.W.Sink.faults l.out ≡ g.W.Sink.faults l.fn.out;
+  goes : Going l.left l.feed l.server (g.S.Source.seen l.fn.input).content (g.S.Source.seen l.input).content (g.W.Sink.seen l.fn.out).content (g.W.Sink.seen l.out).content;
+  takes : (g.S.Source.seen l.input).faults ≡ (g.S.Source.seen l.fn.input).faults;
+  puts : (g.W.Sink.seen l.out).faults ≡ (g.W.Sink.seen l.fn.out).faults;
 }
 
 abbrev pub decreases-pieces : goal.decreases-pieces

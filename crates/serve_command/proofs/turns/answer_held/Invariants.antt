@@ -10,8 +10,8 @@ abbrev pub invariant-requests : goal.invariant-requests
 invariant-requests g l = record {
   way : l.feed.way ≡ ToServer;
   stands : (taken : List ℕ) (first : Option (List ℕ)) → length taken < 2 ^ 64
-      → Stands empty_state taken l.fn.feed l.fn.server first (g.W.Sink.held l.fn.out) → Stands empty_state taken l.feed l.server first (g.W.Sink.held l.out);
-  count : g.W.Sink.faults l.out ≡ g.W.Sink.faults l.fn.out;
+      → Stands empty_state taken l.fn.feed l.fn.server first (g.W.Sink.seen l.fn.out).content → Stands empty_state taken l.feed l.server first (g.W.Sink.seen l.out).content;
+  count : (g.W.Sink.seen l.out).faults ≡ (g.W.Sink.seen l.fn.out).faults;
 }
 
 abbrev pub decreases-requests : goal.decreases-requests

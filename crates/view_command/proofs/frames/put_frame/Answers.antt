@@ -5,5 +5,5 @@ use Rattle.view_command.proofs.frames.put_frame.Goals as goal
 
 pub returns-in-Ok-clause-content : goal.returns-in-Ok-clause-content
 returns-in-Ok-clause-content g c = λ past tells.
-    subst (λ (l : List ℕ). PutsAll l c.put_all.result (g.W.Sink.held c.args.out.now) (g.W.Sink.held c.put_all.new.sink))
-    (c.as_bytes.ensures.value ∙ c.in-Ok.ensures.text past tells) c.put_all.ensures.content
+    subst (λ (l : List ℕ). PutsAll l c.put_all.result (g.W.Sink.seen c.args.out.now).content (g.W.Sink.seen c.put_all.new.sink).content)
+    (c.as_bytes.ensures.value ∙ c.in-Ok.ensures.text past tells) c.put_all.ensures.call.content

@@ -7,8 +7,8 @@ pub frames-preserved : goal.frames-preserved
 frames-preserved g c =
     let f = c.frames in
     let a = c.in-Put.ensures.turns in
-    let now = g.W.Sink.held f.out in
-    let new = g.W.Sink.held c.put_next.new.out in
+    let now = (g.W.Sink.seen f.out).content in
+    let new = (g.W.Sink.seen c.put_next.new.out).content in
     record {
       stands = λ taken first s. stands_more c.args.page taken f.held f.seen first now (f.invariant.stands taken first s)
           a.frame c.in-Put.used a.next.within a.next.spells _ c.put_next.new.seen new refl c.advance.ensures.items a.passes a.put;
@@ -18,16 +18,16 @@ frames-preserved g c =
 
 pub returns-in-Waits-clause-comes : goal.returns-in-Waits-clause-comes
 returns-in-Waits-clause-comes g c = λ taken first s. stops_waiting c.args.page taken c.frames.held c.frames.seen
-    first (g.W.Sink.held c.frames.out) (c.frames.invariant.stands taken first s) c.put_next.new.seen (g.W.Sink.held c.put_next.new.out) c.in-Waits.ensures.turns
+    first (g.W.Sink.seen c.frames.out).content (c.frames.invariant.stands taken first s) c.put_next.new.seen (g.W.Sink.seen c.put_next.new.out).content c.in-Waits.ensures.turns
 
 pub returns-in-Bad-clause-comes : goal.returns-in-Bad-clause-comes
 returns-in-Bad-clause-comes g c = λ taken first s. stops_bad c.args.page taken c.frames.held c.frames.seen first
-    (g.W.Sink.held c.frames.out) (c.frames.invariant.stands taken first s) c.put_next.new.seen (g.W.Sink.held c.put_next.new.out) c.in-Bad.ensures.turns
+    (g.W.Sink.seen c.frames.out).content (c.frames.invariant.stands taken first s) c.put_next.new.seen (g.W.Sink.seen c.put_next.new.out).content c.in-Bad.ensures.turns
 
 pub returns-in-WriteFault-clause-comes : goal.returns-in-WriteFault-clause-comes
 returns-in-WriteFault-clause-comes g c = λ taken first s. stops_unput c.args.page taken c.frames.held c.frames.seen
-    first (g.W.Sink.held c.frames.out) (c.frames.invariant.stands taken first s) (g.W.Sink.held c.put_next.new.out) c.in-WriteFault.ensures.turns
+    first (g.W.Sink.seen c.frames.out).content (c.frames.invariant.stands taken first s) (g.W.Sink.seen c.put_next.new.out).content c.in-WriteFault.ensures.turns
 
 pub returns-in-OutOfMemory-clause-comes : goal.returns-in-OutOfMemory-clause-comes
 returns-in-OutOfMemory-clause-comes g c = λ taken first s. stops_unheld c.args.page taken c.frames.held
-    c.frames.seen first (g.W.Sink.held c.frames.out) (c.frames.invariant.stands taken first s) (g.W.Sink.held c.put_next.new.out) c.in-OutOfMemory.ensures.turns
+    c.frames.seen first (g.W.Sink.seen c.frames.out).content (c.frames.invariant.stands taken first s) (g.W.Sink.seen c.put_next.new.out).content c.in-OutOfMemory.ensures.turns

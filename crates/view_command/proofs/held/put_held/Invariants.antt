@@ -6,9 +6,10 @@ use Rattle.view_command.proofs.held.put_held.Given as goal
 
 abbrev pub invariant-frames : goal.invariant-frames
 invariant-frames g l = record {
-  stands : (taken : List ℕ) (first : Option (List ℕ)) → Stands l.page taken l.fn.held l.fn.seen first (g.W.Sink.held l.fn.out) → Stands l.page taken l.held l.seen first (g.W.Sink.held l.out);
+  stands : (taken : List ℕ) (first : Option (List ℕ)) → Stands l.page taken l.fn.held l.fn.seen first (g.W.Sink.seen l.fn.out).content
+      → Stands l.page taken l.held l.seen first (g.W.Sink.seen l.out).content;
   room : l.held.at + length l.held.bytes.items < 2 ^ 64;
-  count : g.W.Sink.faults l.out ≡ g.W.Sink.faults l.fn.out;
+  count : (g.W.Sink.seen l.out).faults ≡ (g.W.Sink.seen l.fn.out).faults;
 }
 
 abbrev pub decreases-frames : goal.decreases-frames

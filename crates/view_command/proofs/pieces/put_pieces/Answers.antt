@@ -7,8 +7,8 @@ pub pieces-init : goal.pieces-init
 pieces-init g c =
     let e = c.new-held.ensures in
     record {
-      goes = goes_first c.args.page c.new-held.result c.args.seen.now (g.S.Source.left c.args.input.now)
-          (g.W.Sink.held c.args.out.now) e.at e.bytes c.requires.classes c.requires.cells c.requires.tally;
+      goes = goes_first c.args.page c.new-held.result c.args.seen.now (g.S.Source.seen c.args.input.now).content
+          (g.W.Sink.seen c.args.out.now).content e.at e.bytes c.requires.classes c.requires.cells c.requires.tally;
       takes = refl;
       puts = refl;
     }
@@ -17,33 +17,33 @@ pub returns-then-left-eq0-clause-content : goal.returns-then-left-eq0-clause-con
 returns-then-left-eq0-clause-content g c =
     let p = c.in-Bytes.ensures.piece in
     let one : length c.in-Bytes.piece ≡ 1 = omega (arith, p.0, p.1) in
-    ends_past _ _ _ _ _ _ _ _ c.pieces.invariant.goes c.in-Bytes.piece (g.S.Source.left c.take.new.self) c.in-Bytes.ensures.content one c.if-left-eq0.true
+    ends_past _ _ _ _ _ _ _ _ c.pieces.invariant.goes c.in-Bytes.piece (g.S.Source.seen c.take.new.self).content c.in-Bytes.ensures.call.content one c.if-left-eq0.true
 
 pub put_piece-requires : goal.put_piece-requires
 put_piece-requires g c =
     let p = c.in-Bytes.ensures.piece in
     let fits : length c.in-Bytes.piece ≤ c.pieces.left = omega (arith, p.1) in
-    let within = fits_held _ _ _ _ _ _ _ _ c.pieces.invariant.goes c.in-Bytes.piece (g.S.Source.left c.take.new.self) c.in-Bytes.ensures.content fits in
+    let within = fits_held _ _ _ _ _ _ _ _ c.pieces.invariant.goes c.in-Bytes.piece (g.S.Source.seen c.take.new.self).content c.in-Bytes.ensures.call.content fits in
     omega (arith, within)
 
 pub returns-in-Bad-clause-content : goal.returns-in-Bad-clause-content
 returns-in-Bad-clause-content g c =
     let p = c.in-Bytes.ensures.piece in
     let fits : length c.in-Bytes.piece ≤ c.pieces.left = omega (arith, p.1) in
-    ends_refused _ _ _ _ _ _ _ _ c.pieces.invariant.goes c.in-Bytes.piece (g.S.Source.left c.take.new.self) c.in-Bytes.ensures.content fits c.in-Bad.place _ _ c.in-Bad.ensures.comes
+    ends_refused _ _ _ _ _ _ _ _ c.pieces.invariant.goes c.in-Bytes.piece (g.S.Source.seen c.take.new.self).content c.in-Bytes.ensures.call.content fits c.in-Bad.place _ _ c.in-Bad.ensures.comes
 
 pub returns-in-WriteFault-clause-content : goal.returns-in-WriteFault-clause-content
 returns-in-WriteFault-clause-content g c =
     let p = c.in-Bytes.ensures.piece in
     let fits : length c.in-Bytes.piece ≤ c.pieces.left = omega (arith, p.1) in
-    ends_unput _ _ _ _ _ _ _ _ c.pieces.invariant.goes c.in-Bytes.piece (g.S.Source.left c.take.new.self) c.in-Bytes.ensures.content fits _ _ c.in-WriteFault.ensures.comes
+    ends_unput _ _ _ _ _ _ _ _ c.pieces.invariant.goes c.in-Bytes.piece (g.S.Source.seen c.take.new.self).content c.in-Bytes.ensures.call.content fits _ _ c.in-WriteFault.ensures.comes
 
 pub returns-in-OutOfMemory-put_piece-clause-content :
     goal.returns-in-OutOfMemory-put_piece-clause-content
 returns-in-OutOfMemory-put_piece-clause-content g c =
     let p = c.in-Bytes.ensures.piece in
     let fits : length c.in-Bytes.piece ≤ c.pieces.left = omega (arith, p.1) in
-    ends_unheld _ _ _ _ _ _ _ _ c.pieces.invariant.goes c.in-Bytes.piece (g.S.Source.left c.take.new.self) c.in-Bytes.ensures.content fits _ _ c.in-OutOfMemory-put_piece.ensures.comes
+    ends_unheld _ _ _ _ _ _ _ _ c.pieces.invariant.goes c.in-Bytes.piece (g.S.Source.seen c.take.new.self).content c.in-Bytes.ensures.call.content fits _ _ c.in-OutOfMemory-put_piece.ensures.comes
 
 pub pieces-preserved : goal.pieces-preserved
 pieces-preserved g c =
@@ -51,17 +51,17 @@ pieces-preserved g c =
     let fits : length c.in-Bytes.piece ≤ c.pieces.left = omega (arith, p.1) in
     let l = c.len-left.ensures in
     record {
-      goes = goes_on _ _ _ _ _ _ _ _ c.pieces.invariant.goes c.in-Bytes.piece (g.S.Source.left c.take.new.self)
-          c.in-Bytes.ensures.content fits _ c.put_piece.new.held c.put_piece.new.seen _ (omega (arith, fits, l)) c.in-Waits.ensures.comes;
-      takes = c.in-Bytes.ensures.counts ∙ c.pieces.invariant.takes;
+      goes = goes_on _ _ _ _ _ _ _ _ c.pieces.invariant.goes c.in-Bytes.piece (g.S.Source.seen c.take.new.self).content
+          c.in-Bytes.ensures.call.content fits _ c.put_piece.new.held c.put_piece.new.seen _ (omega (arith, fits, l)) c.in-Waits.ensures.comes;
+      takes = c.in-Bytes.ensures.call.counts ∙ c.pieces.invariant.takes;
       puts = c.in-Waits.ensures.counts ∙ c.pieces.invariant.puts;
     }
 
 pub returns-in-End-clause-content : goal.returns-in-End-clause-content
-returns-in-End-clause-content g c = ends_whole _ _ _ _ _ _ _ _ c.pieces.invariant.goes c.at_end.result (g.S.Source.left c.take.new.self) c.in-End.ensures.content c.at_end.ensures
+returns-in-End-clause-content g c = ends_whole _ _ _ _ _ _ _ _ c.pieces.invariant.goes c.at_end.result (g.S.Source.seen c.take.new.self).content c.in-End.ensures.call.content c.at_end.ensures
 
 pub returns-in-Failed-clause-content : goal.returns-in-Failed-clause-content
-returns-in-Failed-clause-content g c = ends_unread _ _ _ _ _ _ _ _ c.pieces.invariant.goes (g.S.Source.left c.take.new.self) c.in-Failed.ensures.content
+returns-in-Failed-clause-content g c = ends_unread _ _ _ _ _ _ _ _ c.pieces.invariant.goes (g.S.Source.seen c.take.new.self).content c.in-Failed.ensures.call.content
 
 pub returns-in-OutOfMemory-clause-content : goal.returns-in-OutOfMemory-clause-content
-returns-in-OutOfMemory-clause-content g c = ends_without _ _ _ _ _ _ _ _ c.pieces.invariant.goes (g.S.Source.left c.take.new.self) c.in-OutOfMemory.ensures.content
+returns-in-OutOfMemory-clause-content g c = ends_without _ _ _ _ _ _ _ _ c.pieces.invariant.goes (g.S.Source.seen c.take.new.self).content c.in-OutOfMemory.ensures.call.content

@@ -1,24 +1,33 @@
 -- As its input is wrapped, or it wasn't read.
 use Rattle.std.proofs.Common.{refl, inr}
 use Rattle.ae_edge.proofs.Interface.{some_bytes, too_many_bytes, whole_bytes}
-use Rattle.wrap_command.proofs.Reading.{takes_whole, not_read}
-use Rattle.wrap_command.specs.declared.commands.Wrapped.TheVariants as ended
+use Rattle.wrap_command.specs.Wrapping.{most_script_bytes}
+use Rattle.wrap_command.proofs.Reading.{takes_whole}
 use Rattle.wrap_command.proofs.commands.wrap.Goals as goal
 
-pub returns-in-Whole-clause-content : goal.returns-in-Whole-clause-content
-returns-in-Whole-clause-content g c = (c.as_slice.result.now, rw c.as_slice.ensures (whole_bytes _ _ _ _ c.in-Whole.ensures.content), c.wrap_input.ensures.content)
+pub returns-in-Ok : goal.returns-in-Ok
+returns-in-Ok g c =
+    let old = g.S.Source.seen c.args.input.now in
+    let new = g.S.Source.seen c.read_all.new.source in
+    record {
+      bytes = c.as_slice.result.now;
+      told = rw c.as_slice.ensures (whole_bytes most_script_bytes old.content new.content c.in-Ok.bytes c.in-Ok.ensures.call.content);
+      holds = c.wrap_input.ensures.makes;
+      taken = takes_whole c.wrap_input.result c.in-Ok.bytes old new c.wrap_input.ensures.read c.in-Ok.ensures.call;
+    }
 
-pub returns-in-Whole-clause-taken : goal.returns-in-Whole-clause-taken
-returns-in-Whole-clause-taken g c = takes_whole _ _ _ _ c.wrap_input.ensures.read c.in-Whole.ensures.content
+pub returns-in-Err-TooLong : goal.returns-in-Err-TooLong
+returns-in-Err-TooLong g c =
+    let h = rw c.in-Err-TooLong.field-0-is at c.in-Err-TooLong.ensures.call in
+    let t = too_many_bytes most_script_bytes (g.S.Source.seen c.args.input.now).content (g.S.Source.seen c.read_all.new.source).content h.content in
+    record { bytes = t.0; told = t.1; holds = (t.2, refl, refl); taken = h }
 
-pub returns-in-Whole-clause-read : goal.returns-in-Whole-clause-read
-returns-in-Whole-clause-read g c = λ e. absurd (not_read _ ended.ReadFault c.wrap_input.ensures.read (λ w. w) e)
+pub returns-in-Err-Failed : goal.returns-in-Err-Failed
+returns-in-Err-Failed g c =
+    let t = some_bytes (g.S.Source.seen c.args.input.now).content in
+    record { bytes = t.0; told = t.1; holds = (refl, refl); taken = rw c.in-Err-Failed.field-0-is at c.in-Err-Failed.ensures.call }
 
-pub returns-in-TooLong-clause-content : goal.returns-in-TooLong-clause-content
-returns-in-TooLong-clause-content g c = let t = too_many_bytes _ _ _ c.in-TooLong.ensures.content in (t.0, t.1, (t.2, refl))
-
-pub returns-in-ReadFault-clause-content : goal.returns-in-ReadFault-clause-content
-returns-in-ReadFault-clause-content g c = let t = some_bytes _ in (t.0, t.1, refl)
-
-pub returns-in-OutOfMemory-clause-content : goal.returns-in-OutOfMemory-clause-content
-returns-in-OutOfMemory-clause-content g c = let t = some_bytes _ in (t.0, t.1, inr refl)
+pub returns-in-Err-OutOfMemory : goal.returns-in-Err-OutOfMemory
+returns-in-Err-OutOfMemory g c =
+    let t = some_bytes (g.S.Source.seen c.args.input.now).content in
+    record { bytes = t.0; told = t.1; holds = inr (refl, refl); taken = rw c.in-Err-OutOfMemory.field-0-is at c.in-Err-OutOfMemory.ensures.call }

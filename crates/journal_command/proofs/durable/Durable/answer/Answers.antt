@@ -17,9 +17,9 @@ returns-in-Ok-clause-answers g c = λ held e.
     let new = c.append_and_put.new.self in
     let replies = c.in-Ok.answer.replies in
     let entry = c.in-Ok.answer.entry in
-    let disk = g.D.Disk.told c.args.disk.now in
-    let out = g.W.Sink.held c.args.out.now in
-    let after = outside new.journal.gate (g.D.Disk.told c.append_and_put.new.disk) (g.W.Sink.held c.append_and_put.new.out) in
+    let disk = (g.D.Disk.seen c.args.disk.now).content in
+    let out = (g.W.Sink.seen c.args.out.now).content in
+    let after = outside new.journal.gate (g.D.Disk.seen c.append_and_put.new.disk).content (g.W.Sink.seen c.append_and_put.new.out).content in
     let put = subst (λ (j : JournalState). PutsBy result (packed c.args.asked.now.version replies) (option_to_list entry) (outside j.gate disk out) after)
     c.in-Ok.ensures.journal c.append_and_put.ensures.put in
     answers_so result held c.args.asked.now c.args.self.now c.serve.new.self new replies entry
@@ -29,7 +29,7 @@ pub returns-in-Err-clause-answers : goal.returns-in-Err-clause-answers
 returns-in-Err-clause-answers g c = λ held e.
     let frames = answer_frames c.args.self.now.state c.args.asked.now in
     let more = entries_of (keeping c.args.self.now.state held c.args.asked.now).records in
-    let disk = g.D.Disk.told c.args.disk.now in
-    let out = g.W.Sink.held c.args.out.now in
+    let disk = (g.D.Disk.seen c.args.disk.now).content in
+    let out = (g.W.Sink.seen c.args.out.now).content in
     subst (λ (j : JournalState). StopsBy stops.OutOfMemory frames more (outside c.args.self.now.journal.gate disk out) (outside j.gate disk out)) (sym c.serve.ensures.journal)
     (unanswered frames more (outside c.args.self.now.journal.gate disk out))

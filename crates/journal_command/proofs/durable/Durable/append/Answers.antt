@@ -8,9 +8,9 @@ use Rattle.journal_command.proofs.durable.Durable.append.Goals as goal
 pub returns-in-Some-clause-appended : goal.returns-in-Some-clause-appended
 returns-in-Some-clause-appended g c =
     let gate = rw c.as_slice.ensures at c.append.ensures.gate in
-    let content = rw c.as_slice.ensures at c.append.ensures.content in
+    let content = rw c.as_slice.ensures at c.append.ensures.call.content in
     let full = rw c.as_slice.ensures at c.append.ensures.full in
-    subst (λ (n : ℕ). AppendsEntry c.append.result n c.append.new.self.gate (option_to_list c.args.entry.now) (g.D.Disk.told c.args.disk.now) (g.D.Disk.told c.append.new.disk))
+    subst (λ (n : ℕ). AppendsEntry c.append.result n c.append.new.self.gate (option_to_list c.args.entry.now) (g.D.Disk.seen c.args.disk.now).content (g.D.Disk.seen c.append.new.disk).content)
     (ap (λ (d : DurableState). d.journal.gate) c.self.view_is)
     (appends_some c.append.result c.self.inside.journal.gate c.append.new.self.gate c.args.entry.now c.in-Some.entry _ _ c.in-Some.is gate full content)
 

@@ -1,9 +1,16 @@
 -- The gate moved behind the record.
+use Rattle.std.proofs.Common.{rules}
 use Rattle.journal_core.proofs.Appending.{added_mounted_told}
 use Rattle.journal_core.proofs.journal.Journal.append.Goals as goal
 
-pub returns-in-Done-clause-content : goal.returns-in-Done-clause-content
-returns-in-Done-clause-content g c = rw (← c.self.view_is) c.in-Done.ensures.content
+pub returns-in-Done-clause-call : goal.returns-in-Done-clause-call
+returns-in-Done-clause-call g c =
+    record {
+      content = rw (← c.self.view_is) c.in-Done.ensures.content;
+      count = search rules;
+      counts = search rules;
+      same = search rules;
+    }
 
 pub returns-in-Done-clause-mounted : goal.returns-in-Done-clause-mounted
 returns-in-Done-clause-mounted g c =

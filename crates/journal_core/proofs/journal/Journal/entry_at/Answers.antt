@@ -1,5 +1,5 @@
 -- What stands at the gate, before the last one or there.
-use Rattle.std.proofs.Common.{◌≡◌, ◌<◌, rules}
+use Rattle.std.proofs.Common.{◌<◌, rules}
 use Rattle.journal_core.specs.Appends.{IsMounted}
 use Rattle.journal_core.specs.Reading.{IsKeptTo}
 use Rattle.journal_core.specs.declared.reading.Stood.TheVariants as stood
@@ -7,48 +7,79 @@ use Rattle.journal_core.proofs.Appending.{if_some_then}
 use Rattle.journal_core.proofs.Following.{broken_other_told, closed_other_told, end_told, failed_entry_told, mounted_to, next_told, stands_told, still_mounted_told, unheld_entry_told}
 use Rattle.journal_core.proofs.journal.Journal.entry_at.Goals as goal
 
-pub returns-then-place-last_gate-clause-content : goal.returns-then-place-last_gate-clause-content
-returns-then-place-last_gate-clause-content g c = end_told c.args.place c.args.self.now.gate (search rules) _ c.requires.mounted
+pub returns-then-place-last_gate-clause-call : goal.returns-then-place-last_gate-clause-call
+returns-then-place-last_gate-clause-call g c =
+    record {
+      content = end_told c.args.place c.args.self.now.gate (search rules) _ c.requires.mounted;
+      count = search rules;
+      counts = search rules;
+      same = search rules;
+    }
 
 pub stood_at-requires-clause-kept : goal.stood_at-requires-clause-kept
 stood_at-requires-clause-kept g c = rw c.last_gate-2.ensures (if_some_then (IsMounted c.args.self.now.gate) (IsKeptTo c.args.self.now.gate) (mounted_to c.args.self.now.gate) _ c.requires.mounted)
 
-pub returns-in-Open-clause-content : goal.returns-in-Open-clause-content
-returns-in-Open-clause-content g c =
+pub returns-in-Open-clause-call : goal.returns-in-Open-clause-call
+returns-in-Open-clause-call g c =
     let less : c.args.place < c.args.self.now.gate = search rules in
-    next_told c.args.place c.args.self.now.gate less c.in-Open.entry _ _ c.in-Open.ensures.content
+    record {
+      content = next_told c.args.place c.args.self.now.gate less c.in-Open.entry _ _ c.in-Open.ensures.call.content;
+      count = search rules;
+      counts = search rules;
+      same = search rules;
+    }
 
 pub returns-in-Open-clause-mounted : goal.returns-in-Open-clause-mounted
-returns-in-Open-clause-mounted g c = still_mounted_told c.args.self.now.gate _ _ c.requires.mounted (stands_told (stood.Open c.in-Open.entry) c.args.place _ _ c.in-Open.ensures.content)
+returns-in-Open-clause-mounted g c = still_mounted_told c.args.self.now.gate _ _ c.requires.mounted (stands_told (stood.Open c.in-Open.entry) c.args.place _ _ c.in-Open.ensures.call.content)
 
-pub returns-in-Closed-clause-content : goal.returns-in-Closed-clause-content
-returns-in-Closed-clause-content g c =
+pub returns-in-Closed-clause-call : goal.returns-in-Closed-clause-call
+returns-in-Closed-clause-call g c =
     let less : c.args.place < c.args.self.now.gate = search rules in
-    closed_other_told c.args.place c.args.self.now.gate less _ _ c.in-Closed.ensures.content
+    record {
+      content = closed_other_told c.args.place c.args.self.now.gate less _ _ c.in-Closed.ensures.call.content;
+      count = search rules;
+      counts = search rules;
+      same = search rules;
+    }
 
 pub returns-in-Closed-clause-mounted : goal.returns-in-Closed-clause-mounted
-returns-in-Closed-clause-mounted g c = still_mounted_told c.args.self.now.gate _ _ c.requires.mounted (stands_told stood.Closed c.args.place _ _ c.in-Closed.ensures.content)
+returns-in-Closed-clause-mounted g c = still_mounted_told c.args.self.now.gate _ _ c.requires.mounted (stands_told stood.Closed c.args.place _ _ c.in-Closed.ensures.call.content)
 
-pub returns-in-Broken-clause-content : goal.returns-in-Broken-clause-content
-returns-in-Broken-clause-content g c =
+pub returns-in-Broken-clause-call : goal.returns-in-Broken-clause-call
+returns-in-Broken-clause-call g c =
     let less : c.args.place < c.args.self.now.gate = search rules in
-    broken_other_told c.args.place c.args.self.now.gate less _ _ c.in-Broken.ensures.content
+    record {
+      content = broken_other_told c.args.place c.args.self.now.gate less _ _ c.in-Broken.ensures.call.content;
+      count = search rules;
+      counts = search rules;
+      same = search rules;
+    }
 
 pub returns-in-Broken-clause-mounted : goal.returns-in-Broken-clause-mounted
-returns-in-Broken-clause-mounted g c = still_mounted_told c.args.self.now.gate _ _ c.requires.mounted (stands_told stood.Broken c.args.place _ _ c.in-Broken.ensures.content)
+returns-in-Broken-clause-mounted g c = still_mounted_told c.args.self.now.gate _ _ c.requires.mounted (stands_told stood.Broken c.args.place _ _ c.in-Broken.ensures.call.content)
 
-pub returns-in-Failed-clause-content : goal.returns-in-Failed-clause-content
-returns-in-Failed-clause-content g c =
+pub returns-in-Failed-clause-call : goal.returns-in-Failed-clause-call
+returns-in-Failed-clause-call g c =
     let less : c.args.place < c.args.self.now.gate = search rules in
-    failed_entry_told c.args.place c.args.self.now.gate less _ _ c.in-Failed.ensures.content
+    record {
+      content = failed_entry_told c.args.place c.args.self.now.gate less _ _ c.in-Failed.ensures.call.content;
+      count = search rules;
+      counts = search rules;
+      same = search rules;
+    }
 
 pub returns-in-Failed-clause-mounted : goal.returns-in-Failed-clause-mounted
-returns-in-Failed-clause-mounted g c = still_mounted_told c.args.self.now.gate _ _ c.requires.mounted (stands_told stood.Failed c.args.place _ _ c.in-Failed.ensures.content)
+returns-in-Failed-clause-mounted g c = still_mounted_told c.args.self.now.gate _ _ c.requires.mounted (stands_told stood.Failed c.args.place _ _ c.in-Failed.ensures.call.content)
 
-pub returns-in-OutOfMemory-clause-content : goal.returns-in-OutOfMemory-clause-content
-returns-in-OutOfMemory-clause-content g c =
+pub returns-in-OutOfMemory-clause-call : goal.returns-in-OutOfMemory-clause-call
+returns-in-OutOfMemory-clause-call g c =
     let less : c.args.place < c.args.self.now.gate = search rules in
-    unheld_entry_told c.args.place c.args.self.now.gate less _ _ c.in-OutOfMemory.ensures.content
+    record {
+      content = unheld_entry_told c.args.place c.args.self.now.gate less _ _ c.in-OutOfMemory.ensures.call.content;
+      count = search rules;
+      counts = search rules;
+      same = search rules;
+    }
 
 pub returns-in-OutOfMemory-clause-mounted : goal.returns-in-OutOfMemory-clause-mounted
-returns-in-OutOfMemory-clause-mounted g c = still_mounted_told c.args.self.now.gate _ _ c.requires.mounted (stands_told stood.OutOfMemory c.args.place _ _ c.in-OutOfMemory.ensures.content)
+returns-in-OutOfMemory-clause-mounted g c = still_mounted_told c.args.self.now.gate _ _ c.requires.mounted (stands_told stood.OutOfMemory c.args.place _ _ c.in-OutOfMemory.ensures.call.content)
