@@ -125,7 +125,7 @@ fn completed<K: Same>(
 ) -> Result<Row<K>, Refusal>
     ensures { Answers result (rows.completed 0 given.now columns.now) }
 {
-    let mut row = Row::new(alloc);
+    let mut row = Row::from_vec(Vec::with_capacity(alloc, columns.len())?);
     for (place, column) in columns.iter().enumerate() {
         row.push(value_or_null(column, value_at(given, place))?)?;
     }

@@ -120,7 +120,7 @@ fn replaced<K: Same>(
 ) -> Result<Row<K>, AllocError>
     ensures { IfOk result (λ new. new ≡ rows.replaced 0 given.now row.now) }
 {
-    let mut new = Row::new(alloc);
+    let mut new = Row::from_vec(Vec::with_capacity(alloc, row.len())?);
     for (place, atom) in row.as_slice().iter().enumerate() {
         new.push(value_at(given, place).unwrap_or(atom).copy()?)?;
     }
