@@ -12,11 +12,12 @@ use crate::sameness::Same;
 use std::alloc::{AllocError, Global};
 use std::hash::{Hash, Hasher};
 use std::marker::Model;
+use std::rc::RcSlice;
 
 /// An encrypted value, which stands for its bytes. The codec of cells and the frames alone see
-/// them; everybody else has sameness, the length and the first byte.
+/// them; everybody else has sameness, the length and the first byte. Copies share the bytes.
 pub struct Cell {
-    bytes: Vec<u8>,
+    bytes: RcSlice<u8>,
 }
 
 impl Drop for Cell {
@@ -28,7 +29,7 @@ impl Drop for Cell {
 impl Model for Cell {
     ghost Value = { List ℕ };
 
-    ghost view = { λ c. c.bytes.items };
+    ghost view = { λ c. c.bytes.items.value.items };
 }
 
 impl Cell {
@@ -37,7 +38,7 @@ impl Cell {
         ensures { IfOk result (λ cell. cell ≡ bytes.now) }
     {
         Ok(Cell {
-            bytes: Vec::from_slice(alloc, bytes)?,
+            bytes: RcSlice::from_slice(alloc, bytes)?,
         })
     }
 
@@ -66,7 +67,7 @@ impl Cell {
     pub fn is_empty(&self) -> bool
         ensures { result ≡ (length self.now == 0) }
     {
-        self.bytes.is_empty()
+        self.bytes.len() == 0
     }
 
     /// The first byte, or 0 where there is none.
