@@ -5,11 +5,11 @@ use Rattle.key_index.specs.Numbers.{number_at}
 use Rattle.key_index.proofs.Entries.{said_last}
 use Rattle.key_index.proofs.index.KeyIndex.pour.Goals as goal
 
-pub loop-atoms-preserved : goal.loop-atoms-preserved
-loop-atoms-preserved g c =
-    let h = c.loop-atoms.invariant in
+pub loop-key-preserved : goal.loop-key-preserved
+loop-key-preserved g c =
+    let h = c.loop-key.invariant in
     record {
-      so_far = λ key. h.so_far key ∙ ap (λ es. number_through (map (λ e. (e.0.items, e.1)) es) (number_at c.loop-atoms.self) key) c.in-Some.ensures.entries
-          ∙ said_last (λ v. v.items) c.pop.new.self.entries c.in-Some.atoms c.in-Some.said (number_at c.loop-atoms.self) (number_at c.say.new.self) c.say.ensures.number key;
+      so_far = λ key. h.so_far key ∙ ap (λ es. number_through es (number_at c.loop-key.self) key) c.in-Some.ensures.entries
+          ∙ said_last c.pop.new.self.entries c.in-Some.key c.in-Some.said (number_at c.loop-key.self) (number_at c.say.new.self) c.say.ensures.number key;
       room = omega (arith, h.room, c.in-Some.ensures.len, c.say.ensures.room);
     }
