@@ -52,6 +52,10 @@ pub through_same : (level : Level) (before other : Found) (key : List Atom) → 
 through_same [] before other key e = e
 through_same (l ∷ level) before other key e = ap (λ o. cond (are_alike key l.0) l.1 o) (through_same level before other key e)
 
+pub through_empty : (level : Level) (before : Found) (key : List Atom) → (0 < length level → false ≡ true) → number_through level before key ≡ before key
+through_empty [] before key none = refl
+through_empty (l ∷ level) before key none = absurd (cc (none (omega arith)))
+
 pub over_last : (before : Found) (levels : List Level) (last : Level) (key : List Atom) → number_over before (levels ++ last ∷ []) key ≡ number_through last (number_over before levels) key
 over_last before [] last key = refl
 over_last before (level ∷ levels) last key = over_last (number_through level before) levels last key

@@ -169,17 +169,29 @@ fn is_alone<K: Same>(kept: &Kept<K>, atoms: &[Kept<K>]) -> bool
 }
 
 impl<K: Same> Key<K> {
+    fn one(atom: Atom<K>) -> Key<K>
+        ensures { result ≡ atom ∷ [] }
+    {
+        Key {
+            held: Held::One(Kept { atom }),
+        }
+    }
+
+    fn many(atoms: Vec<Kept<K>>) -> Key<K>
+        ensures { result ≡ atoms.items }
+    {
+        Key {
+            held: Held::Many(atoms),
+        }
+    }
+
     /// A key of these atoms.
     pub fn copied(alloc: Global, row: &Row<K>) -> Result<Key<K>, AllocError>
         ensures { IfOk result (λ key. key ≡ row.now) }
     {
         match row.as_slice() {
-            [atom] => Ok(Key {
-                held: Held::One(Kept { atom: atom.copy()? }),
-            }),
-            atoms => Ok(Key {
-                held: Held::Many(copied_atoms(alloc, atoms)?),
-            }),
+            [atom] => Ok(Key::one(atom.copy()?)),
+            atoms => Ok(Key::many(copied_atoms(alloc, atoms)?)),
         }
     }
 
@@ -188,14 +200,8 @@ impl<K: Same> Key<K> {
         ensures { IfOk result (λ key. key ≡ key_of places.now row.now) }
     {
         match places {
-            [place] => Ok(Key {
-                held: Held::One(Kept {
-                    atom: copied_at(row, *place)?,
-                }),
-            }),
-            _ => Ok(Key {
-                held: Held::Many(copied_each(alloc, places, row)?),
-            }),
+            [place] => Ok(Key::one(copied_at(row, *place)?)),
+            _ => Ok(Key::many(copied_each(alloc, places, row)?)),
         }
     }
 
@@ -204,14 +210,8 @@ impl<K: Same> Key<K> {
         ensures { IfOk result (λ copy. copy ≡ self.now) }
     {
         match &self.held {
-            Held::One(kept) => Ok(Key {
-                held: Held::One(Kept {
-                    atom: kept.atom.copy()?,
-                }),
-            }),
-            Held::Many(atoms) => Ok(Key {
-                held: Held::Many(kept_again(alloc, atoms.as_slice())?),
-            }),
+            Held::One(kept) => Ok(Key::one(kept.atom.copy()?)),
+            Held::Many(atoms) => Ok(Key::many(kept_again(alloc, atoms.as_slice())?)),
         }
     }
 }
