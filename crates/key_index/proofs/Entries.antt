@@ -52,6 +52,10 @@ pub through_same : (level : Level) (before other : Found) (key : List Atom) → 
 through_same [] before other key e = e
 through_same (l ∷ level) before other key e = ap (λ o. cond (are_alike key l.0) l.1 o) (through_same level before other key e)
 
+pub through_empty : (level : Level) (before : Found) (key : List Atom) → (0 < length level → false ≡ true) → number_through level before key ≡ before key
+through_empty [] before key none = refl
+through_empty (l ∷ level) before key none = absurd (cc (none (omega arith)))
+
 pub over_last : (before : Found) (levels : List Level) (last : Level) (key : List Atom) → number_over before (levels ++ last ∷ []) key ≡ number_through last (number_over before levels) key
 over_last before [] last key = refl
 over_last before (level ∷ levels) last key = over_last (number_through level before) levels last key
@@ -85,107 +89,100 @@ pub nothing : (o : Option ℕ) → is_some o ≡ false → o ≡ None
 nothing None e = refl
 nothing (Some n) e = absurd (cc e)
 
--- ---- as they lie in memory
+-- ---- as a map has them
 
-module _ {V : Type 0} (items : V → List Atom) where
-  abbrev pub seen : List (V × Option ℕ) → Level
-  seen es = map (λ e. (items e.0, e.1)) es
+-- what a key is looked up as
+pub through_some : (level : Level) (before : Found) (key : List Atom) (said : Option ℕ) → lookup (are_alike key) level ≡ Some said → number_through level before key ≡ said
+through_some [] before key said l = absurd (cc l)
+through_some (e ∷ es) before key said l = by_test (are_alike key e.0) (through_some es before key said) l
+  where
+    said_of : Option (Option ℕ) → Option ℕ
+    said_of None = None
+    said_of (Some s) = s
 
-  -- what a key is looked up as
-  pub through_some : (es : List (V × Option ℕ)) (before : Found) (key : List Atom) (said : Option ℕ) → lookup (λ v. are_alike key (items v)) es ≡ Some said → number_through (seen es) before key ≡ said
-  through_some [] before key said l = absurd (cc l)
-  through_some (e ∷ es) before key said l = by_test (are_alike key (items e.0)) (through_some es before key said) l
+    by_test : (b : Bool) → (lookup (are_alike key) es ≡ Some said → number_through es before key ≡ said)
+        → cond b (Some e.1) (lookup (are_alike key) es) ≡ Some said → cond b e.1 (number_through es before key) ≡ said
+    by_test true rest l = ap said_of l
+    by_test false rest l = rest l
+
+pub through_none : (level : Level) (before : Found) (key : List Atom) → lookup (are_alike key) level ≡ None → number_through level before key ≡ before key
+through_none [] before key l = refl
+through_none (e ∷ es) before key l = by_test (are_alike key e.0) (through_none es before key) l
+  where
+    by_test : (b : Bool) → (lookup (are_alike key) es ≡ None → number_through es before key ≡ before key)
+        → cond b (Some e.1) (lookup (are_alike key) es) ≡ None → cond b e.1 (number_through es before key) ≡ before key
+    by_test true rest l = absurd (cc l)
+    by_test false rest l = rest l
+
+-- other keys are said the same of
+module _ (old new : Level) (k : List Atom) (others : KeepsOthers are_alike (are_alike k) old new) where
+  looked_same : (key : List Atom) → are_alike key k ≡ false → lookup (are_alike key) new ≡ lookup (are_alike key) old
+  unfolding KeepsOthers
+  looked_same key e =
+      others (are_alike key) (λ x y t. ap (λ x. are_alike x y) (alike_same key x t)) (λ v t. sym (ap (are_alike key) (alike_same k v t)) ∙ e)
+
+  other_same : (before : Found) (key : List Atom) → are_alike key k ≡ false → number_through new before key ≡ number_through old before key
+  other_same before key e = by_found (lookup (are_alike key) old) refl
     where
-      said_of : Option (Option ℕ) → Option ℕ
-      said_of None = None
-      said_of (Some s) = s
+      by_found : (o : Option (Option ℕ)) → lookup (are_alike key) old ≡ o → number_through new before key ≡ number_through old before key
+      by_found None l = through_none new before key (looked_same key e ∙ l) ∙ sym (through_none old before key l)
+      by_found (Some said) l = through_some new before key said (looked_same key e ∙ l) ∙ sym (through_some old before key said l)
 
-      by_test : (b : Bool) → (lookup (λ v. are_alike key (items v)) es ≡ Some said → number_through (seen es) before key ≡ said)
-          → cond b (Some e.1) (lookup (λ v. are_alike key (items v)) es) ≡ Some said → cond b e.1 (number_through (seen es) before key) ≡ said
-      by_test true rest l = ap said_of l
-      by_test false rest l = rest l
-
-  pub through_none : (es : List (V × Option ℕ)) (before : Found) (key : List Atom) → lookup (λ v. are_alike key (items v)) es ≡ None → number_through (seen es) before key ≡ before key
-  through_none [] before key l = refl
-  through_none (e ∷ es) before key l = by_test (are_alike key (items e.0)) (through_none es before key) l
+  -- one key is said something of
+  pub one_said : (said : Option ℕ) → lookup (are_alike k) new ≡ Some said
+      → (before : Found) (key : List Atom) → number_through new before key ≡ cond (are_alike key k) said (number_through old before key)
+  one_said said there before key = by_test (are_alike key k) refl
     where
-      by_test : (b : Bool) → (lookup (λ v. are_alike key (items v)) es ≡ None → number_through (seen es) before key ≡ before key)
-          → cond b (Some e.1) (lookup (λ v. are_alike key (items v)) es) ≡ None → cond b e.1 (number_through (seen es) before key) ≡ before key
-      by_test true rest l = absurd (cc l)
-      by_test false rest l = rest l
+      by_test : (b : Bool) → are_alike key k ≡ b → number_through new before key ≡ cond b said (number_through old before key)
+      by_test true e = through_some new before key said (ap (λ x. lookup (are_alike x) new) (alike_same key k e) ∙ there)
+      by_test false e = other_same before key e
 
-  -- other keys are said the same of
-  module _ (old new : List (V × Option ℕ)) (k : V) (others : KeepsOthers (λ a b. are_alike (items a) (items b)) (λ v. are_alike (items k) (items v)) old new) where
-    looked_same : (key : List Atom) → are_alike key (items k) ≡ false → lookup (λ v. are_alike key (items v)) new ≡ lookup (λ v. are_alike key (items v)) old
-    unfolding KeepsOthers
-    looked_same key e =
-        others (λ v. are_alike key (items v)) (λ x y t. ap (λ x. are_alike x (items y)) (alike_same key (items x) t)) (λ v t. sym (ap (are_alike key) (alike_same (items k) (items v) t)) ∙ e)
+  -- or nothing more, where it had no number before
+  pub one_unsaid : lookup (are_alike k) new ≡ None → (before : Found) → before k ≡ None
+      → (key : List Atom) → number_through new before key ≡ cond (are_alike key k) None (number_through old before key)
+  one_unsaid gone before none key = by_test (are_alike key k) refl
+    where
+      by_test : (b : Bool) → are_alike key k ≡ b → number_through new before key ≡ cond b None (number_through old before key)
+      by_test true e =
+          let same = alike_same key k e in
+          through_none new before key (ap (λ x. lookup (are_alike x) new) same ∙ gone) ∙ ap before same ∙ none
+      by_test false e = other_same before key e
 
-    other_same : (before : Found) (key : List Atom) → are_alike key (items k) ≡ false → number_through (seen new) before key ≡ number_through (seen old) before key
-    other_same before key e = by_found (lookup (λ v. are_alike key (items v)) old) refl
-      where
-        by_found : (o : Option (Option ℕ)) → lookup (λ v. are_alike key (items v)) old ≡ o → number_through (seen new) before key ≡ number_through (seen old) before key
-        by_found None l = through_none new before key (looked_same key e ∙ l) ∙ sym (through_none old before key l)
-        by_found (Some said) l = through_some new before key said (looked_same key e ∙ l) ∙ sym (through_some old before key said l)
+-- the last entry of a level, said before the others
+pub said_last : (level : Level) (k : List Atom) (said : Option ℕ) (before after : Found) → ((key : List Atom) → after key ≡ cond (are_alike key k) said (before key))
+    → (key : List Atom) → number_through (level ++ (k, said) ∷ []) before key ≡ number_through level after key
+said_last [] k said before after says key = sym (says key)
+said_last (e ∷ es) k said before after says key = ap (λ o. cond (are_alike key e.0) e.1 o) (said_last es k said before after says key)
 
-    -- one key is said something of
-    pub one_said : (said : Option ℕ) → lookup (λ v. are_alike (items k) (items v)) new ≡ Some said
-        → (before : Found) (key : List Atom) → number_through (seen new) before key ≡ cond (are_alike key (items k)) said (number_through (seen old) before key)
-    one_said said there before key = by_test (are_alike key (items k)) refl
-      where
-        by_test : (b : Bool) → are_alike key (items k) ≡ b → number_through (seen new) before key ≡ cond b said (number_through (seen old) before key)
-        by_test true e = through_some new before key said (ap (λ x. lookup (λ v. are_alike x (items v)) new) (alike_same key (items k) e) ∙ there)
-        by_test false e = other_same before key e
+-- a place is said again over what was said of those behind it
+pub said_again : (old new level : Level) (place : ℕ) (k atoms : List Atom) (said : Option ℕ) → Some (atoms, said) ≡ slice_get level place → k ≡ atoms
+    → KeepsOthers are_alike (are_alike k) old new → lookup (are_alike k) new ≡ Some said
+    → (before : Found) (key : List Atom) → number_through old before key ≡ number_through (drop (place + 1) level) before key
+    → number_through new before key ≡ number_through (drop place level) before key
+said_again old new level place k atoms said got same others there before key is =
+    one_said old new k others said there before key
+    ∙ ap (λ o. cond (are_alike key k) said o) is
+    ∙ ap (λ x. cond (are_alike key x) said (number_through (drop (place + 1) level) before key)) same
+    ∙ sym (ap (λ es. number_through es before key) (drop_got level place (atoms, said) got))
 
-    -- or nothing more, where it had no number before
-    pub one_unsaid : lookup (λ v. are_alike (items k) (items v)) new ≡ None → (before : Found) → before (items k) ≡ None
-        → (key : List Atom) → number_through (seen new) before key ≡ cond (are_alike key (items k)) None (number_through (seen old) before key)
-    one_unsaid gone before none key = by_test (are_alike key (items k)) refl
-      where
-        by_test : (b : Bool) → are_alike key (items k) ≡ b → number_through (seen new) before key ≡ cond b None (number_through (seen old) before key)
-        by_test true e =
-            let same = alike_same key (items k) e in
-            through_none new before key (ap (λ x. lookup (λ v. are_alike x (items v)) new) same ∙ gone) ∙ ap before same ∙ none
-        by_test false e = other_same before key e
+module _ {L : Type 0} (level_of : L → Level) where
+  last_under : (below : List L) (level : L) (key : List Atom) → number_under (map level_of (below ++ level ∷ [])) key ≡ number_through (level_of level) (number_under (map level_of below)) key
+  last_under below level key = ap (λ ls. number_under ls key) (map-push level_of below level) ∙ over_last (λ k. None) (map level_of below) (level_of level) key
 
-  -- the last entry of a level, said before the others
-  pub said_last : (es : List (V × Option ℕ)) (k : V) (said : Option ℕ) (before after : Found) → ((key : List Atom) → after key ≡ cond (are_alike key (items k)) said (before key))
-      → (key : List Atom) → number_through (seen (es ++ (k, said) ∷ [])) before key ≡ number_through (seen es) after key
-  said_last [] k said before after says key = sym (says key)
-  said_last (e ∷ es) k said before after says key = ap (λ o. cond (are_alike key (items e.0)) e.1 o) (said_last es k said before after says key)
+  -- the top becomes the newest of the levels below
+  pub sealed : (top top' : Level) (below below' : List L) (level : L) → top' ≡ [] → below' ≡ below ++ level ∷ [] → level_of level ≡ top
+      → (key : List Atom) → number_through top' (number_under (map level_of below')) key ≡ number_through top (number_under (map level_of below)) key
+  sealed top top' below below' level e n is key =
+      ap (λ t. number_through t (number_under (map level_of below')) key) e ∙ ap (λ ls. number_under (map level_of ls) key) n ∙ last_under below level key
+      ∙ ap (λ t. number_through t (number_under (map level_of below)) key) is
 
-  -- a place is said again over what was said of those behind it
-  pub said_again : (old new level : List (V × Option ℕ)) (place : ℕ) (k atoms : V) (said : Option ℕ) → Some (atoms, said) ≡ slice_get level place → items k ≡ items atoms
-      → KeepsOthers (λ a b. are_alike (items a) (items b)) (λ v. are_alike (items k) (items v)) old new → lookup (λ v. are_alike (items k) (items v)) new ≡ Some said
-      → (before : Found) (key : List Atom) → number_through (seen old) before key ≡ number_through (seen (drop (place + 1) level)) before key
-      → number_through (seen new) before key ≡ number_through (seen (drop place level)) before key
-  said_again old new level place k atoms said got same others there before key is =
-      one_said old new k others said there before key
-      ∙ ap (λ o. cond (are_alike key (items k)) said o) is
-      ∙ ap (λ x. cond (are_alike key x) said (number_through (seen (drop (place + 1) level)) before key)) same
-      ∙ sym (ap (λ es. number_through (seen es) before key) (drop_got level place (atoms, said) got))
-
-  module _ {L : Type 0} (level_of : L → List (V × Option ℕ)) where
-    abbrev levels_of : List L → List Level
-    levels_of ls = map (λ l. seen (level_of l)) ls
-
-    last_under : (below : List L) (level : L) (key : List Atom) → number_under (levels_of (below ++ level ∷ [])) key ≡ number_through (seen (level_of level)) (number_under (levels_of below)) key
-    last_under below level key = ap (λ ls. number_under ls key) (map-push (λ l. seen (level_of l)) below level) ∙ over_last (λ k. None) (levels_of below) (seen (level_of level)) key
-
-    -- the top becomes the newest of the levels below
-    pub sealed : (top top' : List (V × Option ℕ)) (below below' : List L) (level : L) → top' ≡ [] → below' ≡ below ++ level ∷ [] → level_of level ≡ top
-        → (key : List Atom) → number_through (seen top') (number_under (levels_of below')) key ≡ number_through (seen top) (number_under (levels_of below)) key
-    sealed top top' below below' level e n is key =
-        ap (λ t. number_through (seen t) (number_under (levels_of below')) key) e ∙ ap (λ ls. number_under (levels_of ls) key) n ∙ last_under below level key
-        ∙ ap (λ t. number_through (seen t) (number_under (levels_of below)) key) is
-
-    -- the newest of them becomes the top, under what stood on it
-    pub taken_up : (top said top' : List (V × Option ℕ)) (below below' : List L) (level : L) → said ≡ top → top' ≡ level_of level → below ≡ below' ++ level ∷ []
-        → (key : List Atom) → number_through (seen said) (number_through (seen top') (number_under (levels_of below'))) key ≡ number_through (seen top) (number_under (levels_of below)) key
-    taken_up top said top' below below' level s t b key =
-        ap (λ es. number_through (seen es) (number_through (seen top') (number_under (levels_of below'))) key) s
-        ∙ through_same (seen top) (number_through (seen top') (number_under (levels_of below'))) (number_under (levels_of below)) key
-        (ap (λ es. number_through (seen es) (number_under (levels_of below')) key) t ∙ sym (ap (λ ls. number_under (levels_of ls) key) b ∙ last_under below' level key))
+  -- the newest of them becomes the top, under what stood on it
+  pub taken_up : (top said top' : Level) (below below' : List L) (level : L) → said ≡ top → top' ≡ level_of level → below ≡ below' ++ level ∷ []
+      → (key : List Atom) → number_through said (number_through top' (number_under (map level_of below'))) key ≡ number_through top (number_under (map level_of below)) key
+  taken_up top said top' below below' level s t b key =
+      ap (λ es. number_through es (number_through top' (number_under (map level_of below'))) key) s
+      ∙ through_same top (number_through top' (number_under (map level_of below'))) (number_under (map level_of below)) key
+      (ap (λ es. number_through es (number_under (map level_of below')) key) t ∙ sym (ap (λ ls. number_under (map level_of ls) key) b ∙ last_under below' level key))
 
 -- ---- one key after another
 

@@ -1,3 +1,4 @@
+pub mod Holding
 pub mod Levels
 pub mod Lookups
 pub mod Numbers

@@ -38,8 +38,8 @@ impl<K: Same> Model for KeyIndex<K> {
     ghost Value = { Keyed };
 
     ghost view = { λ i. record {
-      top = map (λ e. (e.0.items, e.1)) i.top.entries;
-      below = map (λ level. map (λ e. (e.0.items, e.1)) level.value.entries) i.below.items;
+      top = i.top.entries;
+      below = map (λ level. level.value.entries) i.below.items;
       spare = spare i.top;
     } };
 }
@@ -77,8 +77,7 @@ impl<K: Same> KeyIndex<K> {
         ensures number { HasNumber self.old self.new key (Some number) }
         ensures room { self.old.spare ≤ self.new.spare + 1 }
     {
-        let Key { atoms } = key;
-        match self.top.insert(atoms, Some(number)) {
+        match self.top.insert(key, Some(number)) {
             Ok(_) => {}
             Err(_) => unreachable!(),
         }
@@ -91,12 +90,11 @@ impl<K: Same> KeyIndex<K> {
         ensures room { self.old.spare ≤ self.new.spare + 1 }
     {
         let is_below = number_below(self.below.as_slice(), &key).is_some();
-        let Key { atoms } = key;
         if !is_below {
-            let _ = self.top.swap_remove(&atoms);
+            let _ = self.top.swap_remove(&key);
             return;
         }
-        match self.top.insert(atoms, None) {
+        match self.top.insert(key, None) {
             Ok(_) => {}
             Err(_) => unreachable!(),
         }
@@ -188,11 +186,11 @@ impl<K: Same> KeyIndex<K> {
     fn pour(&mut self, level: Level<K>)
         requires { index_map_len level ≤ self.old.spare }
         ensures { (key : List Atom) → number_at self.new key
-            ≡ number_through (map (λ e. (e.0.items, e.1)) level.entries) (number_at self.old) key }
+            ≡ number_through level.entries (number_at self.old) key }
     {
         let mut level = level;
-        while let Some((atoms, said)) = level.pop() {
-            self.say(Key { atoms }, said);
+        while let Some((key, said)) = level.pop() {
+            self.say(key, said);
         }
         level.destroy_empty();
     }

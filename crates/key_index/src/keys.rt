@@ -1,8 +1,8 @@
 //! Keys: copies of a row's atoms in some columns.
 
-ghost use Rattle.std.specs.Prelude.{◌≡◌, IfOk};
+ghost use Rattle.std.specs.Prelude.{◌≡◌, [], ◌∷◌, IfOk};
 ghost use Rattle.scalar.specs.Eval.{atom_at};
-ghost use Rattle.operators.specs.Alike.{key_of};
+ghost use Rattle.operators.specs.Alike.{are_alike, key_of};
 
 use ae_base::atoms::{Atom, AtomOf, Row};
 use ae_base::lists::Duplicate;
@@ -13,7 +13,7 @@ use std::hash::{Hash, Hasher};
 use std::marker::Model;
 
 /// An atom of its own, compared as unique keys do: NULL is like NULL.
-pub(crate) struct Kept<K: Same> {
+struct Kept<K: Same> {
     atom: Atom<K>,
 }
 
@@ -68,43 +68,151 @@ impl<K: Same> Hash for Kept<K> {
     }
 }
 
+/// The atoms of a key. One lies in the key itself, and takes no memory beside it.
+enum Held<K: Same> {
+    One(Kept<K>),
+    Many(Vec<Kept<K>>),
+}
+
+impl<K: Same> Drop for Held<K> {
+    fn drop(self) {
+        match self {
+            Held::One(_) => {}
+            Held::Many(_) => {}
+        }
+    }
+}
+
 /// What a row has in the columns of a key.
-#[derive(Drop)]
 pub struct Key<K: Same> {
-    pub(crate) atoms: Vec<Kept<K>>,
+    held: Held<K>,
+}
+
+impl<K: Same> Drop for Key<K> {
+    fn drop(self) {
+        let Key { held: _ } = self;
+    }
 }
 
 impl<K: Same> Model for Key<K> {
     ghost use Rattle.std.specs.Prelude.{List, ℕ};
     ghost use Rattle.ae_base.specs.declared.atoms.AtomOf.{AtomOf};
+    ghost use Rattle.key_index.specs.Holding.{atoms_of};
 
     ghost Value = { List (AtomOf (List ℕ)) };
 
-    ghost view = { λ k. k.atoms.items };
+    ghost view = { λ k. atoms_of k.held };
+}
+
+impl<K: Same> PartialEq for Key<K> {
+    ghost use Rattle.ae_base.specs.Atoms.{alike};
+    ghost use Rattle.operators.specs.Alike.{are_alike};
+    ghost use Rattle.operators.specs.AlikeLaws.{alike-Decides};
+    ghost use Rattle.std.specs.Cmp.{partial_equiv_from_equiv, decided};
+    ghost use Rattle.std.specs.Cmp.Lexicographic.{lists_per};
+
+    ghost eq = { are_alike };
+
+    ghost laws = { lists_per (partial_equiv_from_equiv (decided alike alike-Decides)) };
+
+    fn eq(&self, other: &Key<K>) -> bool {
+        match (&self.held, &other.held) {
+            (Held::One(a), Held::One(b)) => *a == *b,
+            (Held::One(a), Held::Many(b)) => is_alone(a, b.as_slice()),
+            (Held::Many(a), Held::One(b)) => is_alone(b, a.as_slice()),
+            (Held::Many(a), Held::Many(b)) => *a == *b,
+        }
+    }
+}
+
+impl<K: Same> Eq for Key<K> {
+    ghost use Rattle.ae_base.specs.Atoms.{alike};
+    ghost use Rattle.operators.specs.AlikeLaws.{alike-Decides};
+    ghost use Rattle.std.specs.Cmp.{decided};
+    ghost use Rattle.std.specs.Cmp.Lexicographic.{lists_equiv};
+
+    ghost laws = { lists_equiv (decided alike alike-Decides) };
+}
+
+impl<K: Same> Hash for Key<K> {
+    ghost use Rattle.std.proofs.Common.{ap};
+    ghost use Rattle.std.specs.Hash as fed;
+    ghost use Rattle.std.specs.Hash.{items_Alike};
+    ghost use Rattle.operators.specs.AlikeLaws.{alike-Decides};
+    ghost use Rattle.operators.specs.Hashed.{atom_fed};
+
+    ghost hash_input = { fed.slice (atom_fed K.fed) };
+
+    ghost respects_eq = { (items_Alike (record {
+      fed = λ a b h. ap (atom_fed K.fed) ((alike-Decides a b).0 h);
+    })).fed };
+
+    fn hash<H: Hasher>(&self, state: &mut H) {
+        match &self.held {
+            Held::One(kept) => {
+                state.write_usize(1);
+                kept.hash(state);
+            }
+            Held::Many(atoms) => atoms.hash(state),
+        }
+    }
+}
+
+/// Whether there is one atom alone, and it is like this one.
+fn is_alone<K: Same>(kept: &Kept<K>, atoms: &[Kept<K>]) -> bool
+    ensures { result ≡ are_alike (kept.now ∷ []) atoms.now }
+{
+    match atoms {
+        [atom] => *kept == *atom,
+        _ => false,
+    }
 }
 
 impl<K: Same> Key<K> {
+    fn one(atom: Atom<K>) -> Key<K>
+        ensures { result ≡ atom ∷ [] }
+    {
+        Key {
+            held: Held::One(Kept { atom }),
+        }
+    }
+
+    fn many(atoms: Vec<Kept<K>>) -> Key<K>
+        ensures { result ≡ atoms.items }
+    {
+        Key {
+            held: Held::Many(atoms),
+        }
+    }
+
     /// A key of these atoms.
     pub fn copied(alloc: Global, row: &Row<K>) -> Result<Key<K>, AllocError>
         ensures { IfOk result (λ key. key ≡ row.now) }
     {
-        let mut atoms = Vec::with_capacity(alloc, row.len())?;
-        for atom in row.as_slice() {
-            atoms.push(Kept { atom: atom.copy()? })?;
+        match row.as_slice() {
+            [atom] => Ok(Key::one(atom.copy()?)),
+            atoms => Ok(Key::many(copied_atoms(alloc, atoms)?)),
         }
-        Ok(Key { atoms })
     }
 
     /// What a row has in the columns of these places, with NULL for one that it hasn't.
     pub fn of_row(alloc: Global, places: &[usize], row: &Row<K>) -> Result<Key<K>, AllocError>
         ensures { IfOk result (λ key. key ≡ key_of places.now row.now) }
     {
-        let mut atoms = Vec::with_capacity(alloc, places.len())?;
-        for place in places {
-            let atom = copied_at(row, *place)?;
-            atoms.push(Kept { atom })?;
+        match places {
+            [place] => Ok(Key::one(copied_at(row, *place)?)),
+            _ => Ok(Key::many(copied_each(alloc, places, row)?)),
         }
-        Ok(Key { atoms })
+    }
+
+    /// A key of its own with the same atoms.
+    pub(crate) fn copy(&self, alloc: Global) -> Result<Key<K>, AllocError>
+        ensures { IfOk result (λ copy. copy ≡ self.now) }
+    {
+        match &self.held {
+            Held::One(kept) => Ok(Key::one(kept.atom.copy()?)),
+            Held::Many(atoms) => Ok(Key::many(kept_again(alloc, atoms.as_slice())?)),
+        }
     }
 }
 
@@ -118,15 +226,39 @@ fn copied_at<K: Same>(row: &Row<K>, place: usize) -> Result<Atom<K>, AllocError>
     }
 }
 
-/// A copy of the atoms of a key.
-pub(crate) fn copied_atoms<K: Same>(
+/// Copies of the atoms at these places of a row, with NULL for one that it hasn't.
+fn copied_each<K: Same>(
     alloc: Global,
-    atoms: &Vec<Kept<K>>,
+    places: &[usize],
+    row: &Row<K>,
 ) -> Result<Vec<Kept<K>>, AllocError>
-    ensures { IfOk result (λ copy. copy.items ≡ atoms.now.items) }
+    ensures { IfOk result (λ atoms. atoms.items ≡ key_of places.now row.now) }
+{
+    let mut atoms = Vec::with_capacity(alloc, places.len())?;
+    for place in places {
+        let atom = copied_at(row, *place)?;
+        atoms.push(Kept { atom })?;
+    }
+    Ok(atoms)
+}
+
+/// Copies of the atoms of a row.
+fn copied_atoms<K: Same>(alloc: Global, row: &[Atom<K>]) -> Result<Vec<Kept<K>>, AllocError>
+    ensures { IfOk result (λ atoms. atoms.items ≡ row.now) }
+{
+    let mut atoms = Vec::with_capacity(alloc, row.len())?;
+    for atom in row {
+        atoms.push(Kept { atom: atom.copy()? })?;
+    }
+    Ok(atoms)
+}
+
+/// Copies of the atoms of a key.
+fn kept_again<K: Same>(alloc: Global, atoms: &[Kept<K>]) -> Result<Vec<Kept<K>>, AllocError>
+    ensures { IfOk result (λ copy. copy.items ≡ atoms.now) }
 {
     let mut copy = Vec::with_capacity(alloc, atoms.len())?;
-    for kept in atoms.as_slice() {
+    for kept in atoms {
         copy.push(Kept {
             atom: kept.atom.copy()?,
         })?;

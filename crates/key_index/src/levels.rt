@@ -5,14 +5,14 @@ ghost use Rattle.indexmap.specs.IndexMap.{spare};
 ghost use Rattle.ae_base.specs.Atoms.{Atom};
 ghost use Rattle.key_index.specs.Levels.{number_through, number_under};
 
-use crate::keys::{Kept, Key, copied_atoms};
+use crate::keys::Key;
 use ae_base::sameness::Same;
 use indexmap::IndexMap;
 use std::alloc::{AllocError, Global};
 use std::rc::Rc;
 
 /// Keys, each with the number of its row, or with none from then on.
-pub(crate) type Level<K> = IndexMap<Vec<Kept<K>>, Option<usize>>;
+pub(crate) type Level<K> = IndexMap<Key<K>, Option<usize>>;
 
 /// The number of a key by what a level says, or else the one that it had before.
 pub(crate) fn number_by<K: Same>(
@@ -21,9 +21,9 @@ pub(crate) fn number_by<K: Same>(
     before: Option<usize>,
 ) -> Option<usize>
     ensures { (found : List Atom → Option ℕ) → before ≡ found key.now
-        → result ≡ number_through (map (λ e. (e.0.items, e.1)) level.now.entries) found key.now }
+        → result ≡ number_through level.now.entries found key.now }
 {
-    match level.get(&key.atoms) {
+    match level.get(key) {
         Some(said) => *said,
         None => before,
     }
@@ -31,8 +31,7 @@ pub(crate) fn number_by<K: Same>(
 
 /// The number of a key by levels, the oldest first.
 pub(crate) fn number_below<K: Same>(below: &[Rc<Level<K>>], key: &Key<K>) -> Option<usize>
-    ensures { result ≡ number_under
-        (map (λ level. map (λ e. (e.0.items, e.1)) level.value.entries) below.now) key.now }
+    ensures { result ≡ number_under (map (λ level. level.value.entries) below.now) key.now }
 {
     let mut found = None;
     for level in below {
@@ -57,11 +56,8 @@ pub(crate) fn shared<K: Same>(
     alloc: Global,
     levels: &[Rc<Level<K>>],
 ) -> Result<Vec<Rc<Level<K>>>, AllocError>
-    ensures { IfOk result (λ copy.
-        map (λ level. map {B = List Atom × Option ℕ} (λ e. (e.0.items, e.1)) level.value.entries)
-        copy.items
-        ≡ map (λ level. map {B = List Atom × Option ℕ} (λ e. (e.0.items, e.1)) level.value.entries)
-        levels.now) }
+    ensures { IfOk result (λ copy. map (λ level. level.value.entries) copy.items
+        ≡ map (λ level. level.value.entries) levels.now) }
 {
     let mut copy = Vec::with_capacity(alloc, levels.len())?;
     for level in levels {
@@ -73,8 +69,8 @@ pub(crate) fn shared<K: Same>(
 /// A level that says the same.
 pub(crate) fn copied<K: Same>(alloc: Global, level: &Level<K>) -> Result<Level<K>, AllocError>
     ensures { IfOk result (λ copy. (before : List Atom → Option ℕ) (key : List Atom)
-        → number_through (map (λ e. (e.0.items, e.1)) copy.entries) before key
-        ≡ number_through (map (λ e. (e.0.items, e.1)) level.now.entries) before key) }
+        → number_through copy.entries before key
+        ≡ number_through level.now.entries before key) }
 {
     let mut copy = IndexMap::with_capacity(alloc, level.len())?;
     for i in 0..level.len() {
@@ -92,15 +88,14 @@ fn say_again<K: Same>(
 ) -> Result<(), AllocError>
     requires { place < length level.now.entries }
     ensures { OnOk result ((before : List Atom → Option ℕ) (key : List Atom)
-        → number_through (map (λ e. (e.0.items, e.1)) copy.old.entries) before key
-        ≡ number_through (map (λ e. (e.0.items, e.1)) (drop (place + 1) level.now.entries)) before
-        key
-        → number_through (map (λ e. (e.0.items, e.1)) copy.new.entries) before key
-        ≡ number_through (map (λ e. (e.0.items, e.1)) (drop place level.now.entries)) before key) }
+        → number_through copy.old.entries before key
+        ≡ number_through (drop (place + 1) level.now.entries) before key
+        → number_through copy.new.entries before key
+        ≡ number_through (drop place level.now.entries) before key) }
 {
-    let Some((atoms, said)) = level.get_index(place) else {
+    let Some((key, said)) = level.get_index(place) else {
         unreachable!()
     };
-    copy.insert(copied_atoms(alloc, atoms)?, *said)?;
+    copy.insert(key.copy(alloc)?, *said)?;
     Ok(())
 }

@@ -7,7 +7,7 @@ ghost use Rattle.row_store.specs.Numbers.{AreRising};
 ghost use Rattle.key_index.specs.Lookups.{first_alike, is_among, is_known, looked_up};
 
 use crate::index::KeyIndex;
-use crate::keys::{Kept, Key};
+use crate::keys::Key;
 use ae_base::sameness::Same;
 use counting::Steps;
 use indexmap::IndexSet;
@@ -18,7 +18,7 @@ use std::sync::ledger::{Blank, Ledger};
 /// Keys that were seen, found again by their hash.
 #[derive(Drop)]
 struct Seen<'a, K: Same> {
-    keys: IndexSet<&'a Vec<Kept<K>>>,
+    keys: IndexSet<&'a Key<K>>,
 }
 
 impl<'a, K: Same> Model for Seen<'a, K> {
@@ -27,7 +27,7 @@ impl<'a, K: Same> Model for Seen<'a, K> {
 
     ghost Value = { List (List (AtomOf (List ℕ))) };
 
-    ghost view = { λ s. map (λ key. key.now.items) s.keys.keys };
+    ghost view = { λ s. map (λ key. key.now) s.keys.keys };
 }
 
 impl<'a, K: Same> Seen<'a, K> {
@@ -44,7 +44,7 @@ impl<'a, K: Same> Seen<'a, K> {
         ensures fresh { IfOk result (λ fresh. fresh ≡ not (list_any (are_alike key.now) self.old)) }
         ensures noted { IfOk result (λ fresh. fresh ≡ true → self.new ≡ self.old ++ key.now ∷ []) }
     {
-        Ok(self.keys.insert(&key.atoms)?)
+        Ok(self.keys.insert(key)?)
     }
 }
 

@@ -2,5 +2,5 @@
 use Rattle.std.proofs.Common.{◌≡◌, take}
 use Rattle.key_index.proofs.keys.copied_atoms.Given as goal
 
-abbrev pub invariant-loop-kept : goal.invariant-loop-kept
-invariant-loop-kept g l = l.copy.items ≡ take l.kept-index l.atoms.items
+abbrev pub invariant-loop-atom : goal.invariant-loop-atom
+invariant-loop-atom g l = l.atoms.items ≡ take l.atom-index l.row

@@ -6,4 +6,4 @@ use Rattle.key_index.proofs.levels.copied.Given as goal
 
 abbrev pub invariant-loop-i : goal.invariant-loop-i
 invariant-loop-i g l = (before : List Atom → Option ℕ) (key : List Atom)
-    → number_through (map (λ e. (e.0.items, e.1)) l.copy.entries) before key ≡ number_through (map (λ e. (e.0.items, e.1)) (drop (length l.level.entries - l.i) l.level.entries)) before key
+    → number_through l.copy.entries before key ≡ number_through (drop (length l.level.entries - l.i) l.level.entries) before key

@@ -6,6 +6,6 @@ use Rattle.key_index.proofs.levels.number_below.Goals as goal
 
 pub loop-level-preserved : goal.loop-level-preserved
 loop-level-preserved g c =
-    under_more (λ level. map (λ e. (e.0.items, e.1)) level.value.entries) c.args.below.now c.loop-level.level-index
+    under_more (λ level. level.value.entries) c.args.below.now c.loop-level.level-index
     c.level-item.result c.args.key.now c.loop-level.found c.number_by-found.result c.loop-level-test.true c.level-item.is c.loop-level.invariant
-    (λ before e. c.number_by-found.ensures before e ∙ ap (λ m. number_through (map (λ e. (e.0.items, e.1)) m.entries) before c.args.key.now) c.as_ref.ensures)
+    (λ before e. c.number_by-found.ensures before e ∙ ap (λ m. number_through m.entries before c.args.key.now) c.as_ref.ensures)

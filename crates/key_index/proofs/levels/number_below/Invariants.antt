@@ -4,4 +4,4 @@ use Rattle.key_index.specs.Levels.{number_under}
 use Rattle.key_index.proofs.levels.number_below.Given as goal
 
 abbrev pub invariant-loop-level : goal.invariant-loop-level
-invariant-loop-level g l = l.found ≡ number_under (map (λ level. map (λ e. (e.0.items, e.1)) level.value.entries) (take l.level-index l.below)) l.key
+invariant-loop-level g l = l.found ≡ number_under (map (λ level. level.value.entries) (take l.level-index l.below)) l.key

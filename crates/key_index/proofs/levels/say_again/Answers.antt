@@ -5,5 +5,5 @@ use Rattle.key_index.proofs.levels.say_again.Goals as goal
 pub returns : goal.returns
 returns g c =
     let u = c.in_ok-insert.ensures.updates in
-    said_again (λ v. v.items) c.args.copy.now.entries c.insert.new.self.entries c.args.level.now.entries
-    c.args.place c.in_ok-copied_atoms.field-0 c.in-Some.atoms.now c.in-Some.said.now c.in-Some.ensures.entry c.in_ok-copied_atoms.ensures u.3 u.1
+    said_again c.args.copy.now.entries c.insert.new.self.entries c.args.level.now.entries
+    c.args.place c.in_ok-copy.field-0 c.in-Some.key.now c.in-Some.said.now c.in-Some.ensures.entry c.in_ok-copy.ensures u.3 u.1

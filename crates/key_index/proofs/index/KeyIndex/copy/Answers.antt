@@ -6,7 +6,7 @@ use Rattle.key_index.proofs.index.KeyIndex.copy.Goals as goal
 
 pub returns : goal.returns
 returns g c = λ key.
-    c.in_ok-copied.ensures (number_under (map (λ level. map (λ e. (e.0.items, e.1)) level.value.entries) c.in_ok-shared.field-0.items)) key
-    ∙ ap (λ ls. number_through (map (λ e. (e.0.items, e.1)) c.self.inside.top.entries) (number_under ls) key)
-    (c.in_ok-shared.ensures ∙ ap (map (λ level. map (λ e. (e.0.items, e.1)) level.value.entries)) c.as_slice.ensures.value)
+    c.in_ok-copied.ensures (number_under (map (λ level. level.value.entries) c.in_ok-shared.field-0.items)) key
+    ∙ ap (λ ls. number_through c.self.inside.top.entries (number_under ls) key)
+    (c.in_ok-shared.ensures ∙ ap (map (λ level. level.value.entries)) c.as_slice.ensures.value)
     ∙ ap (λ v. number_at v key) c.self.view_is

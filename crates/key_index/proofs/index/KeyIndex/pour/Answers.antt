@@ -1,15 +1,18 @@
--- The last entry is said again.
-use Rattle.std.proofs.Common.{map, ap, arith, ◌∙◌}
+-- The last entry is said again, until none is left.
+use Rattle.std.proofs.Common.{ap, sym, arith, ◌∙◌}
 use Rattle.key_index.specs.Levels.{number_through}
 use Rattle.key_index.specs.Numbers.{number_at}
-use Rattle.key_index.proofs.Entries.{said_last}
+use Rattle.key_index.proofs.Entries.{said_last, through_empty}
 use Rattle.key_index.proofs.index.KeyIndex.pour.Goals as goal
 
-pub loop-atoms-preserved : goal.loop-atoms-preserved
-loop-atoms-preserved g c =
-    let h = c.loop-atoms.invariant in
+pub loop-key-preserved : goal.loop-key-preserved
+loop-key-preserved g c =
+    let h = c.loop-key.invariant in
     record {
-      so_far = λ key. h.so_far key ∙ ap (λ es. number_through (map (λ e. (e.0.items, e.1)) es) (number_at c.loop-atoms.self) key) c.in-Some.ensures.entries
-          ∙ said_last (λ v. v.items) c.pop.new.self.entries c.in-Some.atoms c.in-Some.said (number_at c.loop-atoms.self) (number_at c.say.new.self) c.say.ensures.number key;
+      so_far = λ key. h.so_far key ∙ ap (λ es. number_through es (number_at c.loop-key.self) key) c.in-Some.ensures.entries
+          ∙ said_last c.pop.new.self.entries c.in-Some.key c.in-Some.said (number_at c.loop-key.self) (number_at c.say.new.self) c.say.ensures.number key;
       room = omega (arith, h.room, c.in-Some.ensures.len, c.say.ensures.room);
     }
+
+pub returns : goal.returns
+returns g c = λ key. sym (c.loop-key.invariant.so_far key ∙ through_empty c.loop-key.level.entries (number_at c.loop-key.self) key c.in_default.ensures.found.1)

@@ -7,6 +7,6 @@ use Rattle.key_index.proofs.index.KeyIndex.put.Goals as goal
 pub returns-clause-number : goal.returns-clause-number
 returns-clause-number g c =
     let u = c.in-Ok.ensures.updates in
-    rw (← c.self.view_is, ← c.key.view_is)
-    (one_said (λ v. v.items) c.self.inside.top.entries c.insert.new.self.entries c.key.inside.atoms u.3 (Some c.args.number) u.1
-    (number_under (map (λ l. map (λ e. (e.0.items, e.1)) l.value.entries) c.self.inside.below.items)))
+    rw (← c.self.view_is)
+    (one_said c.self.inside.top.entries c.insert.new.self.entries c.args.key u.3 (Some c.args.number) u.1
+    (number_under (map (λ l. l.value.entries) c.self.inside.below.items)))

@@ -6,5 +6,5 @@ use Rattle.key_index.proofs.lookups.Seen.note.Goals as goal
 
 pub returns-clause-fresh : goal.returns-clause-fresh
 returns-clause-fresh g c =
-    rw (← c.key.view_is, ← c.self.view_is)
-    (c.in_ok-insert.ensures.added ∙ ap not (sym (any-map (are_alike c.key.inside.atoms.items) (λ key. key.now.items) c.self.inside.keys.keys)))
+    rw (← c.self.view_is)
+    (c.in_ok-insert.ensures.added ∙ ap not (sym (any-map (are_alike c.args.key.now) (λ key. key.now) c.self.inside.keys.keys)))

@@ -1,6 +1,6 @@
 -- The atom of the next place.
 use Rattle.key_index.proofs.Cutting.{key_more}
-use Rattle.key_index.proofs.keys.Key.of_row.Goals as goal
+use Rattle.key_index.proofs.keys.copied_each.Goals as goal
 
 pub loop-place-preserved : goal.loop-place-preserved
 loop-place-preserved g c =
