@@ -35,10 +35,9 @@ use Rattle.std.specs.List.{list_any}
 use Rattle.std.specs.Map.{KeepsOthers, lookup}
 use Rattle.std.proofs.lemmas.Bool.{or_parts}
 use Rattle.std.proofs.lemmas.List.{take_more, drop_more}
-use Rattle.std.proofs.lemmas.List.Folds.{list_any-append}
 use Rattle.ae_base.specs.Atoms.{Atom}
 use Rattle.operators.specs.Alike.{are_alike}
-use Rattle.operators.proofs.Interface.{alike_same, drop_there, map-push}
+use Rattle.operators.proofs.Interface.{alike_same, map-push}
 use Rattle.key_index.specs.Levels.{Level, number_through, number_over, number_under}
 use Rattle.key_index.specs.Numbers.{put_in, taken_out}
 

@@ -1,5 +1,5 @@
 -- The last entries are said again.
-use Rattle.std.proofs.Common.{◌≡◌, ◌-◌, List, ℕ, Option, drop, length, map}
+use Rattle.std.proofs.Common.{◌≡◌, ◌-◌, List, ℕ, Option, drop, length}
 use Rattle.ae_base.specs.Atoms.{Atom}
 use Rattle.key_index.specs.Levels.{number_through}
 use Rattle.key_index.proofs.levels.copied.Given as goal

@@ -1,5 +1,5 @@
 -- One level more.
-use Rattle.std.proofs.Common.{map, ap, ◌∙◌}
+use Rattle.std.proofs.Common.{ap, ◌∙◌}
 use Rattle.key_index.specs.Levels.{number_through}
 use Rattle.key_index.proofs.Entries.{under_more}
 use Rattle.key_index.proofs.levels.number_below.Goals as goal

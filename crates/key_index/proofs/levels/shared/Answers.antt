@@ -1,6 +1,5 @@
 -- One level more.
-use Rattle.std.proofs.Common.{List, ℕ, Option, map, ap}
-use Rattle.ae_base.specs.Atoms.{Atom}
+use Rattle.std.proofs.Common.{ap}
 use Rattle.key_index.proofs.Entries.{map_more}
 use Rattle.key_index.proofs.levels.shared.Goals as goal
 

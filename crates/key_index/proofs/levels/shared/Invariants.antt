@@ -1,6 +1,5 @@
 -- The levels so far.
-use Rattle.std.proofs.Common.{◌≡◌, List, ℕ, Option, map, take}
-use Rattle.ae_base.specs.Atoms.{Atom}
+use Rattle.std.proofs.Common.{◌≡◌, map, take}
 use Rattle.key_index.proofs.levels.shared.Given as goal
 
 abbrev pub invariant-loop-level : goal.invariant-loop-level

@@ -1,5 +1,5 @@
 -- What is left of the level is said over what was said again.
-use Rattle.std.proofs.Common.{◌≡◌, ◌+◌, ◌≤◌, List, map}
+use Rattle.std.proofs.Common.{◌≡◌, ◌≤◌, List}
 use Rattle.indexmap.specs.IndexMap.{index_map_len}
 use Rattle.ae_base.specs.Atoms.{Atom}
 use Rattle.key_index.specs.Levels.{number_through}
