@@ -1,4 +1,5 @@
 mod Among
+mod Beginning
 mod Changing
 mod Exchanging
 mod Keeping
