@@ -1,7 +1,9 @@
--- A request that is asked behind those of others, whole or in part; and what is heard of the replies to it.
-use Rattle.std.proofs.Common.{◌≡◌, ℕ, List, [], ◌∷◌, ◌++◌, Option, None, refl, sym, ◌∙◌, ap, subst, append-nil, arith, inl, inr}
+-- A request that is asked behind those of others, whole or in part.
+use Rattle.std.proofs.Common.{◌≡◌, ℕ, List, [], ◌∷◌, ◌++◌, Option, None, Result, Ok, Err, refl, sym, subst, append-nil, arith, inl, inr}
 use Rattle.std.specs.Borrow.{GName}
-use Rattle.ae_edge.specs.Devices.{WhereExposed, Adds, AddsPrefix}
+use Rattle.ae_edge.specs.Devices.{WhereExposed, Adds, AddsPrefix, Calls, Device, Stays}
+use Rattle.ae_edge.specs.Streams.{CountsWrite}
+use Rattle.ae_edge.specs.declared.streams.WriteError.{WriteError}
 use Rattle.wire_frames.specs.Frames.{Placed}
 use Rattle.wire_messages.specs.Exchanges.{Exchange}
 use Rattle.wire_messages.specs.declared.replies.Reply.{Reply}
@@ -12,10 +14,8 @@ use Rattle.conversation.specs.Paths.{Asked}
 use Rattle.run_effects.specs.Shares.{Queue, Wire, AreServed, queue_of}
 use Rattle.run_effects.specs.Ways.{AsksInPart, IsSilent}
 use Rattle.run_effects.proofs.Interface.{queued, same_state}
-use Rattle.ae_edge.proofs.Interface.{adds_front_none, adds_none}
+use Rattle.ae_edge.proofs.Interface.{adds_front_none, adds_none, calls_none}
 use Rattle.script_run.specs.Connections.{Sends}
-use Rattle.script_run.specs.declared.connection.Sent.{Sent}
-use Rattle.script_run.specs.declared.connection.Sent.TheVariants as sent
 use Rattle.server_core.specs.Beside.{Beside}
 use Rattle.rotate_among.specs.Passing.{Passes}
 
@@ -37,50 +37,35 @@ module _ (request : Request) (replies : List Reply) (old : Wire) (unlogged : old
   silent = subst (λ s. IsSilent s (Asked request replies ∷ [])) (sym unread) tt
 
   -- it was asked, whole or in part
-  pub sends_so : (result : Sent) (tap : Option (List ℕ)) (faults : ℕ) (waiting : List (Placed Reply)) (behind : ℕ)
-      → Passes result old.version request replies old.tap tap old.faults faults (queue_of old) (queue waiting behind)
-      → Sends result request old (record old { names = names; tap = tap; state = state; waiting = waiting; behind = behind; faults = faults })
-  sends_so sent.Whole tap faults waiting behind h = (
+  pub sends_so : (result : Result (Unit {0}) WriteError) (tap : Device (List ℕ)) (waiting : List (Placed Reply)) (behind : ℕ)
+      → Passes result old.version request replies old.tap tap (queue_of old) (queue waiting behind)
+      → Sends result request old (record old { names = names; tap = tap; state = state; waiting = waiting; behind = behind })
+  sends_so (Ok o) tap waiting behind h = (
     replies,
-    record { names = same; version = refl; tap = subst (λ w. Adds w old.tap tap) (sym (append-nil Passed)) h.0; log = logged; state = served; count = h.1; closed = refl },
-    record { comes = queued old.version (Asked request replies ∷ []) old.stream (queue_of old) (queue waiting behind) unread h.2; taken = omega arith },
+    record { tap = subst (λ w. Calls (Adds w) Stays old.tap tap) (sym (append-nil Passed)) h.0; closed = refl; log = logged; state = served; names = same; version = refl },
+    record { comes = queued Stays old.version (Asked request replies ∷ []) old.stream (queue_of old) (queue waiting behind) unread h.1; taken = omega arith },
     λ h. h,
   )
-  sends_so sent.WriteFault tap faults waiting behind h = (
-    (
-      refl,
-      inr (
-        replies,
-        silent,
-        record { names = same; version = refl; tap = subst (λ w. AddsPrefix w old.tap tap) (sym (append-nil Passed)) h.0; log = logged; state = served; count = h.1; closed = refl },
-      ),
-    ),
-    h.2,
-  )
-  sends_so sent.OutOfMemory tap faults waiting behind h = (
+  sends_so (Err e) tap waiting behind h = (
     refl,
     inr (
       replies,
       silent,
-      record { names = same; version = refl; tap = subst (λ w. AddsPrefix w old.tap tap) (sym (append-nil Passed)) h.0; log = logged; state = served; count = h.1; closed = refl },
+      record { tap = subst (λ w. Calls (AddsPrefix w) (CountsWrite e) old.tap tap) (sym (append-nil Passed)) h; closed = refl; log = logged; state = served; names = same; version = refl },
     ),
   )
 
 -- it wasn't asked
 pub unasked : (request : Request) (old : Wire) (names : List (List GName)) (state : Option Beside) → names ≡ old.names → state ≡ old.state
-    → AsksInPart request old (record old { names = names; state = state })
+    → AsksInPart Stays request old (record old { names = names; state = state })
 unasked request old names state e f = (
   refl,
   inl (record {
-    names = e;
-    version = refl;
-    tap = adds_front_none [] old.tap;
+    tap = calls_none (AddsPrefix []) old.tap (adds_front_none [] old.tap.content);
+    closed = refl;
     log = adds_none old.log;
     state = subst (WhereExposed (AreServed []) old.state) (sym f) (same_state old.state);
-    count = omega arith;
-    closed = refl;
+    names = e;
+    version = refl;
   }),
 )
-
-pub both_same : {A : Type 0} (a b c d : A) → a ≡ b → c ≡ d → a ∷ c ∷ [] ≡ b ∷ d ∷ []
-both_same a b c d f g = ap (λ x. x ∷ c ∷ []) f ∙ ap (λ x. b ∷ x ∷ []) g

@@ -1,7 +1,8 @@
 -- How a rotation came to what it answers.
-use Rattle.std.proofs.Common.{◌≡◌, ℕ, List, [], Option, Result, Ok, Err, refl, sym, subst}
+use Rattle.std.proofs.Common.{◌≡◌, ◌≤◌, ◌⊎◌, ℕ, List, [], Option, None, Result, Ok, Err, inl, inr, refl, sym, subst, arith}
 use Rattle.std.specs.Prelude.{IfOk}
 use Rattle.ae_base.specs.declared.frames.FrameVersion.{FrameVersion}
+use Rattle.ae_edge.specs.Devices.{Rose}
 use Rattle.wire_frames.specs.Frames.{Placed}
 use Rattle.wire_messages.specs.declared.replies.Reply.{Reply}
 use Rattle.wire_messages.specs.declared.requests.Request.{Request}
@@ -12,15 +13,16 @@ use Rattle.column_rotate.specs.Rotating.{Ends, beginning, rotating}
 use Rattle.driver.specs.declared.outcomes.Fault.{Fault}
 use Rattle.outcome_text.specs.Counting.{nothing}
 use Rattle.outcome_text.specs.declared.tallies.Tally.{Tally}
-use Rattle.run_effects.specs.Ways.{Advances, Breaks}
+use Rattle.run_effects.specs.Shares.{Outside}
+use Rattle.run_effects.specs.Ways.{Advances, CantBeRead, IsTooLong, LacksAt}
 use Rattle.run_effects.specs.declared.stops.Stop.{Stop}
 use Rattle.run_effects.specs.declared.stops.Stop.TheVariants as stop
 use Rattle.script_run.specs.Rotations.{rotated_as}
-use Rattle.run_effects.proofs.Interface.{breaks_between}
+use Rattle.run_effects.proofs.Interface.{write_rises}
 use Rattle.server_core.specs.Beside.{first_of}
 use Rattle.server_core.specs.Serve.{State}
 use Rattle.rotate_among.specs.Beside.{IsBehindSome}
-use Rattle.rotate_among.specs.Coming.{CameTo, Comes, IfEnded, IsBy, Kept, Lent, Names, outside, untouched}
+use Rattle.rotate_among.specs.Coming.{CameTo, Comes, HasNoStream, IfEnded, IsBy, Kept, Lent, Names, outside, untouched}
 use Rattle.rotate_among.specs.declared.rotating.Rotated.{Rotated}
 use Rattle.rotate_among.specs.declared.rotating.Rotated.TheVariants as came
 use Rattle.rotate_among.proofs.Others.{told_is}
@@ -40,17 +42,27 @@ pub kept_so : (text frames : List ℕ) (waiting : List (Placed Reply)) (tally : 
     → record { text = text; frames = frames; waiting = waiting; behind = 0; taken = 0; tally = tally; between = started } ≡ untouched between
 kept_so text frames waiting tally started between e f q n b = rw (e, f, q, n, b) refl
 
--- however it ended, where no stream of replies is read, it broke off there
-broken_off : (ended : Result (Result ℕ Fault) Stop) (t : Talk) (onward : Result ℕ Fault → Talk) (version : FrameVersion) (names names_after : Names) (k l : Kept) (a b : Lent)
-    → Advances ended t onward (outside version names k a) (outside version names_after l b) → Breaks t (outside version names k a) (outside version names_after l b)
-broken_off (Ok rotated) t onward version names names_after k l a b h = breaks_between t (onward rotated) _ _ h
-broken_off (Err (stop.BadReply place)) t onward version names names_after k l a b h = breaks_between t h.rest _ _ h.goes
-broken_off (Err stop.ReadFault) t onward version names names_after k l a b h = absurd h.1
-broken_off (Err stop.TooLong) t onward version names names_after k l a b h = absurd h.1
-broken_off (Err stop.EntropyFault) t onward version names names_after k l a b h = breaks_between t h.0.rest _ _ h.0.goes
-broken_off (Err stop.VaultFault) t onward version names names_after k l a b h = breaks_between t h.0.rest _ _ h.0.goes
-broken_off (Err stop.WriteFault) t onward version names names_after k l a b h = h.0
-broken_off (Err stop.OutOfMemory) t onward version names names_after k l a b h = h
+-- a count that is none didn't rise
+never_rose : (m n : ℕ) → m ≡ 0 → n ≡ 0 → Rose m n → ⊥
+never_rose m n e f h =
+    let z : Rose 0 0 = subst (λ k. Rose k 0) e (subst (Rose m) f h) in
+    let l : 1 ≤ 0 = z in absurd (omega arith)
+
+-- it stopped for what it has alone
+pub no_stream : (ended : Result (Result ℕ Fault) Stop) (t : Talk) (onward : Result ℕ Fault → Talk) (a b : Outside) → Advances ended t onward a b → b.wire.stream ≡ None
+    → a.client.out.faults ≡ 0 → b.client.out.faults ≡ 0 → a.wire.tap.faults ≡ 0 → b.wire.tap.faults ≡ 0 → HasNoStream ended
+no_stream (Ok rotated) t onward a b h s o p q r = tt
+no_stream (Err (stop.BadReply place)) t onward a b h s o p q r = tt
+no_stream (Err stop.ReadFault) t onward a b h s o p q r = subst (CantBeRead (LacksAt b.wire.version h.0.between)) s h.1
+no_stream (Err stop.TooLong) t onward a b h s o p q r = subst (IsTooLong (LacksAt b.wire.version h.0.between)) s h.1
+no_stream (Err stop.EntropyFault) t onward a b h s o p q r = tt
+no_stream (Err stop.VaultFault) t onward a b h s o p q r = tt
+no_stream (Err stop.WriteFault) t onward a b h s o p q r = of (write_rises t a b h)
+  where
+    of : Rose a.client.out.faults b.client.out.faults ⊎ Rose a.wire.tap.faults b.wire.tap.faults → ⊥
+    of (inl x) = never_rose a.client.out.faults b.client.out.faults o p x
+    of (inr x) = never_rose a.wire.tap.faults b.wire.tap.faults q r x
+no_stream (Err stop.OutOfMemory) t onward a b h s o p q r = tt
 
 module _ (ended : Result (Result ℕ Fault) Stop) (trusted : List (List ℕ)) (number : ℕ) (old new : List ℕ) (before after : Session)
     (version : FrameVersion) (between : List (List Request)) (a b : Lent) where
@@ -90,19 +102,7 @@ module _ (ended : Result (Result ℕ Fault) Stop) (t : Ends → Talk) (after : S
   comes_by came.EntropyFault i h s = (frames, subst (λ x. Came b x frames) i.0 (stood h i.1 s))
   comes_by came.VaultFault i h s = (frames, subst (λ x. Came b x frames) i.0 (stood h i.1 s))
   comes_by (came.BadReply place w) i h s = subst (λ x. Came b (Err (stop.BadReply place)) x) (sym i.1) (subst (λ x. Came b x frames) i.0 (stood h i.2 s))
-  comes_by came.OutOfMemory i h s = record {
-    told = told;
-    frames = frames;
-    came = record {
-      names = h.names;
-      names_after = h.names_after;
-      kept = h.kept;
-      is = h.is;
-      leads = λ k. broken_off ended (t k) (λ rotated. k (rotated_as rotated) after) version h.names h.names_after (untouched between) h.kept a (record b { state = told }) (h.leads k);
-    };
-    others = others;
-    state = s;
-  }
+  comes_by came.OutOfMemory i h s = record { ended = ended; told = told; frames = frames; came = h; others = others; state = s; by_itself = i }
 
 -- from what is known of a run
 pub comes_so : (result : Rotated) (ended : Result (Result ℕ Fault) Stop) (trusted : List (List ℕ)) (number : ℕ) (old new : List ℕ) (before after : Session)

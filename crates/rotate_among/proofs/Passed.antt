@@ -56,12 +56,12 @@ use Rattle.column_rotate.specs.Rotating.{fault_as, rotating}
 use Rattle.driver.specs.declared.outcomes.Fault.{Fault}
 use Rattle.driver.specs.declared.outcomes.Fault.TheVariants.{OfServer, OfDriver}
 use Rattle.proper_value_laws.specs.Proper.{IsIdentifier}
-use Rattle.run_effects.specs.Shares.{AreServed, Outside, exchanges_of, frames_of, messages_of}
+use Rattle.run_effects.specs.Shares.{AreServed, Counts, Outside, exchanges_of, frames_of, messages_of}
 use Rattle.run_effects.specs.Events.{stop_events}
-use Rattle.run_effects.specs.Ways.{Proceeds, IsStuck, StopsBy}
+use Rattle.run_effects.specs.Ways.{Advances, IsStuck, Proceeds, ProceedsBy, StopsBy}
 use Rattle.run_effects.specs.declared.stops.Stop.{Stop}
 use Rattle.run_effects.specs.declared.stops.Stop.TheVariants as stop
-use Rattle.run_effects.proofs.Interface.{Begins, Reached, Starts, ahead, beside_serves, reached, served_so, state_there, stops_begin, stops_left}
+use Rattle.run_effects.proofs.Interface.{Begins, Reached, Starts, ahead, beside_serves, breaks_between, reached, served_so, state_there, stops_begin, stops_left}
 use Rattle.run_command.specs.Transcript.{exchange_frames}
 use Rattle.script_run.specs.Rotations.{rotated_as}
 use Rattle.server_core.specs.Beside.{Beside, first_of, serve_beside}
@@ -129,7 +129,7 @@ module _ (once : RotationsTellOneOutcome) (traceless : UnfinishedLeavesNoTrace) 
     (keys : KeyMap) (trusted : List (List ℕ)) (session : ℕ) (old new : List ℕ) (history : List Request) (between : List (List Request))
     (numbered : IsSession session) (old_named : IsIdentifier old) (new_named : IsIdentifier new) (before : All IsRequest history)
     (others : All (All (IsOfOther session)) between)
-    (after : Session) (version : FrameVersion) (a b : Lent) (told : a.keys ≡ Some keys) (from : a.state ≡ Some (behind empty_state history)) where
+    (after : Session) (version : FrameVersion) (a b : Lent) (told : a.vault.content ≡ Some keys) (from : a.state ≡ Some (behind empty_state history)) where
   abbrev start : Beside
   start = beside between (behind empty_state history)
 
@@ -149,9 +149,9 @@ module _ (once : RotationsTellOneOutcome) (traceless : UnfinishedLeavesNoTrace) 
     starts : Starts keys start first
     starts = record { state = ap (option_map (beside between)) from; keys = told; waiting = refl; queue = refl }
 
-    module _ (u : Talk) (g : Proceeds t u first last) where
+    module _ {C : Counts} (u : Talk) (g : ProceedsBy C t u first last) where
       abbrev there : Beside
-      there = (state_there (λ (x : Beside). x) serve_beside beside_serves keys t start first starts u last g).0
+      there = (state_there (λ (x : Beside). x) serve_beside beside_serves keys t start first starts C u last g).0
 
       abbrev left : List Reply
       left = messages_of kept.waiting
@@ -163,7 +163,7 @@ module _ (once : RotationsTellOneOutcome) (traceless : UnfinishedLeavesNoTrace) 
       p = rotated_beside keys trusted session old new drawn start
 
       way : Reached serve_beside keys t start u g.events there left
-      way = reached (λ (x : Beside). x) serve_beside beside_serves keys t start first starts u last g
+      way = reached (λ (x : Beside). x) serve_beside beside_serves keys t start first starts C u last g
 
       bytes : AreBytes drawn
       bytes = subst AreBytes (sym (append-nil (flat_map drawn_in g.events))) way.bytes
@@ -175,7 +175,7 @@ module _ (once : RotationsTellOneOutcome) (traceless : UnfinishedLeavesNoTrace) 
       passed = way.is []
 
       stays : at ≡ Some there.state
-      stays = told_state kept.between at there (state_there (λ (x : Beside). x) serve_beside beside_serves keys t start first starts u last g).1
+      stays = told_state kept.between at there (state_there (λ (x : Beside). x) serve_beside beside_serves keys t start first starts C u last g).1
 
       -- nothing passes from there on
       record Halts (state : Beside) (outcomes : List Outcome) (end : End) : Type 0 where
@@ -197,7 +197,7 @@ module _ (once : RotationsTellOneOutcome) (traceless : UnfinishedLeavesNoTrace) 
         frames_so : HasFrames version kept.frames p
         frames_so =
             let x : p.exchanges ≡ flat_map exchanges_of g.events ++ [] = ap (λ (x : Passed Beside). x.exchanges) is_so in
-            g.put.wire.tap ∙ framed version g.events ∙ ap (flat_map (exchange_frames version)) (sym (x ∙ append-nil (flat_map exchanges_of g.events)))
+            g.put.wire.tap.content ∙ framed version g.events ∙ ap (flat_map (exchange_frames version)) (sym (x ∙ append-nil (flat_map exchanges_of g.events)))
 
         unfinished : ¬ (IsFinished p) → HasNoTrace start p
         unfinished not_so = of (traceless keys trusted session old new drawn history between numbered old_named new_named bytes others [] (All-nil (IsOfOther session)))
@@ -254,18 +254,18 @@ module _ (once : RotationsTellOneOutcome) (traceless : UnfinishedLeavesNoTrace) 
     bad_not_done n sessions e h i = cc
 
     -- for want of random bytes
-    at_draw : (u : Talk) (g : Proceeds t u first last) → IsAtDraw u → PassedSo keys trusted session old new start (HasNoTrace start) at
-    at_draw (Draws f) g d =
+    at_draw : (C : Counts) (u : Talk) (g : ProceedsBy C t u first last) → IsAtDraw u → PassedSo keys trusted session old new start (HasNoTrace start) at
+    at_draw C (Draws f) g d =
         let h : Halts (Draws f) g (there (Draws f) g) [] Dry = record { nothing = refl } in
         passed_so (Draws f) g [] Dry h (HasNoTrace start)
         (unfinished (Draws f) g [] Dry h (λ w. dry_not_done _ (p (Draws f) g).end (end_so (Draws f) g [] Dry h) w.2))
-    at_draw (Ends sessions) g d = absurd d
-    at_draw (Stops comes) g d = absurd d
-    at_draw (Asks request more) g d = absurd d
-    at_draw (Hears after shown f) g d = absurd d
-    at_draw (Notes after shown f) g d = absurd d
-    at_draw (Opens meta f) g d = absurd d
-    at_draw (Prints comes more) g d = absurd d
+    at_draw C (Ends sessions) g d = absurd d
+    at_draw C (Stops comes) g d = absurd d
+    at_draw C (Asks request more) g d = absurd d
+    at_draw C (Hears after shown f) g d = absurd d
+    at_draw C (Notes after shown f) g d = absurd d
+    at_draw C (Opens meta f) g d = absurd d
+    at_draw C (Prints comes more) g d = absurd d
 
     stopped_so : (u : Talk) (g : Proceeds t u first last) (n : ℕ) → Halts u g (there u g) [] (BadReply n)
         → PassedSo keys trusted session old new start (λ p. HasNoTrace start p × HasFrames version kept.frames p) at
@@ -377,6 +377,12 @@ module _ (once : RotationsTellOneOutcome) (traceless : UnfinishedLeavesNoTrace) 
           refl,
         )
 
+    -- or at its end
+    lacked : (result : Result (Result ℕ Fault) Stop) → Advances result t (λ rotated. ending (rotated_as rotated) after) first last
+        → (n : ℕ) (state : Option State) → IsBehindSome n (first_of kept.between) at state → StoppedSo keys trusted session old new start state
+    lacked (Ok rotated) h n state s = (stopped_there stop.OutOfMemory (breaks_between t (ending (rotated_as rotated) after) first last h) n state s).0
+    lacked (Err why) h n state s = (stopped_there why h n state s).0
+
   -- by how it ended
   leaves_so : (r : Rotated) → Comes r (rotating trusted session old new Idle) after version between a b → Leaves version keys trusted session old new start r b.state
   leaves_so (came.Ended r frames) h =
@@ -386,10 +392,10 @@ module _ (once : RotationsTellOneOutcome) (traceless : UnfinishedLeavesNoTrace) 
       of : (r : Result ℕ Fault) (names names_after : Names) (kept : Kept) → Proceeds t (ending (rotated_as r) after) (first names names_after kept b.state) (last names names_after kept b.state)
           → PassedSo keys trusted session old new start (λ p. moving.Ends keys old new start r p × HasFrames version kept.frames p) b.state
       of r names names_after kept g = ended names names_after kept b.state r g
-  leaves_so came.EntropyFault h = let c = h.1 in let g = (c.leads ending).0 in at_draw c.names c.names_after c.kept b.state g.rest g.goes g.place
+  leaves_so came.EntropyFault h = let c = h.1 in let g = c.leads ending in at_draw c.names c.names_after c.kept b.state _ g.rest g.goes g.place
   leaves_so came.VaultFault h =
       let c = h.1 in stopped_there c.names c.names_after c.kept b.state stop.VaultFault (c.leads ending) 0 b.state (none_asked (first_of c.kept.between) b.state)
-  leaves_so came.OutOfMemory h = let c = h.came in (stopped_there c.names c.names_after c.kept h.told stop.OutOfMemory (c.leads ending) h.others b.state h.state).0
+  leaves_so came.OutOfMemory h = let c = h.came in lacked c.names c.names_after c.kept h.told h.ended (c.leads ending) h.others b.state h.state
   leaves_so (came.BadReply place frames) h =
       let g = h.leads ending in
       subst (λ w. PassedSo keys trusted session old new start (λ p. HasNoTrace start p × HasFrames version w p) b.state) h.is (at_reply h.names h.names_after h.kept b.state g.rest g.goes g.place.0)

@@ -1,7 +1,8 @@
 -- What a rotation comes to, over any peer.
-use Rattle.std.specs.Prelude.{◌≡◌, ℕ, List, [], Option, Some, None, option_map, Result, Ok, Err, false}
+use Rattle.std.specs.Prelude.{◌≡◌, ℕ, List, [], ◌∷◌, Option, Some, None, option_map, Result, Ok, Err, false}
 use Rattle.std.specs.Borrow.{GName}
 use Rattle.ae_base.specs.declared.frames.FrameVersion.{FrameVersion}
+use Rattle.ae_edge.specs.Devices.{Device}
 use Rattle.ae_edge.specs.Vaults.{KeyMap}
 use Rattle.wire_frames.specs.Frames.{Placed}
 use Rattle.wire_messages.specs.declared.replies.Reply.{Reply}
@@ -23,20 +24,19 @@ use Rattle.rotate_among.specs.Beside.{IsBehindSome, beside}
 use Rattle.rotate_among.specs.declared.rotating.Rotated.{Rotated}
 use Rattle.rotate_among.specs.declared.rotating.Rotated.TheVariants as came
 
--- what is told of all that a rotation is lent: the random bytes to come, the keys, the state from which the peer serves, and the counts of faults
+-- what is seen of all that a rotation is lent: the source of random bytes, the vault, and the state from which the peer serves, where it is told
 pub record Lent : Type 0 where
-  pub entropy : Option (List ℕ)
-  pub keys : Option KeyMap
+  pub entropy : Device (List ℕ)
+  pub vault : Device KeyMap
   pub state : Option State
-  pub entropy_faults : ℕ
-  pub vault_faults : ℕ
 
--- the names of what is lent
+-- the names under which it is lent, and what it keeps of text and frames
 pub record Names : Type 0 where
   pub out : List GName
+  pub tap : List GName
   pub entropy : List GName
   pub vault : List GName
-  pub wire : List (List GName)
+  pub peer : List GName
 
 -- what a rotation keeps for itself: what is printed, which nobody reads, the frames so far, the replies that wait, each with the place of its frame,
 -- the place behind all frames that came, how many replies were taken, what was counted, and what others ask before each request that is to come
@@ -56,29 +56,22 @@ untouched between = record { text = []; frames = []; waiting = []; behind = 0; t
 abbrev pub outside : FrameVersion → Names → Kept → Lent → Outside
 outside version names k l = record {
   client = record {
-    out_names = names.out;
-    entropy_names = names.entropy;
-    vault_names = names.vault;
-    out = Some k.text;
-    entropy = l.entropy;
-    keys = l.keys;
+    out = record { content = Some k.text; faults = 0; names = names.out };
+    entropy = record l.entropy { names = names.entropy };
+    vault = record l.vault { names = names.vault };
     tally = k.tally;
-    out_faults = 0;
-    entropy_faults = l.entropy_faults;
-    vault_faults = l.vault_faults;
   };
   wire = record {
-    names = names.wire;
-    tap = Some k.frames;
+    tap = record { content = Some k.frames; faults = 0; names = names.tap };
+    closed = false;
     log = None;
     state = option_map (beside k.between) l.state;
+    names = names.peer ∷ [];
     version = version;
     waiting = k.waiting;
     behind = k.behind;
     stream = None;
     taken = k.taken;
-    faults = 0;
-    closed = false;
   };
 }
 
@@ -95,12 +88,15 @@ abbrev pub Stopped : Stop → (Ends → Talk) → Session → FrameVersion → L
 Stopped why t after version between old new = (frames : List ℕ) × CameTo (Err why) t after version between frames old new
 
 -- There was no memory: so far it came to the state that is told, and behind that the peer served some of what others ask before the next request.
+-- If it served none of them, the rotation itself stopped for want of memory.
 pub record LackedMemory (t : Ends → Talk) (after : Session) (version : FrameVersion) (between : List (List Request)) (old new : Lent) : Type 0 where
+  pub ended : Result (Result ℕ Fault) Stop
   pub told : Option State
   pub frames : List ℕ
-  pub came : CameTo (Err stop.OutOfMemory) t after version between frames old (record new { state = told })
+  pub came : CameTo ended t after version between frames old (record new { state = told })
   pub others : ℕ
   pub state : IsBehindSome others (first_of came.kept.between) told new.state
+  pub by_itself : others ≡ 0 → ended ≡ Err stop.OutOfMemory
 
 -- by how it ended
 abbrev pub Comes : Rotated → (Ends → Talk) → Session → FrameVersion → List (List Request) → Lent → Lent → Type 0
@@ -110,13 +106,24 @@ Comes came.VaultFault t after version between old new = Stopped stop.VaultFault 
 Comes (came.BadReply place frames) t after version between old new = CameTo (Err (stop.BadReply place)) t after version between frames old new
 Comes came.OutOfMemory t after version between old new = LackedMemory t after version between old new
 
+-- it stopped for no stream of replies, since it reads none, and for no output, since what it keeps of text and frames never fails
+abbrev pub HasNoStream : Result (Result ℕ Fault) Stop → Type 0
+HasNoStream (Ok rotated) = Unit {0}
+HasNoStream (Err (stop.BadReply place)) = Unit {0}
+HasNoStream (Err stop.ReadFault) = ⊥
+HasNoStream (Err stop.TooLong) = ⊥
+HasNoStream (Err stop.EntropyFault) = Unit {0}
+HasNoStream (Err stop.VaultFault) = Unit {0}
+HasNoStream (Err stop.WriteFault) = ⊥
+HasNoStream (Err stop.OutOfMemory) = Unit {0}
+
 -- it is answered so; where others were asked before a request for which there was no memory, no other answer comes
 abbrev pub IsBy : Rotated → Result (Result ℕ Fault) Stop → List ℕ → ℕ → Type 0
 IsBy (came.Ended rotated w) ended frames others = (ended ≡ Ok rotated) × (w ≡ frames) × (others ≡ 0)
 IsBy came.EntropyFault ended frames others = (ended ≡ Err stop.EntropyFault) × (others ≡ 0)
 IsBy came.VaultFault ended frames others = (ended ≡ Err stop.VaultFault) × (others ≡ 0)
 IsBy (came.BadReply place w) ended frames others = (ended ≡ Err (stop.BadReply place)) × (w ≡ frames) × (others ≡ 0)
-IsBy came.OutOfMemory ended frames others = Unit {0}
+IsBy came.OutOfMemory ended frames others = others ≡ 0 → ended ≡ Err stop.OutOfMemory
 
 -- it ended, and so this holds
 abbrev pub IfEnded : Type 0 → Rotated → Type 0

@@ -12,9 +12,9 @@ ghost use Rattle.rotate_among.specs.Beside.{IsBehindSome, told_beside};
 use ae_base::frames::FrameVersion;
 use ae_base::lists::Seq;
 use ae_edge::sinks::Sink;
-use ae_edge::streams::PutAll;
+use ae_edge::streams::WriteError;
 use run_command::peer_connection::{Places, Waiting, join, put_exchange};
-use script_run::connection::{Connection, EndFault, Front, LentReply, ReplyFault, Sent};
+use script_run::connection::{Connection, EndFault, Front, LentReply, ReplyFault};
 use server_core::peers::Peer;
 use std::alloc::{AllocError, Global};
 use std::marker::Model;
@@ -177,46 +177,41 @@ fn ask_rest<P: Peer>(
 
 impl<T: Sink, P: Peer> Connection for AmongConnection<'_, '_, T, P> {
     ghost wire = { λ l. record {
-      names = T.names l.tap ∷ l.stand.names ∷ [];
-      tap = T.held l.tap;
+      tap = T.seen l.tap;
+      closed = false;
       log = None;
       state = told_beside l.stand;
+      names = l.stand.names ∷ [];
       version = l.version;
       waiting = all_placed l.waiting.now.replies.items;
       behind = l.behind;
       stream = None;
       taken = l.taken;
-      faults = T.faults l.tap;
-      closed = false;
     } };
 
     ghost is_ended = { λ l. Unit {0} };
 
-    fn ask(&mut self, alloc: Global, request: &Request<'_>) -> Sent {
+    fn ask(&mut self, alloc: Global, request: &Request<'_>) -> Result<(), WriteError> {
         let Ok(replies) = self.stand.ask(alloc, request) else {
-            return Sent::OutOfMemory;
+            return Err(WriteError::OutOfMemory);
         };
         let mut places = Places {
             noted: Vec::new(alloc),
             behind: self.behind,
         };
         let answer = replies.as_slice();
-        match put_exchange(
+        put_exchange(
             alloc,
             &mut self.tap,
             self.version,
             request,
             answer,
             &mut places,
-        ) {
-            PutAll::Whole => {}
-            PutAll::WriteFault => return Sent::WriteFault,
-            PutAll::OutOfMemory => return Sent::OutOfMemory,
-        }
+        )?;
         self.behind = places.behind;
         match join(&mut self.waiting.replies, replies, places.noted.as_slice()) {
-            Ok(()) => Sent::Whole,
-            Err(_) => Sent::OutOfMemory,
+            Ok(()) => Ok(()),
+            Err(_) => Err(WriteError::OutOfMemory),
         }
     }
 

@@ -12,7 +12,7 @@ ghost use Rattle.server_core.specs.Serve.{empty_state};
 ghost use Rattle.served_rotation_laws.specs.Laws.{behind};
 ghost use Rattle.script_run.specs.Onward as onward;
 ghost use Rattle.rotate_among.specs.Beside.{beside};
-ghost use Rattle.rotate_among.specs.Coming.{Comes, IfEnded, IsBy};
+ghost use Rattle.rotate_among.specs.Coming.{Comes, HasNoStream, IfEnded, IsBy};
 ghost use Rattle.rotate_among.specs.Moving.{AreOthers, Leaves};
 
 use crate::among_connection::{AmongConnection, AskedPeer, Stand};
@@ -55,9 +55,9 @@ pub enum Rotated {
 }
 
 /// How a rotation ended, by what it came to or why it stopped, where so many of the others'
-/// requests were asked before one for which there was no memory. It doesn't stop for a stream of
-/// replies or for a text, since it has none.
+/// requests were asked before one for which there was no memory.
 fn rotated_by(ended: Result<Result<u64, Fault>, Stop>, frames: Frames, others: usize) -> Rotated
+    requires { HasNoStream ended }
     ensures { IsBy result ended frames others }
 {
     if others > 0 {
@@ -68,9 +68,8 @@ fn rotated_by(ended: Result<Result<u64, Fault>, Stop>, frames: Frames, others: u
         Err(Stop::EntropyFault) => Rotated::EntropyFault,
         Err(Stop::VaultFault) => Rotated::VaultFault,
         Err(Stop::BadReply(place)) => Rotated::BadReply(place, frames),
-        Err(Stop::OutOfMemory | Stop::ReadFault | Stop::TooLong | Stop::WriteFault) => {
-            Rotated::OutOfMemory
-        }
+        Err(Stop::OutOfMemory) => Rotated::OutOfMemory,
+        Err(Stop::ReadFault | Stop::TooLong | Stop::WriteFault) => unreachable!(),
     }
 }
 
@@ -92,26 +91,22 @@ fn rotate<P: Peer, V: Vault, E: Entropy>(
     new: &Name,
     between: &[Seq<Request<'static>>],
 ) -> Rotated
-    requires { IsOfVault (V.keys vault.old) driver.old }
-    ensures leaves { IfEnded (onward.Leaves session driver.old driver.new (V.keys vault.new))
-        result }
+    requires { IsOfVault (V.seen vault.old).content driver.old }
+    ensures leaves { IfEnded
+        (onward.Leaves session driver.old driver.new (V.seen vault.new).content) result }
     ensures comes { Comes result
         (rotating_as.rotating driver.old.trusted session old.now new.now
         (session_of driver.old session))
         (session_of driver.new session) version between.now
         (record {
-          entropy = E.to_come entropy.old;
-          keys = V.keys vault.old;
+          entropy = E.seen entropy.old;
+          vault = V.seen vault.old;
           state = P.state peer.old;
-          entropy_faults = E.faults entropy.old;
-          vault_faults = V.faults vault.old;
         })
         (record {
-          entropy = E.to_come entropy.new;
-          keys = V.keys vault.new;
+          entropy = E.seen entropy.new;
+          vault = V.seen vault.new;
           state = P.state peer.new;
-          entropy_faults = E.faults entropy.new;
-          vault_faults = V.faults vault.new;
         }) }
 {
     let mut frames = Frames::new(alloc);
@@ -165,30 +160,26 @@ pub fn rotate_among<P: Peer, V: Vault, E: Entropy>(
     new: &Name,
     between: &[Seq<Request<'static>>],
 ) -> Rotated
-    requires of_vault { IsOfVault (V.keys vault.old) driver.old }
+    requires of_vault { IsOfVault (V.seen vault.old).content driver.old }
     requires others { AreOthers session between.now }
-    ensures leaves { IfEnded (onward.Leaves session driver.old driver.new (V.keys vault.new))
-        result }
+    ensures leaves { IfEnded
+        (onward.Leaves session driver.old driver.new (V.seen vault.new).content) result }
     ensures comes { Comes result
         (rotating_as.rotating driver.old.trusted session old.now new.now
         (session_of driver.old session))
         (session_of driver.new session) version between.now
         (record {
-          entropy = E.to_come entropy.old;
-          keys = V.keys vault.old;
+          entropy = E.seen entropy.old;
+          vault = V.seen vault.old;
           state = P.state peer.old;
-          entropy_faults = E.faults entropy.old;
-          vault_faults = V.faults vault.old;
         })
         (record {
-          entropy = E.to_come entropy.new;
-          keys = V.keys vault.new;
+          entropy = E.seen entropy.new;
+          vault = V.seen vault.new;
           state = P.state peer.new;
-          entropy_faults = E.faults entropy.new;
-          vault_faults = V.faults vault.new;
         }) }
-    ensures rotated { (keys : KeyMap) (history : List Request) → V.keys vault.old ≡ Some keys
-        → P.state peer.old ≡ Some (behind empty_state history)
+    ensures rotated { (keys : KeyMap) (history : List Request)
+        → (V.seen vault.old).content ≡ Some keys → P.state peer.old ≡ Some (behind empty_state history)
         → session_of driver.old session ≡ Idle → All IsRequest history
         → All (All IsRequest) between.now
         → Leaves version keys driver.old.trusted session old.now new.now

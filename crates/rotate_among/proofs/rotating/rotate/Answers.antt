@@ -1,14 +1,18 @@
 -- It came to what it answers.
-use Rattle.std.proofs.Common.{Option, ap, rules, subst}
+use Rattle.std.proofs.Common.{Option, None, ap, refl, rules, subst}
 use Rattle.ae_edge.specs.Vaults.{KeyMap}
 use Rattle.column_rotate.specs.Rotating.{rotating}
+use Rattle.conversation.specs.Talk.{Stops}
 use Rattle.driver.specs.Clients.{session_of}
 use Rattle.run_command.specs.Queues.{all_placed}
 use Rattle.script_run.specs.Onward.{Leaves}
 use Rattle.rotate_among.specs.Beside.{Standing}
 use Rattle.rotate_among.specs.Coming.{Comes, IfEnded, IsBy, Kept, Lent}
-use Rattle.rotate_among.proofs.Came.{comes_so, ended_so, kept_so}
+use Rattle.rotate_among.proofs.Came.{comes_so, ended_so, kept_so, no_stream}
 use Rattle.rotate_among.proofs.rotating.rotate.Goals as goal
+
+pub rotated_by-requires : goal.rotated_by-requires
+rotated_by-requires g c = no_stream _ _ _ _ _ (c.rotate_lent-ended.ensures.leads (λ comes after. Stops None)) refl refl refl refl refl
 
 pub returns-clause-comes : goal.returns-clause-comes
 returns-clause-comes g c =
@@ -20,18 +24,14 @@ returns-clause-comes g c =
     let first = session_of c.args.driver.now number in
     let last = session_of after.driver number in
     let a : Lent = record {
-      entropy = g.E.Entropy.to_come c.args.entropy.now;
-      keys = g.V.Vault.keys c.args.vault.now;
+      entropy = g.E.Entropy.seen c.args.entropy.now;
+      vault = g.V.Vault.seen c.args.vault.now;
       state = g.P.Peer.state c.args.peer.now;
-      entropy_faults = g.E.Entropy.faults c.args.entropy.now;
-      vault_faults = g.V.Vault.faults c.args.vault.now;
     } in
     let b : Lent = record {
-      entropy = g.E.Entropy.to_come env.entropy.now;
-      keys = g.V.Vault.keys env.vault.now;
+      entropy = g.E.Entropy.seen env.entropy.now;
+      vault = g.V.Vault.seen env.vault.now;
       state = wire.stand.state;
-      entropy_faults = g.E.Entropy.faults env.entropy.now;
-      vault_faults = g.V.Vault.faults env.vault.now;
     } in
     let kept : Kept = record {
       text = env.out.now;
