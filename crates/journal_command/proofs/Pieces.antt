@@ -134,7 +134,8 @@ module _ (law : RequestsAreSerialFrom) (start : State) (count : ℕ) (feed : Fee
       record { kept = fed; all = so_all.all; none = so_all.none }
 
   -- a byte past the limit
-  pub ends_past : (piece : List ℕ) (after : Option (List ℕ)) → WhereExposed (Takes (taken.Bytes piece)) left after → length piece ≡ 1 → count ≡ 0 → ServesPieces ended.TooLong start source after first now
+  pub ends_past : (piece : List ℕ) (after : Option (List ℕ)) → WhereExposed (Takes (taken.Bytes piece)) left after
+      → length piece ≡ 1 → count ≡ 0 → ServesPieces ended.TooLong start source after first now
   ends_past piece after took one none =
       let all : length g.taken ≡ most_stream_bytes = omega (arith, g.few, none) in
       let front : take most_stream_bytes (g.taken ++ piece) ≡ g.taken =

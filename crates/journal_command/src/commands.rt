@@ -231,7 +231,8 @@ pub fn serve_journal<S: Source, W: Sink, D: Disk>(
     ensures exact { ServesExactly result (S.seen input.old).content (D.seen disk.old).content
         (W.seen out.old).content (W.seen out.new).content }
     // A file whose records are served again stays one, and isn't found damaged.
-    ensures servable { WhereExposed StaysServable (D.seen disk.old).content (D.seen disk.new).content }
+    ensures servable { WhereExposed StaysServable (D.seen disk.old).content
+        (D.seen disk.new).content }
     ensures undamaged { IsntDamaged result (D.seen disk.old).content (D.seen disk.new).content }
     // The faults of the outside come only where a count rose.
     ensures same { (D.seen disk.new).names ≡ (D.seen disk.old).names }

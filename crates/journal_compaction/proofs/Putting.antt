@@ -117,7 +117,8 @@ one_more_put entries entry a b c p q =
     (λ x y e. e ∙ ap (λ (w : List ℕ). x.now.seen ++ w) (sym (opened_more entries entry))) a c (put_then stored.Done (opened entries) (1 ∷ framed entry) a b c p q)
 
 -- the file ends behind them
-pub ends_at : (at : ℕ) (entries : List (List ℕ)) (a b : Option Moments) → at ≡ place_behind entries → IfSome a (HasAt 0) → WhereExposed (PutsBehind stored.Done (opened entries)) a b → IfSome b (HasAt at)
+pub ends_at : (at : ℕ) (entries : List (List ℕ)) (a b : Option Moments) → at ≡ place_behind entries → IfSome a (HasAt 0)
+    → WhereExposed (PutsBehind stored.Done (opened entries)) a b → IfSome b (HasAt at)
 ends_at at entries a b e h p =
     told_after (HasAt 0) (PutsBehind stored.Done (opened entries)) (HasAt at)
     (λ x y k q. omega (arith, k, e, ap length q, length-append x.now.seen (opened entries), length_opened entries)) a b h p
