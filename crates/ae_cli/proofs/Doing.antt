@@ -6,7 +6,8 @@ use Rattle.ae_base.specs.declared.refusals.Refusal.{Refusal}
 use Rattle.ae_base.specs.declared.refusals.Refusal.TheVariants.{Fault, OutOfMemory}
 use Rattle.ae_edge.specs.Devices.{Calls, Rose, WhereExposed}
 use Rattle.ae_edge.specs.Streams.{Reads}
-use Rattle.command_words.specs.Words.{Reads, are_taken, command_in}
+use Rattle.command_words.specs.Words as asked
+use Rattle.command_words.specs.Words.{are_taken, command_in}
 use Rattle.command_words.specs.declared.commands.Command.{Command}
 use Rattle.command_words.specs.declared.commands.Command.TheVariants as command
 use Rattle.server_core.specs.Serve.{State, empty_state}
@@ -53,7 +54,7 @@ none_of true found e = absurd cc
 none_of false found e = refl
 
 -- words that are refused, and words that there is no memory to read
-pub unasked : (words : List (List ℕ)) (r : Refusal (List ℕ)) (end : Status) (old : Seen) → Reads words (Err r) → end ≡ status_of_refusal r → Does words end old old
+pub unasked : (words : List (List ℕ)) (r : Refusal (List ℕ)) (end : Status) (old : Seen) → asked.Reads words (Err r) → end ≡ status_of_refusal r → Does words end old old
 unfolding Does
 unasked words (Fault text) end old e u =
     let is : command_in words ≡ None = none_of (are_taken words) _ e in

@@ -1,12 +1,12 @@
 -- A new driver is idle; it sends a batch that uses no parameter as it is, and says of the reply what it says.
-use Rattle.std.proofs.Common.{◌≡◌, ℕ, zero, suc, ◌-◌, List, [], Option, None, Result, Ok, Err, refl, sym, ap, ◌∙◌, subst}
-use Rattle.std.specs.Borrow.{GName}
+use Rattle.std.proofs.Common.{◌≡◌, ℕ, zero, suc, ◌-◌, List, [], Result, Ok, Err, refl, sym, ap, ◌∙◌, subst}
 use Rattle.std.specs.Prelude.{replicate, slice_index_or}
+use Rattle.ae_edge.specs.Devices.{Device, silent}
 use Rattle.ae_edge.specs.Vaults.{KeyMap}
 use Rattle.wire_messages.specs.declared.replies.Reply.{Reply}
 use Rattle.wire_messages.specs.declared.requests.Request.{Request}
 use Rattle.wire_messages.specs.declared.requests.Request.TheVariants.{Execute}
-use Rattle.conversation.specs.Devices.{Devices, AreOwn, Goes, IsAtDraw, IsAtKey, devices, with_vault}
+use Rattle.conversation.specs.Devices.{Devices, AreOwn, IsAtDraw, IsAtKey}
 use Rattle.conversation.specs.Paths.{Event, Follows, stays, asks}
 use Rattle.conversation.specs.Pending.{Pending}
 use Rattle.conversation.specs.Sessions.{Tells, nobody, replied, session_at}
@@ -59,20 +59,21 @@ module _ (trusted : List (List ℕ)) (number : ℕ) (s : Session) (unused : IsUn
   way : execute trusted number s telling ≡ sent
   way = let e = unused.holds in let u = unused.unused in rw (e, u) refl
 
-  stays_there : (u : Talk) → Goes (execute trusted number s telling) u old new → u ≡ sent
-  stays_there u g = at_ask _ _ u g.events (subst (λ t. Follows t g.events u) way g.follows) g.own
+  stays_there : (u : Talk) (events : List Event) → Follows (execute trusted number s telling) events u → AreOwn events → u ≡ sent
+  stays_there u events follows own = at_ask _ _ u events (subst (λ t. Follows t events u) way follows) own
 
   one_pending : (p : Pending) → s ≡ session.Pending p → unused.batch ≡ p
   one_pending p e = let i = sym unused.holds ∙ e in cc
 
   pub sent_as : (r : Result (Result Request DriverFault) Halt) (after : Session) → Executes trusted r number s after old new → OrShort (SendsAs number s) r
   sent_as (Ok x) after h =
-      let t = told_one x after _ (stays_there (telling x after) (h telling)) in
+      let g = h telling in
+      let t = told_one x after _ (stays_there (telling x after) g.events g.follows g.own) in
       λ p e. t ∙ ap (λ (q : Pending). let r : Result Request DriverFault = Ok (Execute number q.version q.batch.text []) in r) (one_pending p e)
   sent_as (Err halt.OutOfMemory) after h = tt
   sent_as (Err halt.BadReply) after h = h.1 telling
-  sent_as (Err halt.EntropyFault) after h = let t = (h.1 telling).0 in subst IsAtDraw (stays_there t.rest t.goes) t.place
-  sent_as (Err halt.VaultFault) after h = let t = (h.1 telling).0 in subst IsAtKey (stays_there t.rest t.goes) t.place
+  sent_as (Err halt.EntropyFault) after h = let t = h.1 telling in subst IsAtDraw (stays_there t.rest t.events t.follows t.own) t.place
+  sent_as (Err halt.VaultFault) after h = let t = h.1 telling in subst IsAtKey (stays_there t.rest t.events t.follows t.own) t.place
 
 -- ---- the reply
 
@@ -85,14 +86,14 @@ says_so trusted after old new comes x (Err halt.EntropyFault) w h = absurd h
 says_so trusted after old new comes x (Err halt.VaultFault) w h = let e = h.1.0 in absurd cc
 
 pub heard_as : (trusted : List (List ℕ)) (r : Result ReplyAnswer Halt) (s after : Session) → s ≡ session.Sent
-    → (a b : Option KeyMap) (m n : ℕ) (p q : List GName) (replies : List Reply) (x : Reply) → x ≡ slice_index_or replies 0 x
-    → ((beside : Devices) → Replies trusted r (replied s x) s after (with_vault beside a m p) (with_vault beside b n q))
+    → (a b : Device KeyMap) (replies : List Reply) (x : Reply) → x ≡ slice_index_or replies 0 x
+    → ((beside : Devices) → Replies trusted r (replied s x) s after (record beside { vault = a }) (record beside { vault = b }))
     → (comes : Outcome) → AnswersAs replies comes → OrShort (Says comes) r
-heard_as trusted r s after e a b m n p q replies x i h comes w =
-    let none = devices None 0 [] None 0 [] in
+heard_as trusted r s after e a b replies x i h comes w =
+    let old : Devices = record { entropy = silent 0; vault = a } in
+    let new : Devices = record { entropy = silent 0; vault = b } in
     let one = w.2 in
     let same : x ≡ w.0 = rw one at i in
     let told : replied s x ≡ Tells w.1 session.Idle = rw (e, same) w.3 in
-    says_so trusted after (with_vault none a m p) (with_vault none b n q) comes w.1 r w.4
-    (subst (λ y. Replies trusted r (Tells w.1 session.Idle) y after (with_vault none a m p) (with_vault none b n q)) e
-    (subst (λ t. Replies trusted r t s after (with_vault none a m p) (with_vault none b n q)) told (h none)))
+    says_so trusted after old new comes w.1 r w.4
+    (subst (λ y. Replies trusted r (Tells w.1 session.Idle) y after old new) e (subst (λ t. Replies trusted r t s after old new) told (h old)))

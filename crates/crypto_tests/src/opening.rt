@@ -214,6 +214,26 @@ fn refuses_two_values(rt: HostRuntime) -> Result<(), Fail> {
     Ok(())
 }
 
+// Why a key isn't opened whose two values are those of the vector, or 0 where it is.
+fn refusal_of_two(client: &mut Client, alloc: Global) -> u8 {
+    match meta_of_two(alloc, ("main", &WRAPPED), ("main", &WRAPPED)) {
+        Some(meta) => client.refusal(&meta),
+        None => 9,
+    }
+}
+
+// The vault's first two calls fail, so two openings do, where each makes one call alone.
+#[test]
+fn asks_a_vault_no_more_after_a_fault(rt: HostRuntime) -> Result<(), Fail> {
+    let alloc = rt.alloc();
+    let mut client = Client::new(alloc, &[0, 1])?;
+    let first = refusal_of_two(&mut client, alloc);
+    let second = refusal_of_two(&mut client, alloc);
+    let third = refusal_of_two(&mut client, alloc);
+    assert_eq!(rt; [first, second, third], [3, 3, 0]);
+    Ok(())
+}
+
 // How many keys open of nine in turn twice and the first once more.
 fn opened_in_turn(client: &mut Client, alloc: Global) -> u8 {
     let mut opened = 0u8;

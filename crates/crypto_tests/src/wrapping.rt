@@ -7,7 +7,7 @@ use ae_base::texts::Txt;
 use ae_edge::memory::sink::MemSink;
 use ae_edge::memory::source::MemSource;
 use ae_edge::memory::vault::MemVault;
-use std::alloc::Global;
+use std::alloc::{AllocError, Global};
 use std::test::Fail;
 use wrap_command::commands::{Wrapped, wrap};
 
@@ -82,5 +82,27 @@ fn wraps_keys(rt: HostRuntime) -> Result<(), Fail> {
     for (path, input, ended, text) in CASES {
         assert!(rt; comes_to(alloc, path, input, ended, text));
     }
+    Ok(())
+}
+
+// How a key is wrapped over a vault.
+fn ended(alloc: Global, vault: &mut MemVault) -> Result<Wrapped, AllocError> {
+    let path = Txt::copied(alloc, "main")?;
+    let digits = Vec::from_slice(alloc, &[b'0'; 64])?;
+    let mut source = MemSource::new(digits, 10, Vec::new(alloc));
+    let mut out = MemSink::new(alloc, Vec::new(alloc));
+    Ok(wrap(alloc, &path, &mut source, vault, &mut out))
+}
+
+// The vault's first two calls fail, so two wrappings do, where each makes one call alone.
+#[test]
+fn asks_a_vault_no_more_after_a_fault(rt: HostRuntime) -> Result<(), Fail> {
+    let alloc = rt.alloc();
+    let mut keys = Vec::new(alloc);
+    keys.push((Txt::copied(alloc, "main")?, MASTER))?;
+    let mut vault = MemVault::new(keys, Vec::from_slice(alloc, &[0u64, 1])?);
+    assert_eq!(rt; ended(alloc, &mut vault)?, Wrapped::VaultFault);
+    assert_eq!(rt; ended(alloc, &mut vault)?, Wrapped::VaultFault);
+    assert_eq!(rt; ended(alloc, &mut vault)?, Wrapped::Done);
     Ok(())
 }
