@@ -86,9 +86,9 @@ removes_then {A} xs ys =
     told_then (λ (old new : List A). old ≡ xs ++ new) (λ (old new : List A). old ≡ ys ++ new) (λ (old new : List A). old ≡ (xs ++ ys) ++ new)
     (λ x y z p q. p ∙ ap (λ (w : List A). xs ++ w) q ∙ sym (append_assoc xs ys z))
 
--- a count that rises later has risen since before
-pub rose_before : (a b c : ℕ) → a ≤ b → Rose b c → Rose a c
-rose_before a b c p q = omega arith
+-- a count that stays and then rises has risen since before
+pub rose_before : (a b c : ℕ) → Stays a b → Rose b c → Rose a c
+rose_before a b c p q = subst (λ n. Rose n c) p q
 
 -- a device is as it was where each part of what is seen of it is
 pub same_device : {A : Type 0} (old new : Device A) → new.content ≡ old.content → new.faults ≡ old.faults → new.names ≡ old.names → new ≡ old

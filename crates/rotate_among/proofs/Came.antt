@@ -46,7 +46,7 @@ kept_so text frames waiting tally started between e f q n b = rw (e, f, q, n, b)
 never_rose : (m n : ℕ) → m ≡ 0 → n ≡ 0 → Rose m n → ⊥
 never_rose m n e f h =
     let z : Rose 0 0 = subst (λ k. Rose k 0) e (subst (Rose m) f h) in
-    let l : 1 ≤ 0 = z in absurd (omega arith)
+    let l : 0 ≡ 1 = z in absurd (omega arith)
 
 -- it stopped for what it has alone
 pub no_stream : (ended : Result (Result ℕ Fault) Stop) (t : Talk) (onward : Result ℕ Fault → Talk) (a b : Outside) → Advances ended t onward a b → b.wire.stream ≡ None

@@ -15,9 +15,9 @@ WriteRose old new = Rose old.client.out.faults new.client.out.faults ⊎ Rose ol
 
 unwritten_rose : (tap : Bool) (t : Talk) (old new : Outside) → Breaks (unwritten tap) t old new → WriteRose old new
 unwritten_rose true t old new b =
-    inr (rose_before old.wire.tap.faults b.mid.wire.tap.faults new.wire.tap.faults b.goes.put.wire.tap.count b.put.wire.tap.counts)
+    inr (rose_before old.wire.tap.faults b.mid.wire.tap.faults new.wire.tap.faults b.goes.put.wire.tap.counts b.put.wire.tap.counts)
 unwritten_rose false t old new b =
-    inl (rose_before old.client.out.faults b.mid.client.out.faults new.client.out.faults b.goes.put.client.out.count b.put.client.out.counts)
+    inl (rose_before old.client.out.faults b.mid.client.out.faults new.client.out.faults b.goes.put.client.out.counts b.put.client.out.counts)
 
 pub write_rises : (t : Talk) (old new : Outside) → StopsBy stop.WriteFault t old new → WriteRose old new
 write_rises t old new h = unwritten_rose h.0 t old new h.1
@@ -35,7 +35,7 @@ RepliesRose (Some s) None = Unit {0}
 RepliesRose None t = Unit {0}
 
 streams_rise : (version : FrameVersion) (xs ys : List Event) (r s t : Option Stream) (a b c d : Queue) → Comes Stays version xs r s a b → Comes Rose version ys s t c d → RepliesRose r t
-streams_rise version xs ys (Some r) (Some s) (Some t) a b c d p q = subst (λ n. Rose n t.source.faults) p.2.counts q.2.counts
+streams_rise version xs ys (Some r) (Some s) (Some t) a b c d p q = rose_before r.source.faults s.source.faults t.source.faults p.2.counts q.2.counts
 streams_rise version xs ys (Some r) (Some s) None a b c d p q = tt
 streams_rise version xs ys (Some r) None t a b c d p q = absurd p
 streams_rise version xs ys None s t a b c d p q = tt
