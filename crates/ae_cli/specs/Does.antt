@@ -110,11 +110,11 @@ uses None = none_of_them
 
 -- ---- the faults of devices
 
--- it is used, and its count rose
+-- it is used, and its count rose by one
 abbrev pub RoseAt : {A : Type 0} → Bool → Device A → Device A → Type 0
 RoseAt used old new = IsTrue used × Rose old.faults new.faults
 
--- a fault of the outside comes only where a call of a device failed that is used
+-- a fault of the outside comes only where exactly one call of a device failed that is used
 abbrev pub IsCaused : Uses → Status → Seen → Seen → Type 0
 IsCaused used status.ReadFault old new = RoseAt used.script old.script new.script ⊎ RoseAt used.replies old.replies new.replies
 IsCaused used status.WriteFault old new = RoseAt used.out old.out new.out ⊎ RoseAt used.tap old.tap new.tap

@@ -78,7 +78,7 @@ pub record CameToItsEnd (version : FrameVersion) (keys : KeyMap) (steps : List S
   pub text : Adds (print (meaning keys steps)) old.out.content new.out.content
   pub frames : TapsWhole version keys steps old.entropy.content new.entropy.content old.tap.content new.tap.content
 
--- memory ran out, or a device's call failed and its count of faults rose
+-- memory ran out, or a device's call failed and its count of faults rose by one
 abbrev pub IsStop : Status → Seen → Seen → Type 0
 IsStop status.OutOfMemory old new = Unit {0}
 IsStop status.ReadFault old new = Rose old.script.faults new.script.faults

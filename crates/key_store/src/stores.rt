@@ -69,9 +69,9 @@ impl KeyStore {
     /// The keys for the cells under a column key, opened by the one vault that the store is used
     /// with: each key that the store keeps is what this vault gives. The key's values are tried in
     /// their order, and the first that opens gives the keys. The vault isn't asked for a value that
-    /// is kept, nor after a call on it failed. Where no keys are given the store keeps what it kept
-    /// before, in the same order; a key that is opened may put out the one that was used longest
-    /// ago. The store stays one of this vault.
+    /// is kept. A call on it that fails is the only one that does, and gives `VaultFault`. Where no
+    /// keys are given the store keeps what it kept before, in the same order; a key that is opened
+    /// may put out the one that was used longest ago. The store stays one of this vault.
     pub fn column_key<V: Vault>(
         &mut self,
         vault: &mut V,

@@ -1,8 +1,8 @@
 -- The exposed state of a run's devices, and the effect of each event on them.
-use Rattle.std.specs.Prelude.{◌≡◌, ℕ, ◌+◌, List, [], ◌∷◌, ◌++◌, length, map, flat_map, drop, Option, Some, None, IfSome, Bool}
+use Rattle.std.specs.Prelude.{◌≡◌, ◌⊎◌, ℕ, ◌+◌, List, [], ◌∷◌, ◌++◌, length, map, flat_map, drop, Option, Some, None, IfSome, Bool}
 use Rattle.std.specs.Borrow.{GName}
 use Rattle.ae_base.specs.declared.frames.FrameVersion.{FrameVersion}
-use Rattle.ae_edge.specs.Devices.{Adds, Calls, Device, IsPrefix, Removes, Stays, WhereExposed}
+use Rattle.ae_edge.specs.Devices.{Adds, Calls, Device, IsPrefix, Removes, Rose, Stays, WhereExposed}
 use Rattle.ae_edge.specs.Vaults.{KeyMap}
 use Rattle.wire_messages.specs.Exchanges.{Exchange, Served}
 use Rattle.wire_messages.specs.declared.requests.Request.{Request}
@@ -107,9 +107,9 @@ pub record Counts : Type 1 where
   pub tap : ℕ → ℕ → Type 0
   pub replies : ℕ → ℕ → Type 0
 
--- whatever the count
-abbrev pub AnyCount : ℕ → ℕ → Type 0
-AnyCount old new = Unit {0}
+-- at most one call failed
+abbrev pub StaysOrRose : ℕ → ℕ → Type 0
+StaysOrRose old new = Stays old new ⊎ Rose old new
 
 -- no call failed
 abbrev pub all_stay : Counts

@@ -10,7 +10,7 @@ use Rattle.conversation.specs.Drive.{outcomes_in}
 use Rattle.conversation.specs.Paths.{Event, Asked, Took, Printed, Follows, next_of, replies_to}
 use Rattle.conversation.specs.Talk.{Talk, Ends, Stops, Asks, Hears, Notes, Draws, Opens, Prints, broken}
 use Rattle.conversation.specs.declared.outcomes.Outcome.{Outcome}
-use Rattle.run_effects.specs.Shares.{AnyCount, Anything, Counts, Outside, Stream, Wire, HasPut, HasRead, WirePut, WireRead, Begins, IsNext, all_stay, coming, messages_of, place_of}
+use Rattle.run_effects.specs.Shares.{Anything, Counts, Outside, StaysOrRose, Stream, Wire, HasPut, HasRead, WirePut, WireRead, Begins, IsNext, all_stay, coming, messages_of, place_of}
 use Rattle.run_effects.specs.declared.stops.Stop.{Stop}
 use Rattle.run_effects.specs.declared.stops.Stop.TheVariants as stop
 pub use Rattle.ae_base.specs.Limits.{most_stream_bytes}
@@ -76,10 +76,11 @@ pub record Lacks (C : Counts) (t : Talk) (old new : Outside) : Type 0 where
 
 -- ---- where it broke off
 
--- of the bytes from the frame that stands first on, a front was taken, of those within the limit and one more at most
+-- Of the bytes from the frame that stands first on, a front was taken, of those within the limit and one more at most; and at most one call
+-- failed: the part of an answer before it is printed, and that broke off.
 abbrev pub ReadsPrefix : Option Stream → Option Stream → Type 0
 ReadsPrefix (Some s) (Some t) =
-    Calls Anything AnyCount s.source t.source × (IsWithin (Some s) → (front : List ℕ) × Removes front (coming s) t.source.content × (s.at + length front ≤ most_stream_bytes + 1))
+    Calls Anything StaysOrRose s.source t.source × (IsWithin (Some s) → (front : List ℕ) × Removes front (coming s) t.source.content × (s.at + length front ≤ most_stream_bytes + 1))
 ReadsPrefix (Some s) None = ⊥
 ReadsPrefix None (Some t) = ⊥
 ReadsPrefix None None = Unit {0}
@@ -164,7 +165,7 @@ abbrev pub unwritten : Bool → Counts
 unwritten true = record all_stay { tap = Rose }
 unwritten false = record all_stay { out = Rose }
 
--- each way to stop, with its cause; a call that failed was the last
+-- each way to stop, with its cause; where that is a call that failed, it is the only one of its device
 abbrev pub StopsBy : Stop → Talk → Outside → Outside → Type 0
 StopsBy (stop.BadReply place) t old new = HaltsAt all_stay (λ rest now. IsStuckOn rest now.wire.stream now.wire.waiting × (place_of now.wire ≡ place)) t old new
 StopsBy stop.ReadFault t old new = (l : Lacks (record all_stay { replies = Rose }) t old new) × CantBeRead (LacksAt new.wire.version l.between) new.wire.stream × StaysWithin old.wire new.wire

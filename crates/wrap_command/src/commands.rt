@@ -73,7 +73,8 @@ fn wrap_input<V: Vault, W: Sink>(path: &Txt, input: &[u8], vault: &mut V, out: &
 /// Reads a column key, 64 hexadecimal digits, from the input, wraps it under the master key at the
 /// path (RFC 3394), and puts the 80 digits of the wrapped key and LF to the output. The input is
 /// read to its end before anything else happens. Of a line that can't be put whole a front is put;
-/// else the output stays as it was. A fault ends the command: no call comes after one that failed.
+/// else the output stays as it was. A fault ends the command: of all calls exactly one failed, and
+/// the devices whose turn would come are as they were.
 pub fn wrap<S: Source, V: Vault, W: Sink>(
     alloc: Global,
     path: &Txt,
