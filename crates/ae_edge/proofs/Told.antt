@@ -1,5 +1,5 @@
 -- One call after another, where contents are told; and how what is told grows.
-use Rattle.std.proofs.Common.{◌≡◌, ℕ, ◌≤◌, List, [], ◌++◌, Option, Some, None, refl, sym, subst, ap, ◌∙◌, append_assoc, append-nil, arith}
+use Rattle.std.proofs.Common.{◌≡◌, ℕ, List, [], ◌++◌, Option, Some, None, refl, sym, subst, ap, ◌∙◌, append_assoc, append-nil, arith}
 use Rattle.ae_edge.specs.Devices.{Calls, Device, Stays, Rose, WhereExposed, IsPrefix, GrewByPrefix, Adds, AddsPrefix, Removes}
 
 -- two calls in a row: what P and Q say of each gives what R says of both
