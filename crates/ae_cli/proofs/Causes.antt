@@ -22,7 +22,7 @@ use Rattle.script_source.specs.Scripts.{CountsScript}
 use Rattle.script_source.specs.declared.Unread.TheVariants as unread
 use Rattle.script_run.specs.declared.runs.Ran.{Ran}
 use Rattle.script_run.specs.declared.runs.Ran.TheVariants as ran
-use Rattle.script_run.specs.declared.status.Status.TheVariants as status
+use Rattle.command_words.specs.declared.status.Status.TheVariants as status
 use Rattle.run_command.specs.Ends.{IsOfPeer}
 use Rattle.ae_cli.specs.Does.{IsCaused, uses}
 use Rattle.ae_cli.specs.Endings.{status_of, status_of_checking, status_of_generating, status_of_journaling, status_of_serving, status_of_wrapping}

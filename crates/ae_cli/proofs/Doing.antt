@@ -17,8 +17,8 @@ use Rattle.script_source.specs.declared.Unread.TheVariants as unread
 use Rattle.run_effects.specs.declared.stops.Stop.TheVariants as stop
 use Rattle.script_run.specs.declared.runs.Ran.{Ran}
 use Rattle.script_run.specs.declared.runs.Ran.TheVariants as ran
-use Rattle.script_run.specs.declared.status.Status.{Status}
-use Rattle.script_run.specs.declared.status.Status.TheVariants as status
+use Rattle.command_words.specs.declared.status.Status.{Status}
+use Rattle.command_words.specs.declared.status.Status.TheVariants as status
 use Rattle.script_run.specs.Ends as runs
 use Rattle.run_command.specs.Ends.{IsOfPeer, RunDevices}
 use Rattle.run_command.specs.RunOf.{IsRunOf, RunsSource}

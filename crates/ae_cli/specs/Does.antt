@@ -9,8 +9,8 @@ use Rattle.server_core.specs.Serve.{State, empty_state}
 use Rattle.wire_frames.specs.Frames.{End}
 use Rattle.script_source.specs.Scripts.{CountsScript, TakesScript}
 use Rattle.script_run.specs.declared.runs.Ran.{Ran}
-use Rattle.script_run.specs.declared.status.Status.{Status}
-use Rattle.script_run.specs.declared.status.Status.TheVariants as status
+use Rattle.command_words.specs.declared.status.Status.{Status}
+use Rattle.command_words.specs.declared.status.Status.TheVariants as status
 use Rattle.script_run.specs.Ends as runs
 use Rattle.run_command.specs.RunOf.{IsRunOf}
 use Rattle.run_command.specs.SummaryOf.{IsSummaryOf}

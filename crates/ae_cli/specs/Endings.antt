@@ -12,8 +12,8 @@ use Rattle.serve_command.specs.declared.commands.Served.{Served}
 use Rattle.serve_command.specs.declared.commands.Served.TheVariants as served
 use Rattle.wrap_command.specs.declared.commands.Wrapped.{Wrapped}
 use Rattle.wrap_command.specs.declared.commands.Wrapped.TheVariants as wrapped
-use Rattle.script_run.specs.declared.status.Status.{Status}
-use Rattle.script_run.specs.declared.status.Status.TheVariants as status
+use Rattle.command_words.specs.declared.status.Status.{Status}
+use Rattle.command_words.specs.declared.status.Status.TheVariants as status
 pub use Rattle.script_run.specs.Statuses.{status_of}
 
 -- of a check

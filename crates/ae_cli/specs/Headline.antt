@@ -14,8 +14,8 @@ use Rattle.script_lang.specs.declared.steps.Act.TheVariants.{Rotate}
 use Rattle.script_lang.specs.declared.steps.Step.{Step}
 use Rattle.script_lang.specs.declared.steps.Step.TheVariants.{Turn, Trust}
 use Rattle.script_source.specs.Scripts.{IsScript}
-use Rattle.script_run.specs.declared.status.Status.{Status}
-use Rattle.script_run.specs.declared.status.Status.TheVariants as status
+use Rattle.command_words.specs.declared.status.Status.{Status}
+use Rattle.command_words.specs.declared.status.Status.TheVariants as status
 use Rattle.plaintext_laws.specs.Alike.{Alike}
 use Rattle.plaintext_laws.specs.Clashes.{IsBoundAs, IsClash, IsReached, IsTyped, RunsUntyped, batch_of}
 use Rattle.plaintext_laws.specs.Reference.{held_at, means, nothing_held, with_held}

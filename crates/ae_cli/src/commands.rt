@@ -20,7 +20,7 @@ use gen_command::commands::generate;
 use journal_command::commands::serve_journal;
 use run_command::commands::run;
 use run_command::summaries::summarize;
-use script_run::status::Status;
+use command_words::status::Status;
 use serve_command::commands::serve_stream;
 use server_core::peers::Peer;
 use std::alloc::Global;

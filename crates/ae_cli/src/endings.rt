@@ -8,7 +8,7 @@ use ae_base::texts::Txt;
 use check_command::steps::Checked;
 use gen_command::commands::Generated;
 use journal_command::endings::Ended;
-use script_run::status::Status;
+use command_words::status::Status;
 use serve_command::commands::Served;
 use wrap_command::commands::Wrapped;
 

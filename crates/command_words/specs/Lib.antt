@@ -1,3 +1,4 @@
 pub mod Found
 pub mod Programs
+pub mod Statuses
 pub mod Words

@@ -1,5 +1,6 @@
-//! The words of the command line, which `clap` reads.
+//! The words of the command line, which `clap` reads, and the status with which it ends.
 #![tactic(auto)]
 
 pub mod commands;
 mod programs;
+pub mod status;

@@ -13,7 +13,7 @@ use gen_command::commands::generate;
 use mem_peer::peer::MemPeer;
 use run_command::commands::run;
 use script_run::runs::Ran;
-use script_run::status::Status;
+use command_words::status::Status;
 use serve_command::commands::serve_stream;
 use server_core::server::Server;
 use std::alloc::{AllocError, Global};

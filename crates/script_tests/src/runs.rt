@@ -8,7 +8,7 @@ use ae_edge::memory::source::MemSource;
 use ae_edge::memory::vault::MemVault;
 use run_command::commands::run;
 use run_command::summaries::summarize;
-use script_run::status::Status;
+use command_words::status::Status;
 use server_core::server::Server;
 use std::alloc::{AllocError, Global};
 
