@@ -27,7 +27,7 @@ SECONDS = {
     "indexed_tables": 95, "inference": 58, "journal_command": 111, "journal_core": 40, "key_index": 92,
     "key_store": 40, "lookups": 60, "operators": 107, "outcome_text": 59, "planner": 76, "query_results": 75,
     "resolve": 225, "row_changes": 120, "row_lookups": 90, "row_store": 68, "run_command": 80, "scalar": 99,
-    "script_lang": 100, "script_run": 127, "semantic_checks": 87, "serve_command": 62, "server_core": 121,
+    "script_lang": 100, "script_run": 145, "semantic_checks": 87, "serve_command": 62, "server_core": 121,
     "sql_ddl": 112, "sql_expressions": 152, "sql_parse": 137, "sql_tree": 108, "statement_analysis": 93,
     "table_changes": 95, "transactions": 203, "unique_keys": 61, "value_norm": 36, "wire_bodies": 83,
     "wire_decoding": 89, "wire_encoding": 134, "wire_messages": 87, "wire_parts": 65, "wire_payloads": 33,

@@ -17,7 +17,7 @@ use Rattle.serve_command.specs.declared.commands.Served.TheVariants as served
 use Rattle.wrap_command.specs.Wrapping.{CountsInput, Makes}
 use Rattle.wrap_command.specs.declared.commands.Wrapped.{Wrapped}
 use Rattle.wrap_command.specs.declared.commands.Wrapped.TheVariants as wrapped
-use Rattle.run_effects.specs.declared.stops.Stop.TheVariants as stop
+use Rattle.script_run.specs.declared.stops.Stop.TheVariants as stop
 use Rattle.script_source.specs.Scripts.{CountsScript}
 use Rattle.script_source.specs.declared.Unread.TheVariants as unread
 use Rattle.script_run.specs.declared.runs.Ran.{Ran}

@@ -30,7 +30,7 @@ use Rattle.script_run.specs.declared.runs.Ran.{Ran}
 use Rattle.script_run.specs.declared.runs.Ran.TheVariants as ran
 use Rattle.command_words.specs.declared.status.Status.{Status}
 use Rattle.command_words.specs.declared.status.Status.TheVariants as status
-use Rattle.run_effects.specs.declared.stops.Stop.TheVariants as stop
+use Rattle.script_run.specs.declared.stops.Stop.TheVariants as stop
 use Rattle.plaintext_laws.specs.Alike.{Alike}
 use Rattle.plaintext_laws.specs.Clashes.{IsBoundAs, IsClash, IsReached, IsRunIn, IsUntypedAt, batch_of}
 use Rattle.plaintext_laws.specs.Laws.{ClashesExactly}

@@ -14,7 +14,7 @@ use Rattle.server_core.specs.Serve.{State, empty_state}
 use Rattle.wire_frames.specs.Frames.{End}
 use Rattle.script_source.specs.Scripts.{CountsScript, TakesScript}
 use Rattle.script_source.specs.declared.Unread.TheVariants as unread
-use Rattle.run_effects.specs.declared.stops.Stop.TheVariants as stop
+use Rattle.script_run.specs.declared.stops.Stop.TheVariants as stop
 use Rattle.script_run.specs.declared.runs.Ran.{Ran}
 use Rattle.script_run.specs.declared.runs.Ran.TheVariants as ran
 use Rattle.command_words.specs.declared.status.Status.{Status}

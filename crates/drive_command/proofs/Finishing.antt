@@ -7,8 +7,8 @@ use Rattle.ae_edge.proofs.Interface.{calls_map, calls_then}
 use Rattle.wire_encoding.specs.Packing.{SpellsPayload}
 use Rattle.wire_frames.specs.Frames.{IsNotYet, is_reply_head}
 use Rattle.wire_frames.specs.Laws.{IsReadOnce}
-use Rattle.run_effects.specs.Shares.{IsNext, coming_behind}
-use Rattle.run_effects.specs.Ways.{HoldsNothing, IsLeft, IsPast, most_stream_bytes}
+use Rattle.script_run.specs.Shares.{IsNext, coming_behind}
+use Rattle.script_run.specs.Ways.{HoldsNothing, IsLeft, IsPast, most_stream_bytes}
 use Rattle.drive_command.specs.Holding.{Holding, came, held_more}
 use Rattle.script_run.specs.declared.connection.ReplyFault.{ReplyFault}
 use Rattle.script_run.specs.declared.connection.ReplyFault.TheVariants as fault

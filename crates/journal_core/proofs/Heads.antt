@@ -135,7 +135,8 @@ part_kept_told last at len bytes = told_after (IsKeptTo last) (ReadsPart (given.
 pub is_told : (at len : ℕ) (entry : List ℕ) (a b : Option Moments) → IsRecord entry → WhereExposed (ReadsPart (given.Bytes entry) at len) a b → WhereExposed (ReadsRecord (stood.Open entry) at len) a b
 is_told at len entry a b is = told_map (ReadsPart (given.Bytes entry) at len) (ReadsRecord (stood.Open entry) at len) (λ x y r. ((is, r.0), r.1)) a b
 
-pub isnt_told : (at len : ℕ) (entry : List ℕ) (a b : Option Moments) → (IsRecord entry → ⊥) → WhereExposed (ReadsPart (given.Bytes entry) at len) a b → WhereExposed (ReadsRecord stood.Broken at len) a b
+pub isnt_told : (at len : ℕ) (entry : List ℕ) (a b : Option Moments) → (IsRecord entry → ⊥)
+    → WhereExposed (ReadsPart (given.Bytes entry) at len) a b → WhereExposed (ReadsRecord stood.Broken at len) a b
 isnt_told at len entry a b other = told_map (ReadsPart (given.Bytes entry) at len) (ReadsRecord stood.Broken at len) (λ x y r. ((λ p. other (subst IsRecord (sym r.0) p)), r.1)) a b
 
 pub unheld_told : (at len : ℕ) (entry : List ℕ) (a b : Option Moments) → WhereExposed (ReadsPart (given.Bytes entry) at len) a b → WhereExposed (ReadsRecord stood.OutOfMemory at len) a b

@@ -20,7 +20,8 @@ use Rattle.server_core.specs.Serve.{State, answered, prepared, ask_of, catalog_o
 use Rattle.server_core.specs.Laws.{RequestsMayBeAsked}
 use Rattle.server_core.specs.States.{any_cell}
 use Rattle.server_core.proofs.Interface.{answered_after, described_after, prepared_sort, sort_bound}
-use Rattle.recording_laws.specs.Recorded.{Kept, kept, is_done, kept_of, kept_where, kept_by, has_transaction, nothing_held, held_at, with_held, session_of, requests_recorded, after_requests, after_records}
+use Rattle.recording_laws.specs.Recorded.{Kept, kept, is_done, kept_of, kept_where, kept_by, has_transaction, nothing_held, held_at, with_held, session_of, requests_recorded}
+use Rattle.recording_laws.specs.Recorded.{after_requests, after_records}
 use Rattle.recording_laws.specs.Laws.{AreServedAgain, IsReplayed, by_place, calls_of_records}
 use Rattle.recording_laws.proofs.Asked.{asked_step}
 use Rattle.recording_laws.proofs.Forgetting.{map_append}

@@ -11,9 +11,9 @@ use Rattle.wire_messages.specs.declared.requests.Request.{Request}
 use Rattle.wire_encoding.specs.Packing.{packed}
 use Rattle.wire_encoding.specs.Spelling.{request_frame}
 use Rattle.conversation.specs.Paths.{Asked}
-use Rattle.run_effects.specs.Shares.{Queue, Wire, AreServed, queue_of}
-use Rattle.run_effects.specs.Ways.{AsksInPart, IsSilent}
-use Rattle.run_effects.proofs.Interface.{queued, same_state}
+use Rattle.script_run.specs.Shares.{Queue, Wire, AreServed, queue_of}
+use Rattle.script_run.specs.Ways.{AsksInPart, IsSilent}
+use Rattle.script_run.proofs.Interface.{queued, same_state}
 use Rattle.ae_edge.proofs.Interface.{adds_front_none, adds_none, calls_none}
 use Rattle.script_run.specs.Connections.{Sends}
 use Rattle.server_core.specs.Beside.{Beside}

@@ -13,12 +13,12 @@ use Rattle.column_rotate.specs.Rotating.{Ends, beginning, rotating}
 use Rattle.driver.specs.declared.outcomes.Fault.{Fault}
 use Rattle.outcome_text.specs.Counting.{nothing}
 use Rattle.outcome_text.specs.declared.tallies.Tally.{Tally}
-use Rattle.run_effects.specs.Shares.{Outside}
-use Rattle.run_effects.specs.Ways.{Advances, CantBeRead, IsTooLong, LacksAt}
-use Rattle.run_effects.specs.declared.stops.Stop.{Stop}
-use Rattle.run_effects.specs.declared.stops.Stop.TheVariants as stop
+use Rattle.script_run.specs.Shares.{Outside}
+use Rattle.script_run.specs.Ways.{Advances, CantBeRead, IsTooLong, LacksAt}
+use Rattle.script_run.specs.declared.stops.Stop.{Stop}
+use Rattle.script_run.specs.declared.stops.Stop.TheVariants as stop
 use Rattle.script_run.specs.Rotations.{rotated_as}
-use Rattle.run_effects.proofs.Interface.{write_rises}
+use Rattle.script_run.proofs.Interface.{write_rises}
 use Rattle.server_core.specs.Beside.{first_of}
 use Rattle.server_core.specs.Serve.{State}
 use Rattle.rotate_among.specs.Beside.{IsBehindSome}

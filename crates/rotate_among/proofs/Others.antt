@@ -7,7 +7,7 @@ use Rattle.wire_messages.specs.Exchanges.{Served}
 use Rattle.wire_messages.specs.declared.replies.Reply.{Reply}
 use Rattle.wire_messages.specs.declared.requests.Request.{Request}
 use Rattle.conversation.specs.Paths.{Asked}
-use Rattle.run_effects.specs.Shares.{AreServed}
+use Rattle.script_run.specs.Shares.{AreServed}
 use Rattle.server_core.specs.Beside.{first_of, rest_of}
 use Rattle.server_core.specs.Serve.{State, serve, serve_all}
 use Rattle.served_rotation_laws.specs.Laws.{behind}

@@ -56,12 +56,12 @@ use Rattle.column_rotate.specs.Rotating.{fault_as, rotating}
 use Rattle.driver.specs.declared.outcomes.Fault.{Fault}
 use Rattle.driver.specs.declared.outcomes.Fault.TheVariants.{OfServer, OfDriver}
 use Rattle.proper_value_laws.specs.Proper.{IsIdentifier}
-use Rattle.run_effects.specs.Shares.{AreServed, Counts, Outside, exchanges_of, frames_of, messages_of}
-use Rattle.run_effects.specs.Events.{stop_events}
-use Rattle.run_effects.specs.Ways.{Advances, IsStuck, Proceeds, ProceedsBy, StopsBy}
-use Rattle.run_effects.specs.declared.stops.Stop.{Stop}
-use Rattle.run_effects.specs.declared.stops.Stop.TheVariants as stop
-use Rattle.run_effects.proofs.Interface.{Begins, Reached, Starts, ahead, beside_serves, breaks_between, reached, served_so, state_there, stops_begin, stops_left}
+use Rattle.script_run.specs.Shares.{AreServed, Counts, Outside, exchanges_of, frames_of, messages_of}
+use Rattle.script_run.specs.Events.{stop_events}
+use Rattle.script_run.specs.Ways.{Advances, IsStuck, Proceeds, ProceedsBy, StopsBy}
+use Rattle.script_run.specs.declared.stops.Stop.{Stop}
+use Rattle.script_run.specs.declared.stops.Stop.TheVariants as stop
+use Rattle.script_run.proofs.Interface.{Begins, Reached, Starts, ahead, beside_serves, breaks_between, reached, served_so, state_there, stops_begin, stops_left}
 use Rattle.run_command.specs.Transcript.{exchange_frames}
 use Rattle.script_run.specs.Rotations.{rotated_as}
 use Rattle.server_core.specs.Beside.{Beside, first_of, serve_beside}

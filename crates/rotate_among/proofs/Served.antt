@@ -9,7 +9,7 @@ use Rattle.conversation.specs.Drive.{Caught, Listened, Lost, Passed, listen, ove
 use Rattle.conversation.specs.Keys.{open_key}
 use Rattle.conversation.specs.Paths.{Event, Asked, Took, Strayed, Drew, Opened, Printed}
 use Rattle.conversation.specs.Talk.{Talk, Ends, Stops, Asks, Hears, Notes, Draws, Opens, Prints, Heard, broken, nothing_broken}
-use Rattle.run_effects.specs.Shares.{AreServed, exchanges_of}
+use Rattle.script_run.specs.Shares.{AreServed, exchanges_of}
 use Rattle.server_core.specs.Beside.{Beside, first_of, rest_of, serve_beside}
 use Rattle.server_core.specs.Serve.{State, serve}
 use Rattle.served_rotation_laws.specs.Beside.{all_asked}

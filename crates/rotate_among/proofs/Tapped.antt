@@ -4,7 +4,7 @@ use Rattle.ae_base.specs.declared.frames.FrameVersion.{FrameVersion}
 use Rattle.wire_frames.specs.Frames.{Placed, placed_answer}
 use Rattle.wire_messages.specs.declared.replies.Reply.{Reply}
 use Rattle.wire_encoding.specs.Packing.{packed}
-use Rattle.run_effects.specs.Shares.{Queue, with_answer}
+use Rattle.script_run.specs.Shares.{Queue, with_answer}
 
 abbrev queue : List (Placed Reply) → ℕ → Queue
 queue waiting behind = record { waiting = waiting; behind = behind }

@@ -15,10 +15,10 @@ use Rattle.column_rotate.specs.Rotating.{Ends}
 use Rattle.driver.specs.declared.outcomes.Fault.{Fault}
 use Rattle.outcome_text.specs.Counting.{nothing}
 use Rattle.outcome_text.specs.declared.tallies.Tally.{Tally}
-use Rattle.run_effects.specs.Shares.{Outside}
-use Rattle.run_effects.specs.Ways.{Advances}
-use Rattle.run_effects.specs.declared.stops.Stop.{Stop}
-use Rattle.run_effects.specs.declared.stops.Stop.TheVariants as stop
+use Rattle.script_run.specs.Shares.{Outside}
+use Rattle.script_run.specs.Ways.{Advances}
+use Rattle.script_run.specs.declared.stops.Stop.{Stop}
+use Rattle.script_run.specs.declared.stops.Stop.TheVariants as stop
 use Rattle.script_run.specs.Rotations.{rotated_as}
 use Rattle.rotate_among.specs.Beside.{IsBehindSome, beside}
 use Rattle.rotate_among.specs.declared.rotating.Rotated.{Rotated}

@@ -8,7 +8,7 @@ use Rattle.wire_messages.specs.declared.replies.Reply.{Reply}
 use Rattle.wire_messages.specs.declared.requests.Request.{Request}
 use Rattle.wire_encoding.specs.Packing.{packed}
 use Rattle.wire_encoding.specs.Spelling.{request_frame}
-use Rattle.run_effects.specs.Shares.{Queue, with_answer}
+use Rattle.script_run.specs.Shares.{Queue, with_answer}
 
 -- all its frames, and the replies wait behind the others; or a front of the frames
 abbrev pub Passes : Result (Unit {0}) WriteError → FrameVersion → Request → List Reply → (old new : Device (List ℕ)) → Queue → Queue → Type 0

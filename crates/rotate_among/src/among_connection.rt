@@ -3,7 +3,7 @@
 ghost use Rattle.std.specs.Prelude.{◌≡◌, ◌≤◌, ◌∷◌, [], Option, None, false, IfOk, MatchResult, drop, length};
 ghost use Rattle.ae_edge.specs.Devices.{WhereExposed};
 ghost use Rattle.conversation.specs.Paths.{Asked};
-ghost use Rattle.run_effects.specs.Shares.{AreServed, Wire};
+ghost use Rattle.script_run.specs.Shares.{AreServed, Wire};
 ghost use Rattle.run_command.specs.Queues.{all_placed};
 ghost use Rattle.server_core.specs.Beside.{first_of, rest_of};
 ghost use Rattle.server_core.specs.Serve.{State};

@@ -26,9 +26,9 @@ use ae_edge::vaults::Vault;
 use driver::{Driver, Fault};
 use outcome_text::tallies::Tally;
 use run_command::peer_connection::Waiting;
-use run_effects::stops::Stop;
 use script_run::env::Env;
 use script_run::runs::rotate_lent;
+use script_run::stops::Stop;
 use served_rotation_laws::laws::{
     asking_rotations_leave_no_trace, finished_rotations_are_whole, rotations_tell_one_outcome,
     unfinished_rotations_leave_no_trace,

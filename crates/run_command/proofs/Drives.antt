@@ -16,12 +16,12 @@ use Rattle.conversation.proofs.Interface.{follows_then, opens_then}
 use Rattle.outcome_text.specs.Counting.{nothing}
 use Rattle.outcome_text.specs.Printing.{print, printed_outcome}
 use Rattle.outcome_text.specs.declared.tallies.Tally.{Tally}
-use Rattle.run_effects.specs.Events.{stop_events}
-use Rattle.run_effects.specs.Shares.{Comes, Counts, Outside, Queue, Stream, Wire, all_stay, exchanges_of, messages_of, queue_of, text_of}
-use Rattle.run_effects.specs.Ways.{Breaks, GoesOn, IsAtFrame, IsStuck, Proceeds, ProceedsBy, unwritten}
-use Rattle.run_effects.specs.declared.stops.Stop.{Stop}
-use Rattle.run_effects.specs.declared.stops.Stop.TheVariants as stop
-use Rattle.run_effects.proofs.Interface.{HasLeft, stops_left, stuck_queue, waits_from}
+use Rattle.script_run.specs.Events.{stop_events}
+use Rattle.script_run.specs.Shares.{Comes, Counts, Outside, Queue, Stream, Wire, all_stay, exchanges_of, messages_of, queue_of, text_of}
+use Rattle.script_run.specs.Ways.{Breaks, GoesOn, IsAtFrame, IsStuck, Proceeds, ProceedsBy, unwritten}
+use Rattle.script_run.specs.declared.stops.Stop.{Stop}
+use Rattle.script_run.specs.declared.stops.Stop.TheVariants as stop
+use Rattle.script_run.proofs.Interface.{HasLeft, stops_left, stuck_queue, waits_from}
 use Rattle.script_lang.specs.declared.steps.Step.{Step}
 use Rattle.script_run.specs.declared.runs.Ran.{Ran}
 use Rattle.script_run.specs.declared.runs.Ran.TheVariants as ran

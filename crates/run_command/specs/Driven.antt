@@ -7,7 +7,7 @@ use Rattle.wire_messages.specs.Exchanges.{Exchange}
 use Rattle.conversation.specs.Drive.{Driven, End, Done, Dry, BadReply, drive, replies_in, requests_in}
 use Rattle.conversation.specs.Sessions.{nobody}
 use Rattle.outcome_text.specs.Printing.{print}
-use Rattle.run_effects.specs.declared.stops.Stop.TheVariants as stop
+use Rattle.script_run.specs.declared.stops.Stop.TheVariants as stop
 use Rattle.script_lang.specs.declared.steps.Step.{Step}
 use Rattle.script_run.specs.Draws.{Drew}
 use Rattle.script_run.specs.declared.runs.Ran.{Ran}

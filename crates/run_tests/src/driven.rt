@@ -6,8 +6,8 @@ use ae_edge::memory::entropy::MemEntropy;
 use ae_edge::memory::sink::MemSink;
 use ae_edge::memory::source::MemSource;
 use drive_command::commands::drive;
-use run_effects::stops::Stop;
 use script_run::runs::Ran;
+use script_run::stops::Stop;
 use std::alloc::{AllocError, Global};
 use std::test::Fail;
 

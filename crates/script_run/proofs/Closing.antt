@@ -3,11 +3,11 @@ use Rattle.std.proofs.Common.{◌≡◌, ℕ, List, [], ◌∷◌, ◌++◌, Opt
 use Rattle.ae_edge.specs.Devices.{Adds, AddsPrefix, IsPrefix}
 use Rattle.conversation.specs.Talk.{Talk, Ends}
 use Rattle.conversation.specs.declared.sessions.Session.{Session}
-use Rattle.run_effects.specs.Endings.{ClosesBehind, closed_as}
-use Rattle.run_effects.specs.Shares.{Outside, Wire}
-use Rattle.run_effects.specs.Ways.{Advances, Proceeds, StopsBy}
-use Rattle.run_effects.specs.declared.stops.Stop.{Stop}
-use Rattle.run_effects.proofs.Interface.{leads_then}
+use Rattle.script_run.specs.Closing.{ClosesBehind, closed_as}
+use Rattle.script_run.specs.Shares.{Outside, Wire}
+use Rattle.script_run.specs.Ways.{Advances, Proceeds, StopsBy}
+use Rattle.script_run.specs.declared.stops.Stop.{Stop}
+use Rattle.script_run.proofs.Going.{leads_then}
 use Rattle.script_run.specs.declared.connection.EndFault.{EndFault}
 use Rattle.script_run.specs.declared.connection.EndFault.TheVariants as ending
 use Rattle.script_run.specs.declared.connection.ReplyFault.TheVariants as fault

@@ -19,8 +19,8 @@ use Rattle.column_rotate.specs.declared.sent.Sent.TheVariants as sent
 use Rattle.column_rotate.specs.Laws.{RotationsAreNext}
 use Rattle.column_rotate.specs.Moves.{Move, IsMove, first, move}
 use Rattle.column_rotate.specs.Rotating.{Ends, beginning, heard, moved, rotating, told_of}
-use Rattle.run_effects.specs.Shares.{Outside}
-use Rattle.run_effects.specs.Ways.{Proceeds}
+use Rattle.script_run.specs.Shares.{Outside}
+use Rattle.script_run.specs.Ways.{Proceeds}
 use Rattle.script_run.specs.Onward.{IsBlind}
 use Rattle.script_run.specs.Rotations.{standing, next_on}
 

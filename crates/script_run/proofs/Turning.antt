@@ -21,10 +21,10 @@ use Rattle.conversation.specs.Turns.{Accepted, Onward, hearing, saying, outcome_
 use Rattle.ae_edge.specs.Vaults.{KeyMap}
 use Rattle.driver.specs.Accepted.{accepted_begun}
 use Rattle.driver.specs.Clients.{Client, columns_of, session_of}
-use Rattle.run_effects.specs.Shares.{Outside}
-use Rattle.run_effects.specs.Ways.{Proceeds, Advances}
-use Rattle.run_effects.specs.declared.stops.Stop.{Stop}
-use Rattle.run_effects.proofs.Interface.{leads_then}
+use Rattle.script_run.specs.Shares.{Outside}
+use Rattle.script_run.specs.Ways.{Proceeds, Advances}
+use Rattle.script_run.specs.declared.stops.Stop.{Stop}
+use Rattle.script_run.proofs.Going.{leads_then}
 use Rattle.script_run.specs.declared.turns.Described.{Described}
 use Rattle.script_run.specs.declared.turns.Described.TheVariants as described
 use Rattle.script_run.specs.Heard.{is_skipping}

@@ -9,11 +9,12 @@ ghost use Rattle.conversation.specs.Talk.{Talk, Ends, Asks, Prints, Heard, nothi
 ghost use Rattle.conversation.specs.Turns as turns;
 ghost use Rattle.conversation.specs.Turns.{Onward};
 ghost use Rattle.driver.specs.Clients.{IsOfVault, columns_of, session_of};
-ghost use Rattle.run_effects.specs.Endings.{closed_as};
-ghost use Rattle.run_effects.specs.Shares.{Outside};
-ghost use Rattle.run_effects.specs.Ways.{IsReadOut, Advances};
+ghost use Rattle.script_run.specs.Closing.{closed_as};
+ghost use Rattle.script_run.specs.Shares.{Outside};
+ghost use Rattle.script_run.specs.Ways.{IsReadOut, Advances};
 ghost use Rattle.script_run.specs.Onward.{IsBegun, IsRows, IsDescribed, Keeps, Leaves, RowsStay, shown_first, said_first, told_on, first_on, row_on};
 
+use crate::stops::Stop;
 use ae_base::lists::Seq;
 use ae_base::names::Title;
 use ae_base::sessions::SessionId;
@@ -21,7 +22,6 @@ use conversation::answers::DescribeAnswer;
 use conversation::faults::DriverFault;
 use conversation::outcomes::{Listing, Outcome};
 use driver::Driver;
-use run_effects::stops::Stop;
 use std::alloc::Global;
 use wire_messages::requests::Request;
 

@@ -9,11 +9,12 @@ ghost use Rattle.conversation.specs.declared.outcomes.Listing as listings;
 ghost use Rattle.conversation.specs.declared.outcomes.Outcome.TheVariants as outcome_of;
 ghost use Rattle.conversation.specs.declared.sessions.Session.{Session};
 ghost use Rattle.driver.specs.Clients.{IsOfVault, columns_of, session_of};
-ghost use Rattle.run_effects.specs.Ways.{Advances};
+ghost use Rattle.script_run.specs.Ways.{Advances};
 ghost use Rattle.script_run.specs.Onward.{Leaves};
 ghost use Rattle.script_run.specs.Rotations.{rotated_as, standing, next_on};
 
 use crate::around::Around;
+use crate::stops::Stop;
 use crate::turns::{print, run};
 use ae_base::lists::Duplicate;
 use ae_base::names::Name;
@@ -23,7 +24,6 @@ use column_rotate::{Next, Rotation};
 use conversation::faults::DriverFault;
 use conversation::outcomes::Outcome;
 use driver::{Driver, Fault};
-use run_effects::stops::Stop;
 use std::alloc::{AllocError, Global};
 
 /// An answer that broke off, as the driver tells it.

@@ -11,12 +11,13 @@ ghost use Rattle.conversation.specs.declared.outcomes.Outcome.TheVariants as out
 ghost use Rattle.conversation.specs.declared.sessions.Session.{Session};
 ghost use Rattle.conversation.specs.declared.sessions.Session.TheVariants.{Sent};
 ghost use Rattle.driver.specs.Clients.{IsOfVault, columns_of, session_of};
-ghost use Rattle.run_effects.specs.Ways.{Advances};
+ghost use Rattle.script_run.specs.Ways.{Advances};
 ghost use Rattle.script_run.specs.declared.turns.Described.TheVariants as described_as;
 ghost use Rattle.script_run.specs.Onward.{IsBegun, IsBlind, IsCleared, IsRows, IsReady, Keeps, Leaves, LooksAside, SaysThen, ready_on};
 
 use crate::around::{Around, First, RowHeard};
 use crate::hearing::is_skipping;
+use crate::stops::Stop;
 use ae_base::batches::Batch;
 use ae_base::lists::Seq;
 use ae_base::sessions::SessionId;
@@ -24,7 +25,6 @@ use conversation::answers::DescribeAnswer;
 use conversation::faults::DriverFault;
 use conversation::outcomes::{DescribedParam, Listing, Outcome};
 use driver::Driver;
-use run_effects::stops::Stop;
 use std::alloc::Global;
 use wire_messages::requests::Request;
 

@@ -10,7 +10,8 @@ returns-in-Bytes-clause-call g c =
       content = rw c.mended.ensures.is
           (short_settled_told c.repair_short.result c.in-Bytes.file _ _ _ c.requires.kept c.in-Bytes.ensures.call.content (rw c.as_slice.ensures at c.repair_short.ensures.content));
       count = search rules;
-      counts = c.mended.ensures.counts _ _ (subst (λ n. CountsStored c.repair_short.result n (g.D.Disk.seen c.repair_short.new.disk).faults) c.in-Bytes.ensures.call.counts c.repair_short.ensures.counts);
+      counts = c.mended.ensures.counts _ _
+        (subst (λ n. CountsStored c.repair_short.result n (g.D.Disk.seen c.repair_short.new.disk).faults) c.in-Bytes.ensures.call.counts c.repair_short.ensures.counts);
       same = search rules;
     }
 

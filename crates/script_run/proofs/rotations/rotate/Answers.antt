@@ -1,7 +1,7 @@
 -- It is run, and what it came to is printed.
 use Rattle.conversation.specs.Talk.{Prints}
 use Rattle.driver.specs.Clients.{session_of}
-use Rattle.run_effects.proofs.Interface.{leads_then}
+use Rattle.script_run.proofs.Going.{leads_then}
 use Rattle.script_run.proofs.Leaving.{leaves_still}
 use Rattle.script_run.proofs.Rotating.{rotating_begins}
 use Rattle.script_run.proofs.rotations.rotate.Goals as goal

@@ -3,7 +3,7 @@ use Rattle.std.proofs.Common.{ap, ◌∙◌}
 use Rattle.driver.specs.Clients.{session_of}
 use Rattle.column_rotate.specs.Moves.{Rotating}
 use Rattle.column_rotate.specs.Rotating.{heard, told_of}
-use Rattle.run_effects.proofs.Interface.{stay, breaks_between, goes_then, fails_then}
+use Rattle.script_run.proofs.Going.{stay, breaks_between, goes_then, fails_then}
 use Rattle.script_run.proofs.Leaving.{others_same, others_then}
 use Rattle.script_run.proofs.Rotating.{heard_blind, now_on}
 use Rattle.script_run.proofs.rotations.run_rotation.Goals as goal

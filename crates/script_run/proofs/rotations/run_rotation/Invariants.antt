@@ -2,7 +2,7 @@
 use Rattle.std.proofs.Common.{◌≡◌}
 use Rattle.driver.specs.Clients.{IsOfVault, columns_of, session_of}
 use Rattle.column_rotate.specs.Rotating.{Ends, beginning}
-use Rattle.run_effects.specs.Ways.{Proceeds}
+use Rattle.script_run.specs.Ways.{Proceeds}
 use Rattle.script_run.specs.Onward.{IsApart}
 use Rattle.script_run.specs.Rotations.{standing}
 use Rattle.script_run.proofs.rotations.run_rotation.Given as goal

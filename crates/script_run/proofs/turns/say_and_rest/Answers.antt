@@ -1,7 +1,7 @@
 -- It is said, and the rest is heard.
 use Rattle.conversation.specs.Turns.{rested}
 use Rattle.driver.specs.Clients.{session_of}
-use Rattle.run_effects.proofs.Interface.{leads_then}
+use Rattle.script_run.proofs.Going.{leads_then}
 use Rattle.script_run.proofs.turns.say_and_rest.Goals as goal
 
 pub rest-requires : goal.rest-requires

@@ -1,7 +1,7 @@
 -- It is said, or there is none.
 use Rattle.std.proofs.Common.{refl}
 use Rattle.conversation.specs.declared.outcomes.Outcome.TheVariants.{Defined}
-use Rattle.run_effects.proofs.Interface.{stay}
+use Rattle.script_run.proofs.Going.{stay}
 use Rattle.script_run.proofs.Turning.{nothing_said}
 use Rattle.script_run.proofs.turns.say_heard.Goals as goal
 

@@ -15,13 +15,13 @@ use Rattle.conversation.specs.Drive.{Passed, over}
 use Rattle.conversation.specs.Paths.{Event, Asked, Took, Strayed, Drew, Opened, Printed, Follows, taken_in, drawn_in, outcome_in, OpensAll}
 use Rattle.conversation.specs.Talk.{Talk}
 use Rattle.conversation.proofs.Interface.{drawn_are_bytes}
-use Rattle.run_effects.specs.Events.{stop_events}
-use Rattle.run_effects.specs.Shares.{Counts, Outside, AreServed, AreServedBy, exchanges_of, messages_of}
-use Rattle.run_effects.specs.Ways.{ProceedsBy, Breaks, StopsBy, unwritten}
-use Rattle.run_effects.specs.declared.stops.Stop.{Stop}
-use Rattle.run_effects.specs.declared.stops.Stop.TheVariants as stop
-use Rattle.run_effects.proofs.Passing.{ahead, path_passes}
-use Rattle.run_effects.proofs.Unstreamed.{waits_from, lacks_after, breaks_follow, never_unread, never_long}
+use Rattle.script_run.specs.Events.{stop_events}
+use Rattle.script_run.specs.Shares.{Counts, Outside, AreServed, AreServedBy, exchanges_of, messages_of}
+use Rattle.script_run.specs.Ways.{ProceedsBy, Breaks, StopsBy, unwritten}
+use Rattle.script_run.specs.declared.stops.Stop.{Stop}
+use Rattle.script_run.specs.declared.stops.Stop.TheVariants as stop
+use Rattle.script_run.proofs.Passing.{ahead, path_passes}
+use Rattle.script_run.proofs.Unstreamed.{waits_from, lacks_after, breaks_follow, never_unread, never_long}
 
 -- ---- who serves
 
@@ -142,7 +142,8 @@ module _ {S : Type 0} (told : S → Beside) (serving : S → Request → Served 
       next (Opened meta key ∷ []) after one f h = (still (Opened meta key ∷ []), λ more. refl)
       next (e ∷ d ∷ es) after one f h = absurd (omega arith)
 
-      last_begins : (last : List Event) (after : Option Beside) → length last ≤ 1 → Follows u last v → WhereExposed (AreServed last) new.wire.state after → Begins serving keys t from (g.events ++ last)
+      last_begins : (last : List Event) (after : Option Beside) → length last ≤ 1 → Follows u last v
+          → WhereExposed (AreServed last) new.wire.state after → Begins serving keys t from (g.events ++ last)
       last_begins last after one f h =
           let n = next last after one f h in
           let drawn = flat_map-append drawn_in g.events last in

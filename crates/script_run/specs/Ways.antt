@@ -10,9 +10,9 @@ use Rattle.conversation.specs.Drive.{outcomes_in}
 use Rattle.conversation.specs.Paths.{Event, Asked, Took, Printed, Follows, next_of, replies_to}
 use Rattle.conversation.specs.Talk.{Talk, Ends, Stops, Asks, Hears, Notes, Draws, Opens, Prints, broken}
 use Rattle.conversation.specs.declared.outcomes.Outcome.{Outcome}
-use Rattle.run_effects.specs.Shares.{Anything, Counts, Outside, StaysOrRose, Stream, Wire, HasPut, HasRead, WirePut, WireRead, Begins, IsNext, all_stay, coming, messages_of, place_of}
-use Rattle.run_effects.specs.declared.stops.Stop.{Stop}
-use Rattle.run_effects.specs.declared.stops.Stop.TheVariants as stop
+use Rattle.script_run.specs.Shares.{Anything, Counts, Outside, StaysOrRose, Stream, Wire, HasPut, HasRead, WirePut, WireRead, Begins, IsNext, all_stay, coming, messages_of, place_of}
+use Rattle.script_run.specs.declared.stops.Stop.{Stop}
+use Rattle.script_run.specs.declared.stops.Stop.TheVariants as stop
 pub use Rattle.ae_base.specs.Limits.{most_stream_bytes}
 
 -- those that came are within this limit

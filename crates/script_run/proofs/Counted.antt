@@ -6,7 +6,7 @@ use Rattle.conversation.specs.Paths.{Event, Asked, Took, Strayed, Drew, Opened, 
 use Rattle.conversation.specs.declared.outcomes.Outcome.{Outcome}
 use Rattle.outcome_text.specs.Counting.{errors_in, rows_in, nothing, has_errors, count, counted}
 use Rattle.outcome_text.specs.Printing.{is_refusal, has_refusal}
-use Rattle.run_effects.specs.Shares.{exchanges_of}
+use Rattle.script_run.specs.Shares.{exchanges_of}
 use Rattle.outcome_text.specs.declared.tallies.Tally.{Tally}
 
 errors_from : (events : List Event) (t : Tally) → (counted events t).errors ≡ t.errors + errors_in (flat_map outcome_in events)

@@ -11,7 +11,7 @@ use Rattle.conversation.specs.Paths.{Event, Asked, Took, Strayed, Drew, Opened, 
 use Rattle.conversation.specs.Talk.{Talk}
 use Rattle.conversation.proofs.Interface.{follows_then, opens_then}
 use Rattle.outcome_text.specs.Counting.{count, counted}
-use Rattle.run_effects.specs.Shares.{
+use Rattle.script_run.specs.Shares.{
   Anything,
   ClientSide,
   Counts,
@@ -37,11 +37,11 @@ use Rattle.run_effects.specs.Shares.{
   frames_of,
   exchanges_of,
 }
-use Rattle.run_effects.specs.Ways.{Proceeds, ProceedsBy, HaltsAt, Lacks, Breaks, StopsBy, Advances, IsSilent, unwritten}
-use Rattle.run_effects.specs.declared.stops.Stop.{Stop}
-use Rattle.run_effects.specs.declared.stops.Stop.TheVariants as stop
+use Rattle.script_run.specs.Ways.{Proceeds, ProceedsBy, HaltsAt, Lacks, Breaks, StopsBy, Advances, IsSilent, unwritten}
+use Rattle.script_run.specs.declared.stops.Stop.{Stop}
+use Rattle.script_run.specs.declared.stops.Stop.TheVariants as stop
 use Rattle.outcome_text.specs.declared.tallies.Tally.{Tally}
-use Rattle.run_effects.proofs.Reading.{reads_still}
+use Rattle.script_run.proofs.Reading.{reads_still}
 
 queues_then : (version : FrameVersion) (xs ys : List Event) (a b c : Queue) → Queues version xs a b → Queues version ys b c → Queues version (xs ++ ys) a c
 queues_then version [] ys a b c p q = subst (λ w. Queues version ys w c) p q

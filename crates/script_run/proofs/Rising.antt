@@ -5,9 +5,9 @@ use Rattle.ae_edge.specs.Devices.{Rose, Stays}
 use Rattle.ae_edge.proofs.Interface.{rose_before}
 use Rattle.conversation.specs.Paths.{Event}
 use Rattle.conversation.specs.Talk.{Talk}
-use Rattle.run_effects.specs.Shares.{Comes, Outside, Queue, Stream, queue_of}
-use Rattle.run_effects.specs.Ways.{Breaks, StopsBy, off, printed_off, unwritten}
-use Rattle.run_effects.specs.declared.stops.Stop.TheVariants as stop
+use Rattle.script_run.specs.Shares.{Comes, Outside, Queue, Stream, queue_of}
+use Rattle.script_run.specs.Ways.{Breaks, StopsBy, off, printed_off, unwritten}
+use Rattle.script_run.specs.declared.stops.Stop.TheVariants as stop
 
 -- of the output, or of the tap
 abbrev pub WriteRose : Outside → Outside → Type 0

@@ -2,10 +2,10 @@
 use Rattle.std.specs.Prelude.{List, ◌++◌}
 use Rattle.conversation.specs.Paths.{Event}
 use Rattle.conversation.specs.Talk.{Talk}
-use Rattle.run_effects.specs.Shares.{Outside}
-use Rattle.run_effects.specs.Ways.{StopsBy, off, printed_off}
-use Rattle.run_effects.specs.declared.stops.Stop.{Stop}
-use Rattle.run_effects.specs.declared.stops.Stop.TheVariants as stop
+use Rattle.script_run.specs.Shares.{Outside}
+use Rattle.script_run.specs.Ways.{StopsBy, off, printed_off}
+use Rattle.script_run.specs.declared.stops.Stop.{Stop}
+use Rattle.script_run.specs.declared.stops.Stop.TheVariants as stop
 
 abbrev pub stop_events : (why : Stop) (t : Talk) (old new : Outside) → StopsBy why t old new → List Event
 stop_events (stop.BadReply place) t old new h = h.goes.events

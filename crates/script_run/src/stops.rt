@@ -22,7 +22,7 @@ pub enum Stop {
 
 impl From<WriteError> for Stop {
     ghost use Rattle.std.specs.Prelude.{◌≡◌};
-    ghost use Rattle.run_effects.specs.Stops.{stop_of_write};
+    ghost use Rattle.script_run.specs.Stops.{stop_of_write};
 
     ghost from_gives = { λ error stop. stop ≡ stop_of_write error };
 

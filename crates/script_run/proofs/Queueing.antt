@@ -9,7 +9,7 @@ use Rattle.wire_encoding.specs.Packing.{payload_frame, payloads_of}
 use Rattle.wire_encoding.proofs.Interface.{packed_replies}
 use Rattle.wire_frames.specs.Frames.{Placed, placed_from, placed_answer, spread}
 use Rattle.conversation.specs.Paths.{Event, Asked, Took, Strayed, Drew, Opened, Printed, Waits}
-use Rattle.run_effects.specs.Shares.{Queue, Queues, messages_of, with_answer}
+use Rattle.script_run.specs.Shares.{Queue, Queues, messages_of, with_answer}
 
 messages_append : (xs ys : List (Placed Reply)) → messages_of (xs ++ ys) ≡ messages_of xs ++ messages_of ys
 messages_append [] ys = refl

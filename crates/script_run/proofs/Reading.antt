@@ -6,8 +6,8 @@ use Rattle.ae_edge.proofs.Interface.{removes_none, removes_then, told_map}
 use Rattle.wire_messages.specs.declared.replies.Reply.{Reply}
 use Rattle.wire_encoding.specs.Packing.{payload_frame}
 use Rattle.conversation.specs.Paths.{Took}
-use Rattle.run_effects.specs.Shares.{Anything, Comes, Passes, Queue, Standing, StaysOrRose, Stream, coming, coming_behind, standing_of}
-use Rattle.run_effects.specs.Ways.{IsTooLong, IsWithin, Lacking, ReadsPrefix, most_stream_bytes}
+use Rattle.script_run.specs.Shares.{Anything, Comes, Passes, Queue, Standing, StaysOrRose, Stream, coming, coming_behind, standing_of}
+use Rattle.script_run.specs.Ways.{IsTooLong, IsWithin, Lacking, ReadsPrefix, most_stream_bytes}
 
 removes_held : (held : List ℕ) (left : Option (List ℕ)) → Removes held (coming_behind held left) left
 removes_held held (Some left) = refl

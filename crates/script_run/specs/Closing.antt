@@ -2,8 +2,8 @@
 use Rattle.std.specs.Prelude.{◌≡◌, ◌⊎◌, ℕ, Bool, List, Option}
 use Rattle.conversation.specs.Talk.{Talk, Ends}
 use Rattle.conversation.specs.declared.sessions.Session.{Session}
-use Rattle.run_effects.specs.Shares.{Outside, Wire}
-use Rattle.run_effects.specs.Ways.{Proceeds}
+use Rattle.script_run.specs.Shares.{Outside, Wire}
+use Rattle.script_run.specs.Ways.{Proceeds}
 
 -- with its tap closed so
 abbrev pub wire_as : Bool → Wire → Wire

@@ -43,7 +43,7 @@ use Rattle.conversation.specs.Talk.{Talk, Stops, Asks, Hears, Notes, Heard, More
 use Rattle.conversation.specs.Turns.{hearing}
 use Rattle.outcome_text.specs.Counting.{asked, counted, printed}
 use Rattle.outcome_text.specs.Printing.{printed_outcome}
-use Rattle.run_effects.specs.Shares.{
+use Rattle.script_run.specs.Shares.{
   Anything,
   ClientSide,
   Wire,
@@ -66,11 +66,11 @@ use Rattle.run_effects.specs.Shares.{
   devices_of,
   with_devices,
 }
-use Rattle.run_effects.specs.Ways.{Proceeds, ProceedsBy, HaltsAt, Breaks, StopsBy, AsksInPart, TakesOne, IsNextOf, IsNextOn, StaysWithin, off}
-use Rattle.run_effects.specs.Stops.{stop_of_write}
+use Rattle.script_run.specs.Ways.{Proceeds, ProceedsBy, HaltsAt, Breaks, StopsBy, AsksInPart, TakesOne, IsNextOf, IsNextOn, StaysWithin, off}
+use Rattle.script_run.specs.Stops.{stop_of_write}
 use Rattle.outcome_text.specs.declared.tallies.Tally.{Tally}
-use Rattle.run_effects.proofs.Going.{client_beside, client_still, comes_still, stay, client_front, wire_beside, wire_front, breaks_between, silent_by}
-use Rattle.run_effects.proofs.Reading.{reads_same, reads_still}
+use Rattle.script_run.proofs.Going.{client_beside, client_still, comes_still, stay, client_front, wire_beside, wire_front, breaks_between, silent_by}
+use Rattle.script_run.proofs.Reading.{reads_same, reads_still}
 
 -- ---- events of the driver by itself leave text, tap and replies
 
