@@ -6,9 +6,9 @@ ghost use Rattle.ae_cli.specs.Endings.{status_of_checking, status_of_generating,
 use ae_base::refusals::Refusal;
 use ae_base::texts::Txt;
 use check_command::steps::Checked;
+use command_words::status::Status;
 use gen_command::commands::Generated;
 use journal_command::endings::Ended;
-use command_words::status::Status;
 use serve_command::commands::Served;
 use wrap_command::commands::Wrapped;
 

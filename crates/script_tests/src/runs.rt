@@ -6,9 +6,9 @@ use ae_edge::memory::entropy::MemEntropy;
 use ae_edge::memory::sink::MemSink;
 use ae_edge::memory::source::MemSource;
 use ae_edge::memory::vault::MemVault;
+use command_words::status::Status;
 use run_command::commands::run;
 use run_command::summaries::summarize;
-use command_words::status::Status;
 use server_core::server::Server;
 use std::alloc::{AllocError, Global};
 

@@ -87,7 +87,7 @@ module _ (reading : HasOneReading SpellsRequest) (once : IsReadOnce is_request_h
         let all = answer_frames (state_after start b.answered) b.next in
         let next : IsPrefix (reply_frames start b.answered ++ b.front) (reply_frames start (b.answered ++ b.next ∷ [])) =
         subst (λ (l : List ℕ). IsPrefix (reply_frames start b.answered ++ b.front) l) (sym (frames_more start b.answered b.next))
-            (front_behind (reply_frames start b.answered) b.front all b.of_next) in
+        (front_behind (reply_frames start b.answered) b.front all b.of_next) in
         front_of (reply_frames start b.answered ++ b.front) frames out now b.put
         (front_then (reply_frames start b.answered ++ b.front) (reply_frames start (b.answered ++ b.next ∷ [])) frames next (first_frames (b.answered ++ b.next ∷ []) b.others b.begins))
 

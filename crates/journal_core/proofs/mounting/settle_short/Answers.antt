@@ -11,7 +11,7 @@ returns-in-Bytes-clause-call g c =
           (short_settled_told c.repair_short.result c.in-Bytes.file _ _ _ c.requires.kept c.in-Bytes.ensures.call.content (rw c.as_slice.ensures at c.repair_short.ensures.content));
       count = search rules;
       counts = c.mended.ensures.counts _ _
-        (subst (λ n. CountsStored c.repair_short.result n (g.D.Disk.seen c.repair_short.new.disk).faults) c.in-Bytes.ensures.call.counts c.repair_short.ensures.counts);
+          (subst (λ n. CountsStored c.repair_short.result n (g.D.Disk.seen c.repair_short.new.disk).faults) c.in-Bytes.ensures.call.counts c.repair_short.ensures.counts);
       same = search rules;
     }
 
