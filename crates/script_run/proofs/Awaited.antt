@@ -15,6 +15,7 @@ use Rattle.conversation.specs.declared.answers.ReplyAnswer.{ReplyAnswer}
 use Rattle.conversation.specs.declared.answers.ReplyAnswer.TheVariants as answer
 use Rattle.conversation.specs.declared.faults.DriverFault.{DriverFault}
 use Rattle.conversation.specs.declared.faults.Halt.{Halt}
+use Rattle.conversation.specs.declared.faults.Halt.TheVariants as halt
 use Rattle.conversation.specs.declared.outcomes.Listing.{Listing}
 use Rattle.conversation.specs.declared.sessions.ColumnType.{ColumnType}
 use Rattle.conversation.specs.declared.sessions.Session.{Session}
@@ -175,6 +176,12 @@ pub halts_told : (trusted : List (List ℕ)) (told : Told) → TellsRows told �
 halts_told trusted (Tells wanted next) w h before now p = p.1
 halts_told trusted (Shows header) w h before now p = absurd w
 halts_told trusted Stray w h before now p = p.1
+
+-- and it halts where memory is refused
+pub halts_memory : (trusted : List (List ℕ)) (told : Told) → TellsRows told → (h : Halt) (before now : Devices) → HaltsAs trusted h told before now → h ≡ halt.OutOfMemory
+halts_memory trusted (Tells wanted next) w h before now p = p.0
+halts_memory trusted (Shows header) w h before now p = absurd w
+halts_memory trusted Stray w h before now p = p.0
 
 pub hears_rows : (session : Session) → IsRows session → (shown : Listing) (r : Reply) → hear session shown r ≡ heard_answer shown (replied session r)
 hears_rows (Reading columns keys count) w shown r = refl
