@@ -1,4 +1,3 @@
 pub mod Chosen
-pub mod Counts
 mod Ends
 pub mod Parsed

@@ -1,4 +1,5 @@
 mod Capitals
+mod Counts
 mod Digits
 pub mod Interface
 mod Progress
