@@ -102,13 +102,13 @@ module _ (first last : DurableView) (none : first.durable.held ≡ map frames_of
         let s = so_far b.some.requests first b.between none b.some.answered in
         elim (b.stopped (held_after start nothing_held b.some.requests) s.held) [
           | inl before ↦ (
-              (few, inl (first_before start b.some.requests b.between.durable (outside_of first) (outside_of b.between) s taken b.some.others b.some.begins (outside_of last) before.put)),
-              kept_before start b.some.requests b.between.durable (outside_of first) (outside_of b.between) s taken b.next b.others b.begins (outside_of last) before,
-            )
+            (few, inl (first_before start b.some.requests b.between.durable (outside_of first) (outside_of b.between) s taken b.some.others b.some.begins (outside_of last) before.put)),
+            kept_before start b.some.requests b.between.durable (outside_of first) (outside_of b.between) s taken b.next b.others b.begins (outside_of last) before,
+          )
           | inr part ↦ (
-              (few, inr (breaks_in start b.some.requests b.between.durable (outside_of first) (outside_of b.between) s taken b.next b.others b.begins (outside_of last) part.1)),
-              (kept_in_part start b.some.requests b.between.durable (outside_of first) (outside_of b.between) s taken b.next b.others b.begins (outside_of last) part.0 part.1).kept,
-            )
+            (few, inr (breaks_in start b.some.requests b.between.durable (outside_of first) (outside_of b.between) s taken b.next b.others b.begins (outside_of last) part.1)),
+            (kept_in_part start b.some.requests b.between.durable (outside_of first) (outside_of b.between) s taken b.next b.others b.begins (outside_of last) part.0 part.1).kept,
+          )
         ]
 
   past : (taken : List ℕ) (end : End) → AnswersEach AnswersRequest (take most_stream_bytes taken) end first last → KeepsSo ended.TooLong start taken (outside_of first) (outside_of last)

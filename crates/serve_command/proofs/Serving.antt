@@ -1,17 +1,20 @@
 -- What the server put for the requests of an input.
-use Rattle.std.proofs.Common.{◌≡◌, ℕ, List, [], ◌∷◌, Option, refl, sym, ap, subst, ◌∙◌, inl, inr}
-use Rattle.ae_edge.specs.Devices.{Adds, Rose}
-use Rattle.ae_edge.specs.Streams.{CountsWrite}
+use Rattle.std.proofs.Common.{◌≡◌, ℕ, List, [], ◌∷◌, Option, Result, Ok, Err, refl, sym, ap, subst, ◌∙◌, inl, inr}
+use Rattle.ae_edge.specs.Devices.{Adds, AddsPrefix, Rose}
+use Rattle.ae_edge.specs.Streams.{CountsPutAll, CountsWrite, PutsAll}
 use Rattle.ae_edge.specs.declared.streams.WriteError.{WriteError}
 use Rattle.ae_edge.specs.declared.streams.WriteError.TheVariants as write
 use Rattle.ae_edge.proofs.Interface.{adds_none, adds_then}
+use Rattle.wire_messages.specs.Exchanges as exchanges
+use Rattle.wire_messages.specs.declared.replies.Reply.{Reply}
 use Rattle.wire_messages.specs.declared.requests.Request.{Request}
 use Rattle.wire_payloads.specs.declared.versioned.Versioned.{Versioned}
+use Rattle.wire_encoding.specs.Packing.{packed}
 use Rattle.wire_frames.specs.Frames.{End}
 use Rattle.server_core.specs.Laws.{RequestsAreSerial}
 use Rattle.server_core.specs.Serve.{State, empty_state, serve}
 use Rattle.serve_command.specs.Inputs.{CountsEnding, EndsAs, ServesInput}
-use Rattle.serve_command.specs.Requests.{AnswersEach, AnswersEachOpen, AnswersSome, AreAnswered, StopsAfter}
+use Rattle.serve_command.specs.Requests.{Answers, AnswersEach, AnswersEachOpen, AnswersSome, AreAnswered, CountsAnswer, StopsAfter}
 use Rattle.serve_command.specs.ServeAll.{answer_frames, messages_of, reply_frames, state_after}
 use Rattle.serve_command.specs.Servers.{AnswersRequest, ServerView, StopsRequest, served_by}
 use Rattle.serve_command.specs.Serving.{AnswersAll, AnswersFirst, AnswersOpen, BreaksOff, Ends, ServesStream}
@@ -20,6 +23,20 @@ use Rattle.serve_command.specs.declared.commands.Served.TheVariants as served
 use Rattle.serve_command.specs.declared.inputs.Ending.{Ending}
 use Rattle.serve_command.specs.declared.inputs.Ending.TheVariants as ending
 use Rattle.serve_command.proofs.Replying.{answers_all, breaks_off}
+
+-- ---- one request
+
+-- it was served, and the frames of the replies were put, or a prefix of them
+pub answers_put : {A : Type 0} (result : Result A WriteError) (asked : Versioned Request) (old new : ServerView) (replies : List Reply)
+    → serve old.state asked.message ≡ record { replies = replies; after = new.state } → PutsAll (packed asked.version replies) result old.out new.out
+    → Answers AnswersRequest StopsRequest result asked old new
+answers_put (Ok x) asked old new replies s p =
+    (sym (ap (λ (v : exchanges.Served State). v.after) s), subst (λ (v : exchanges.Served State). Adds (packed asked.version v.replies) old.out new.out) (sym s) p)
+answers_put (Err e) asked old new replies s p = subst (λ (v : exchanges.Served State). AddsPrefix (packed asked.version v.replies) old.out new.out) (sym s) p
+
+pub counts_put : {A : Type 0} (result : Result A WriteError) (old new : ℕ) → CountsPutAll result old new → CountsAnswer CountsWrite result old new
+counts_put (Ok x) old new c = c
+counts_put (Err e) old new c = c
 
 -- ---- the requests
 

@@ -19,6 +19,7 @@ pub trait Answering<D> {
 
     /// What is seen of it, of its device and of the output.
     ghost View: { Type 0 };
+
     ghost seen: { Self → D → Option (List ℕ) → View };
 
     /// A request can be answered.
@@ -32,6 +33,7 @@ pub trait Answering<D> {
 
     /// The counts of faults of the device and of the output.
     ghost Faults: { Type 0 };
+
     ghost failed: { D → ℕ → Faults };
 
     /// How they change where a request isn't answered whole.
