@@ -9,7 +9,7 @@ parts.tsv    the same with a word of an identifier in place of the whole: strays
 phrases.tsv  file <tab> old <tab> new: in comments and documents, where old is there exactly once
 
 A scope is a list of patterns of paths, divided by blanks (`*` everywhere; `!pattern` leaves out; `+text`: of files that
-have the text). The first row that fits
+have the text, `~pattern`: of those that a regular expression without blanks fits). The first row that fits
 an identifier decides. `before` and `after` are regular expressions that the line must have right at the identifier. `=` as
 new keeps the identifier. Strings of code stay. In comments and documents only what stands in backticks is renamed.
 """
@@ -44,16 +44,16 @@ def text_of(path):
 class Scope:
     def __init__(self, text):
         words = text.split()
-        self.of = [w for w in words if w[0] not in "!+"] or ["*"]
+        self.of = [w for w in words if w[0] not in "!+~"] or ["*"]
         self.not_of = [w[1:] for w in words if w[0] == "!"]
-        self.needs = [w[1:] for w in words if w[0] == "+"]
+        self.needs = [re.compile(re.escape(w[1:]) if w[0] == "+" else w[1:], re.S) for w in words if w[0] in "+~"]
         self.known = {}
 
     def has(self, path):
         if path not in self.known:
             fits = lambda pattern: fnmatch.fnmatch(path, pattern) or fnmatch.fnmatch(path, "crates/" + pattern)
             self.known[path] = any(map(fits, self.of)) and not any(map(fits, self.not_of)) \
-                and (not self.needs or any(t in text_of(path) for t in self.needs))
+                and (not self.needs or any(t.search(text_of(path)) for t in self.needs))
         return self.known[path]
 
 
@@ -103,7 +103,22 @@ def cased(model, word):
     return word
 
 
+LIBRARY = set()
+
+
+def of_library():
+    """Names that files take from the toolchain's crates: they stay, unless names.tsv says otherwise."""
+    ours = set(os.listdir(os.path.join(TOP, "crates")))
+    for path, full in files():
+        if path.startswith("crates/") and os.path.splitext(path)[1] in CODE:
+            for crate, names in re.findall(r"use Rattle\.(\w+)\.[\w.]*\.\{([^}]*)\}", text_of(path)):
+                if crate not in ours:
+                    LIBRARY.update(TOKEN.findall(names))
+
+
 def renamed(token, path, line, start, end):
+    if token in LIBRARY and token not in NAMES:
+        return token
     for row in NAMES.get(token, ()):
         if row.fits(path, line, start, end):
             row.uses += 1
@@ -279,11 +294,32 @@ def uses():
     return collections.defaultdict(set, {name: all_of(name) for name in direct})
 
 
+def locals_lost(old_texts, new_texts, back):
+    """In the proof of a function a name of its file that is renamed as its file isn't."""
+    codes = {p[:-3]: p for p in new_texts if p.endswith(".rt")}
+    for path, made in new_texts.items():
+        parts = path.split("/")
+        if parts[2] != "proofs" or len(parts) < 6:
+            continue
+        homes = [codes[f"crates/{parts[1]}/src/" + "/".join(parts[3:n])] for n in range(4, len(parts)) if f"crates/{parts[1]}/src/" + "/".join(parts[3:n]) in codes]
+        if not homes:
+            continue
+        code_old, code_new = (set(TOKEN.findall("\n".join(plain(line, ".rt") for line in t.split("\n"))))
+                              for t in (old_texts[back[homes[-1]]], new_texts[homes[-1]]))
+        for old, new in zip(old_texts[back[path]].split("\n"), made.split("\n")):
+            if "use Rattle" in old:
+                continue
+            for a, b in zip(TOKEN.findall(plain(old, ".antt")), TOKEN.findall(plain(new, ".antt"))):
+                if (a != b or a in NAMES) and a in code_old and b not in code_new:
+                    yield f"{path}: {a} -> {b} isn't in {homes[-1]}"
+
+
 def main():
     only_check = "--check" in sys.argv
     phrases, missed, met, wide, moves, changed, count = all_phrases(), [], [], [], [], 0, 0
     before, after = set(), collections.defaultdict(set)
     old_texts, new_texts, back = {}, {}, {}
+    of_library()
     for path, full in files():
         try:
             text = open(full, encoding="utf-8").read()
@@ -318,6 +354,7 @@ def main():
             taken.append(f"file {a} -> {b}: is there")
     below = uses()
     unfound = unresolved(old_texts, below)
+    local = locals_lost(old_texts, new_texts, back)
     lost = [f"{p}: {kind} {name}" for p, kind, name in sorted(unresolved(new_texts, below)) if (back[p], kind, name) not in unfound]
     if not only_check:
         for a, b in moves:
@@ -328,7 +365,7 @@ def main():
                 os.rmdir(root)
     with open(os.path.join(HERE, "report.txt"), "w") as out:
         sections = (("COLLISIONS in one block (path, line, new name, old names)", [f"{p}:{n}: {b} <- {', '.join(o)}" for p, n, b, o in met]),
-                    ("CITED and not found any more", lost), ("NEW NAMES that were there before", taken), ("LINES that get too wide", wide),
+                    ("CITED and not found any more", lost), ("LOCAL names that differ from their file's", sorted(set(local))), ("NEW NAMES that were there before", taken), ("LINES that get too wide", wide),
                     ("PHRASES not there exactly once", [f"{p} ({n}): {o!r}" for p, n, o in missed]),
                     ("ROWS that fit nothing", [f"{r.old} -> {r.new}" for r in ALL if not r.uses and r.new != "="]),
                     ("FILES moved", [f"{a} -> {b}" for a, b in moves]))

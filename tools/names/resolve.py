@@ -31,7 +31,7 @@ def unresolved(texts, below):
                     labels[m.group(1)].add((kind, label))
         fields[crate_of(p)] |= set(re.findall(r"^\s*(?:pub(?:\(crate\))? )?(?:ghost )?([a-z_]\w*)\s*:", t, re.M))
         fields[crate_of(p)] |= set(re.findall(r"[({,]\s*(?:ref |mut )*([a-z_]\w*)\s*[:,})]", t))
-        fields[crate_of(p)] |= set(re.findall(r"\b(?:fn|let|mod|for|abbrev|pub|in) (?:mut |pub )*([a-z_]\w*)", t))
+        fields[crate_of(p)] |= set(re.findall(r"\b(?:fn|let|mod|for|abbrev|pub|in) (?:mut |pub |fn |mod |abbrev |unfoldable )*([a-z_]\w*)", t))
         fields[crate_of(p)] |= set(re.findall(r"(?:record|;|\{|\()\s*([a-z_]\w*) = ", t))
         fields[crate_of(p)] |= set(re.findall(r"(?:ensures|requires|as) ([a-z_]\w*)", t))
     out = set()
