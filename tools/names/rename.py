@@ -148,6 +148,11 @@ def ticked(text, path):
     return re.sub(r"`[^`]+`", lambda m: in_code(m.group(), path), text)
 
 
+def shown_in(string, path):
+    """A string of code, which may show variables in braces."""
+    return re.sub(r"\{([a-z_]\w*)(?=[:}])", lambda m: "{" + renamed(m.group(1), path, m.group(1), 0, len(m.group(1))), string)
+
+
 def in_line(line, path, kind):
     """A line of code: strings stay, and of its comment what stands in backticks is renamed."""
     out, at = [], 0
@@ -163,7 +168,7 @@ def in_line(line, path, kind):
             out.append(in_code(line[at:], path, line, at))
             break
         out.append(in_code(line[at:string.start()], path, line, at))
-        out.append(string.group())
+        out.append(shown_in(string.group(), path) if kind == ".rt" else string.group())
         at = string.end()
     return "".join(out)
 
@@ -325,6 +330,7 @@ def main():
             text = open(full, encoding="utf-8").read()
         except (UnicodeDecodeError, OSError):
             continue
+        text = phrased(text, path, phrases, missed)
         made = new_text(text, path)
         if os.path.splitext(path)[1] in CODE:
             met += collisions(path, text, made)
@@ -337,13 +343,12 @@ def main():
             for i, (a, b) in enumerate(zip(text.split("\n"), made.split("\n")), 1):
                 if len(b) > limit >= len(a):
                     wide.append(f"{path}:{i}: {len(b)}")
-        made = phrased(made, path, phrases, missed)
         to = path_of(path)
         if path.startswith("crates/") and os.path.splitext(path)[1] in CODE:
             old_texts[path], new_texts[to], back[to] = text, made, path
         if to != path:
             moves.append((path, to))
-        if made != text:
+        if made != open(full, encoding="utf-8").read():
             changed += 1
             if not only_check:
                 open(full, "w", encoding="utf-8").write(made)
