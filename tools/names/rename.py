@@ -360,7 +360,7 @@ def main():
     below = uses()
     unfound = unresolved(old_texts, below)
     local = locals_lost(old_texts, new_texts, back)
-    lost = [f"{p}: {kind} {name}" for p, kind, name in sorted(unresolved(new_texts, below)) if (back[p], kind, name) not in unfound]
+    lost = [f"{p}: {kind} {name}" for p, kind, name in sorted(unresolved(new_texts, below) if only_check else ()) if (back[p], kind, name) not in unfound]
     if not only_check:
         for a, b in moves:
             os.makedirs(os.path.dirname(os.path.join(TOP, b)), exist_ok=True)
