@@ -39,4 +39,14 @@ with open(TOP + "tools/names/phrases.tsv", "w") as w:
         w.write("\t".join([path, old.replace("\n", "\\n"), new.replace("\n", "\\n")]) + "\n")
     for line in open(TOP + "tools/names/phrases_more.tsv"):
         w.write(line)
+    for line in open(TOP + "tools/names/heads.txt"):
+        path, new = line.rstrip("\n").split("|", 1)
+        at = f"{TOP}crates/{path}"
+        first, second = open(at).read().split("\n")[:2]
+        if second.startswith("--"):
+            print("two lines:", path)
+        elif first.endswith("."):
+            w.write(f"crates/{path}\t{first}\n".rstrip("\n") + "\t" + new + "\n")
+        else:
+            print("no end:", path)
 print(len(rows), "comments;", bad)
