@@ -6,7 +6,7 @@
 
 names.tsv    scope <tab> old <tab> new [<tab> before [<tab> after]]
 parts.tsv    the same with a word of an identifier in place of the whole: strays, MyStrays, is_strays
-phrases.tsv  file <tab> old <tab> new: in comments and documents, where old is there exactly once
+phrases.tsv  file <tab> old <tab> new: in comments and documents, where old is there once (or as often as the table has it)
 
 A scope is a list of patterns of paths, divided by blanks (`*` everywhere; `!pattern` leaves out; `+text`: of files that
 have the text, `~pattern`: of those that a regular expression without blanks fits). The first row that fits
@@ -219,8 +219,10 @@ def new_text(text, path):
 # ---- phrases
 
 def phrased(text, path, phrases, missed):
-    for old, new in phrases.get(path, ()):
-        if text.count(old) != 1:
+    """Each old sentence is there as often as the table has it."""
+    times = collections.Counter(old for old, _ in phrases.get(path, ()))
+    for old, new in dict(phrases.get(path, ())).items():
+        if text.count(old) != times[old]:
             missed.append((path, text.count(old), old))
             continue
         text = text.replace(old, new)
