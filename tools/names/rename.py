@@ -6,6 +6,7 @@
 
 names.tsv    scope <tab> old <tab> new [<tab> before [<tab> after]]
 parts.tsv    the same with a word of an identifier in place of the whole: strays, MyStrays, is_strays
+words.tsv    scope <tab> pattern <tab> new: words of comments of code, by regular expressions
 phrases.tsv  file <tab> old <tab> new: in comments and documents, where old is there once (or as often as the table has it)
 
 A scope is a list of patterns of paths, divided by blanks (`*` everywhere; `!pattern` leaves out; `+text`: of files that
@@ -144,8 +145,23 @@ def in_code(text, path, whole=None, at=0):
     return TOKEN.sub(lambda m: renamed(m.group(), path, whole, at + m.start(), at + m.end()), text)
 
 
+WORDS = [(Scope(f[0]), re.compile(f[1]), f[2]) for f in table("words.tsv")]
+
+
+def worded(text, path):
+    for scope, pattern, new in WORDS:
+        if pattern.search(text) and scope.has(path):
+            text = pattern.sub(new, text)
+    return text
+
+
 def ticked(text, path):
     return re.sub(r"`[^`]+`", lambda m: in_code(m.group(), path), text)
+
+
+def commented(text, path):
+    """A comment: its words, and the names in backticks."""
+    return "".join(in_code(p, path) if p.startswith("`") else worded(p, path) for p in re.split(r"(`[^`]+`)", text))
 
 
 def shown_in(string, path):
@@ -162,7 +178,7 @@ def in_line(line, path, kind):
         comment = line.find(mark, at)
         if comment >= 0 and (not string or comment < string.start()):
             out.append(in_code(line[at:comment], path, line, at))
-            out.append(ticked(line[comment:], path))
+            out.append(commented(line[comment:], path))
             return "".join(out)
         if not string:
             out.append(in_code(line[at:], path, line, at))
