@@ -16,6 +16,7 @@ new keeps the identifier. Strings of code stay. In comments and documents only w
 """
 import collections
 import fnmatch
+import functools
 import os
 import re
 import sys
@@ -117,15 +118,21 @@ def of_library():
                     LIBRARY.update(TOKEN.findall(names))
 
 
+@functools.cache
+def is_known(token):
+    """Whether a row of a table is about a token at all."""
+    return token in NAMES or (token not in LIBRARY and any(p.lower() in PARTS for p in PIECE.findall(token)))
+
+
 def renamed(token, path, line, start, end):
-    if token in LIBRARY and token not in NAMES:
+    if not is_known(token):
         return token
     for row in NAMES.get(token, ()):
         if row.fits(path, line, start, end):
             row.uses += 1
             return token if row.new == "=" else row.new
     pieces = PIECE.findall(token)
-    if "".join(pieces) != token:
+    if "".join(pieces) != token or token in LIBRARY:
         return token
     out, is_changed = [], False
     for piece in pieces:
