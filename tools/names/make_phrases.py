@@ -33,7 +33,7 @@ for number, texts in edits.items():
     new = f"\n{mark}\n".join(out)
     old = "\n".join(lines)
     if old != new:
-        rows.append((path, old, new))
+        rows.append((path, old + "\n", new + "\n"))
 with open(TOP + "tools/names/phrases.tsv", "w") as w:
     for path, old, new in rows:
         w.write("\t".join([path, old.replace("\n", "\\n"), new.replace("\n", "\\n")]) + "\n")
