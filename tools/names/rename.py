@@ -359,11 +359,13 @@ def main():
         made = new_text(text, path)
         if os.path.splitext(path)[1] in CODE:
             met += collisions(path, text, made)
-            for a, b in zip(TOKEN.findall(text), TOKEN.findall(made)):
-                before.add(a)
-                if a != b:
-                    after[b].add(a)
-                    count += 1
+            kind = os.path.splitext(path)[1]
+            for old_line, new_line in zip(text.split("\n"), made.split("\n")):
+                for a, b in zip(TOKEN.findall(plain(old_line, kind)), TOKEN.findall(plain(new_line, kind))):
+                    before.add(a)
+                    if a != b:
+                        after[b].add(a)
+                        count += 1
             limit = 100 if path.endswith(".rt") else 200
             for i, (a, b) in enumerate(zip(text.split("\n"), made.split("\n")), 1):
                 if len(b) > limit >= len(a):

@@ -8,6 +8,8 @@ WORD = re.compile(r"[A-Za-z_][A-Za-z0-9_']*")
 FN = re.compile(r"\bfn (\w+)")
 LABEL = re.compile(r"^\s*(ensures|requires)\*?(?: (\w+))? \{", re.M)
 CITED = re.compile(r"[.\-]?(\w+?)(?:-\d+)?\.(ensures|requires)\.(\w+)")
+GOAL = re.compile(r"\b([a-z]\w*?)(?:-[\w]+)*?-requires-clause-(\w+)")
+RETURNS = re.compile(r"returns[\w-]*?-clause-(\w+)")
 ACCESS = re.compile(r"\.([a-z_][A-Za-z0-9_]*)")
 MADE = re.compile(r"(?:[{;(]|record|\n)\s*([a-z_][a-z0-9_]*) = ")
 
@@ -72,6 +74,13 @@ def unresolved(texts, below):
                     if piece not in of_crate[crate] and piece not in ("self", "super", "crate"):
                         out.add((p, "use", path + "::" + piece))
         if p.endswith(".antt") and "/proofs/" in p:
+            for fn, label in GOAL.findall(t):
+                if fn in labels and ("requires", label) not in labels[fn]:
+                    out.add((p, "goal", f"{fn}-requires-clause-{label}"))
+            own = {label for f in labels for kind, label in labels[f] if kind == "ensures"}
+            for label in RETURNS.findall(t):
+                if label not in own:
+                    out.add((p, "goal", f"returns-clause-{label}"))
             for fn, kind, label in CITED.findall(t):
                 if fn in labels and (kind, label) not in labels[fn]:
                     out.add((p, "clause", f"{fn}.{kind}.{label}"))
