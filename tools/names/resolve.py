@@ -36,6 +36,7 @@ def unresolved(texts, below):
         fields[crate_of(p)] |= set(re.findall(r"\b(?:fn|let|mod|for|abbrev|pub|in) (?:mut |pub |fn |mod |abbrev |unfoldable )*([a-z_]\w*)", t))
         fields[crate_of(p)] |= set(re.findall(r"(?:record|;|\{|\()\s*([a-z_]\w*) = ", t))
         fields[crate_of(p)] |= set(re.findall(r"(?:ensures|requires|as) ([a-z_]\w*)", t))
+    own = {label for f in labels for kind, label in labels[f] if kind == "ensures"}
     out = set()
     for p, t in texts.items():
         if p.endswith(".antt") or p.endswith(".rt"):
@@ -77,7 +78,6 @@ def unresolved(texts, below):
             for fn, label in GOAL.findall(t):
                 if fn in labels and ("requires", label) not in labels[fn]:
                     out.add((p, "goal", f"{fn}-requires-clause-{label}"))
-            own = {label for f in labels for kind, label in labels[f] if kind == "ensures"}
             for label in RETURNS.findall(t):
                 if label not in own:
                     out.add((p, "goal", f"returns-clause-{label}"))
