@@ -137,8 +137,8 @@ pub fn serve_journal<S: Source, W: Sink, D: Disk>(
     ensures servable { WhereExposed StaysServable (D.seen disk.old).content
         (D.seen disk.new).content }
     ensures undamaged { IsntDamaged result (D.seen disk.old).content (D.seen disk.new).content }
-    // The faults of the outside come only where a count rose.
     ensures same { (D.seen disk.new).names ≡ (D.seen disk.old).names }
+    // The faults of the outside come only where a count rose.
     ensures read { result ≡ Ended.ReadFault
         → Rose (S.seen input.old).faults (S.seen input.new).faults }
     ensures write { result ≡ Ended.WriteFault

@@ -4,7 +4,7 @@ use Rattle.ae_edge.specs.Streams.{PutsAll}
 use Rattle.wire_encoding.specs.Packing.{packed}
 use Rattle.wire_messages.specs.declared.replies.Reply.{Reply}
 use Rattle.serve_command.proofs.Serving.{answers_put, counts_put}
-use Rattle.serve_command.proofs.answers.ServerAnswering.answer.Goals as goal
+use Rattle.serve_command.proofs.answers.ServerAnsweringUnit.answer.Goals as goal
 
 pub returns-in-Ok-clause-answered : goal.returns-in-Ok-clause-answered
 returns-in-Ok-clause-answered g c =
