@@ -96,8 +96,7 @@ use Rattle.operators.specs.Groups.{Group}
 use Rattle.unique_keys.specs.Keys.{unless_twins}
 use Rattle.row_changes.specs.Rows.{admitted, column_at, value_into, values_into, value_at, value_or_null, completed, new_row, new_rows}
 use Rattle.row_changes.specs.Changes.{selects, set_values, updated_row, row_to_update, row_to_delete}
-use Rattle.query_results.specs.Results.{item_of, items_of, found_of, results, groups_of, found_of_groups, all_found}
-use Rattle.sql_tree.specs.Bound.{is_grouped}
+use Rattle.query_results.specs.Results.{item_of, items_of, found_of, results, groups_of, found_of_groups, is_grouped, all_found}
 use Rattle.engine.specs.Queries.{walked, where_true, events_of, found_in}
 use Rattle.engine.specs.Step.{Answer, Done, outcome, columns_of, rows_to_insert, rows_to_update, rows_to_delete, done_by, step}
 use Rattle.engine.specs.Worlds.{World, rows_of}

@@ -43,8 +43,7 @@ use Rattle.operators.specs.Events.{Event, scan_of, join_of}
 use Rattle.operators.specs.Found.{Found, keys_of}
 use Rattle.operators.specs.Groups.{Group, grouped_row, grouping_of}
 use Rattle.operators.proofs.Interface.{AllRows, came, came_before, each_all, rows_filtered, rows_joined, rows_scanned}
-use Rattle.query_results.specs.Results.{items_of, found_of, results, groups_of, found_of_groups, all_found, answer_rows}
-use Rattle.sql_tree.specs.Bound.{is_grouped}
+use Rattle.query_results.specs.Results.{items_of, found_of, results, groups_of, is_grouped, found_of_groups, all_found, answer_rows}
 use Rattle.query_results.proofs.Interface.{all_answered, results_all}
 use Rattle.row_changes.specs.Rows.{values_into, completed, new_row, new_rows, replaced}
 use Rattle.row_changes.specs.Changes.{Tested, selects, set_values, updated_row, row_to_update, tested_row, row_to_delete}

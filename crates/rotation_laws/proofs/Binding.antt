@@ -52,7 +52,7 @@ use Rattle.enc_types.specs.Rules.{rules, item_rules}
 use Rattle.enc_types.specs.Least.{inferred_encs, clash_behind}
 use Rattle.semantic_checks.specs.Checks.{check_of, is_too_long}
 use Rattle.semantic_checks.specs.Clashes.{Types, clashes, item_clashes}
-use Rattle.semantic_checks.specs.Grouping.{ungrouped_places}
+use Rattle.semantic_checks.specs.Grouping.{ungrouped_places, counts}
 use Rattle.expression_binding.specs.Scopes.{ScopeColumn, Source, bound_source, columns_under, sites_of}
 use Rattle.resolve.specs.Bind.{bind, bound_over, resolution}
 use Rattle.resolve.specs.Queries.{star_items}
@@ -87,7 +87,7 @@ star_clashes : (types : Types) (at i : ℕ) (cs : List ScopeColumn) → flat_map
 star_clashes types at i [] = refl
 star_clashes types at i (c ∷ cs) = star_clashes types at (i + 1) cs
 
-star_counts : (at i : ℕ) (cs : List ScopeColumn) → list_any (λ (item : BoundItem). bound.is_count item.value) (star_items at i cs) ≡ false
+star_counts : (at i : ℕ) (cs : List ScopeColumn) → list_any counts (star_items at i cs) ≡ false
 star_counts at i [] = refl
 star_counts at i (c ∷ cs) = star_counts at (i + 1) cs
 

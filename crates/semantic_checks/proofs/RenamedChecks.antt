@@ -14,7 +14,7 @@ use Rattle.sql_tree.specs.Operands.{Operand, Terms, place_of}
 use Rattle.sql_tree.specs.Operands as operands
 use Rattle.sql_tree.specs.Conditions.{Condition, Conditions}
 use Rattle.sql_tree.specs.Conditions as conditions
-use Rattle.sql_tree.specs.Bound.{BoundRow, BoundAssignment, BoundJoin, BoundItem, BoundItemValue, BoundQuery, BoundStatement, Bound, is_count, is_grouped}
+use Rattle.sql_tree.specs.Bound.{BoundRow, BoundAssignment, BoundJoin, BoundItem, BoundItemValue, BoundQuery, BoundStatement, Bound}
 use Rattle.sql_tree.specs.Bound as bound
 use Rattle.sql_tree.specs.Uses.{
   uses_in,
@@ -74,6 +74,9 @@ use Rattle.semantic_checks.specs.Clashes.{
   clashes,
 }
 use Rattle.semantic_checks.specs.Grouping.{
+  value_counts,
+  counts,
+  groups,
   operand_ungrouped,
   value_ungrouped,
   item_ungrouped,
@@ -257,7 +260,7 @@ module _ (f : ℕ → ℕ) where
   flat_alike g g' one [] = refl
   flat_alike g g' one (x ∷ xs) = both (g x) (flat_map g xs) (g' x) (flat_map g' xs) (one x) (flat_alike g g' one xs)
 
-  counted : (v : BoundItemValue) → is_count (renamed_value f v) ≡ is_count v
+  counted : (v : BoundItemValue) → value_counts (renamed_value f v) ≡ value_counts v
   counted (bound.Value o) = refl
   counted (bound.Count at) = refl
 
@@ -288,12 +291,12 @@ module _ (f : ℕ → ℕ) where
 
   query_alone : (q : BoundQuery) → query_ungrouped (renamed_query f q) ≡ query_ungrouped q
   query_alone q =
-      let grouped : is_grouped (renamed_query f q) ≡ is_grouped q = ap (λ z. not (length q.group_by == 0) || z) (any_same (λ item. is_count item.value) (renamed_item f) (λ i. counted i.value) q.items) in
-      both (cond (is_grouped q) (flat_map (item_ungrouped q.group_by) q.items) []) (cond (is_grouped q || is_some q.distinct) (flat_map (key_unselected q.items) q.order_by) []) _ _
+      let grouped : groups (renamed_query f q) ≡ groups q = ap (λ z. not (length q.group_by == 0) || z) (any_same counts (renamed_item f) (λ i. counted i.value) q.items) in
+      both (cond (groups q) (flat_map (item_ungrouped q.group_by) q.items) []) (cond (groups q || is_some q.distinct) (flat_map (key_unselected q.items) q.order_by) []) _ _
       (ap (λ z. cond z (flat_map (item_ungrouped q.group_by) (map (renamed_item f) q.items)) []) grouped
-      ∙ ap (λ z. cond (is_grouped q) z []) (flat_same (item_ungrouped q.group_by) (renamed_item f) (λ i. value_alone q.group_by i.value) q.items))
+      ∙ ap (λ z. cond (groups q) z []) (flat_same (item_ungrouped q.group_by) (renamed_item f) (λ i. value_alone q.group_by i.value) q.items))
       (ap (λ z. cond (z || is_some q.distinct) (flat_map (key_unselected (map (renamed_item f) q.items)) q.order_by) []) grouped
-      ∙ ap (λ z. cond (is_grouped q || is_some q.distinct) z []) (flat_alike (key_unselected q.items) (key_unselected (map (renamed_item f) q.items)) (unselected q.items) q.order_by))
+      ∙ ap (λ z. cond (groups q || is_some q.distinct) z []) (flat_alike (key_unselected q.items) (key_unselected (map (renamed_item f) q.items)) (unselected q.items) q.order_by))
 
   statement_alone : (s : BoundStatement) → statement_ungrouped (renamed_statement f s) ≡ statement_ungrouped s
   statement_alone (bound.Definition d) = refl

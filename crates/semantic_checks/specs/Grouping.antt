@@ -5,8 +5,19 @@ use Rattle.sql_tree.specs.declared.bound.PlaceAt.{PlaceAt}
 use Rattle.sql_tree.specs.declared.bound.BoundOrderKey.{BoundOrderKey}
 use Rattle.sql_tree.specs.Operands.{Operand, place_of}
 use Rattle.sql_tree.specs.Operands as operands
-use Rattle.sql_tree.specs.Bound.{BoundItemValue, BoundItem, BoundQuery, BoundStatement, Bound, is_grouped}
+use Rattle.sql_tree.specs.Bound.{BoundItemValue, BoundItem, BoundQuery, BoundStatement, Bound}
 use Rattle.sql_tree.specs.Bound as bound
+
+abbrev pub value_counts : BoundItemValue → Bool
+value_counts (bound.Value operand) = false
+value_counts (bound.Count at) = true
+
+abbrev pub counts : BoundItem → Bool
+counts item = value_counts item.value
+
+-- a query groups its rows with GROUP BY or COUNT( * )
+abbrev pub groups : BoundQuery → Bool
+groups q = not (length q.group_by == 0) || list_any counts q.items
 
 abbrev pub is_key : ℕ → PlaceAt → Bool
 is_key place key = key.place == place
@@ -43,8 +54,8 @@ key_unselected items key = if list_any (selects key.place) items then [] else ke
 
 abbrev pub query_ungrouped : BoundQuery → List ℕ
 query_ungrouped q =
-    (if is_grouped q then flat_map (item_ungrouped q.group_by) q.items else []) ++
-    (if is_grouped q || is_some q.distinct then flat_map (key_unselected q.items) q.order_by else [])
+    (if groups q then flat_map (item_ungrouped q.group_by) q.items else []) ++
+    (if groups q || is_some q.distinct then flat_map (key_unselected q.items) q.order_by else [])
 
 abbrev pub statement_ungrouped : BoundStatement → List ℕ
 statement_ungrouped (bound.Definition d) = []

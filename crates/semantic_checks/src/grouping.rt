@@ -4,7 +4,7 @@ ghost use Rattle.std.specs.Prelude.{◌≡◌, ◌++◌, OnOk, map};
 ghost use Rattle.std.specs.List.{flat_map, list_any};
 ghost use Rattle.sql_tree.specs.Operands.{operand_of};
 ghost use Rattle.sql_tree.specs.Bound as bound;
-ghost use Rattle.semantic_checks.specs.Grouping.{is_key, item_ungrouped, key_unselected, operand_ungrouped, query_ungrouped, selects, statement_ungrouped};
+ghost use Rattle.semantic_checks.specs.Grouping.{counts, groups, is_key, item_ungrouped, key_unselected, operand_ungrouped, query_ungrouped, selects, statement_ungrouped};
 
 use ae_base::lists::Seq;
 use sql_tree::bound::{
@@ -18,6 +18,24 @@ fn is_key(keys: &[PlaceAt], place: usize) -> bool
     ensures { result ≡ list_any (is_key place) keys.now }
 {
     keys.iter().any(|key| key.place == place)
+}
+
+fn has_count(items: &[BoundItem]) -> bool
+    ensures { result ≡ list_any counts (map bound.item_of items.now) }
+{
+    for item in items {
+        if matches!(&item.value, BoundItemValue::Count { .. }) {
+            return true;
+        }
+    }
+    false
+}
+
+/// Whether a query groups its rows.
+fn groups(query: &BoundQuery) -> bool
+    ensures { result ≡ groups (bound.query_of query.now) }
+{
+    !query.group_by.is_empty() || has_count(query.items.as_slice())
 }
 
 fn operand_ungrouped(
@@ -117,7 +135,7 @@ fn query_ungrouped(found: &mut Seq<u32>, query: &BoundQuery) -> Result<(), Alloc
     ensures { OnOk result (found.new ≡ found.old ++ query_ungrouped (bound.query_of query.now)) }
 {
     let items = query.items.as_slice();
-    let grouped = query.is_grouped();
+    let grouped = groups(query);
     if grouped {
         items_ungrouped(found, query.group_by.as_slice(), items)?;
     }

@@ -446,9 +446,20 @@ key_of x = Some (record { column = x.0; descending = unwrap_or x.1 false })
 abbrev pub or_none : {A : Type 0} → Option (List A) → Option (List A)
 or_none list = Some (unwrap_or list [])
 
+abbrev pub is_count : Item → Bool
+is_count item = counts item.value
+  where
+    counts : ItemValue → Bool
+    counts (tree.Count at) = true
+    counts (tree.Value operand) = false
+
+abbrev pub has_count : Items → Bool
+has_count (tree.Star at) = false
+has_count (tree.Listed items) = list_any is_count items
+
 -- a SELECT with COUNT(*) or GROUP BY has one source and no DISTINCT
 abbrev pub is_plain_group : Query → Bool
-is_plain_group query = not (tree.is_grouped query) || ((length query.joins == 0) && not (is_some query.distinct))
+is_plain_group query = not (has_count query.items || not (length query.group_by == 0)) || ((length query.joins == 0) && not (is_some query.distinct))
 
 -- what stands from FROM on
 abbrev pub Tail : Type 0

@@ -1,3 +1,4 @@
 pub mod Chosen
+pub mod Counts
 mod Ends
 pub mod Parsed

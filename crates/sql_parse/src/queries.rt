@@ -11,6 +11,7 @@ ghost use Rattle.sql_grammar.specs.Readers.{both, many, optional};
 ghost use Rattle.sql_grammar.specs.Making as make;
 ghost use Rattle.sql_grammar.specs.Parse as parse;
 ghost use Rattle.sql_expressions.specs.Reads.{Gives, Reads};
+ghost use Rattle.std.specs.List.{list_any};
 ghost use Rattle.sql_parse.specs.Views.{tail_of};
 
 use crate::statements::filter;
@@ -291,11 +292,37 @@ fn read_tail(alloc: Global, tokens: &mut Cursor) -> Result<Tail, Refusal>
     }
 }
 
+#[tactic(auto, using(crate::proofs::Counts::counts_seen))]
+fn has_count(items: &Items) -> bool
+    ensures { result ≡ make.has_count (items_of items.now) }
+{
+    match items {
+        Items::Star { .. } => false,
+        Items::List(items) => counts(items.as_slice()),
+    }
+}
+
+fn counts(items: &[Item]) -> bool
+    ensures { result ≡ list_any (λ item. make.is_count (item_of item)) items.now }
+{
+    items.iter().any(|item| is_count(item))
+}
+
+fn is_count(item: &Item) -> bool
+    ensures { result ≡ make.is_count (item_of item.now) }
+{
+    match item.value {
+        ItemValue::Count { .. } => true,
+        ItemValue::Value(_) => false,
+    }
+}
+
 /// A SELECT with COUNT(*) or GROUP BY has one table and no DISTINCT.
 fn is_plain_group(query: &Query) -> bool
     ensures { result ≡ make.is_plain_group (query_of query.now) }
 {
-    !query.is_grouped() || (query.joins.is_empty() && query.distinct.is_none())
+    !(has_count(&query.items) || !query.group_by.is_empty())
+        || (query.joins.is_empty() && query.distinct.is_none())
 }
 
 fn query_with(distinct: Option<u32>, top: Option<u64>, items: Items, tail: Tail) -> Query

@@ -1,5 +1,4 @@
 mod Capitals
-mod Counts
 mod Digits
 pub mod Interface
 mod Progress

@@ -1,6 +1,5 @@
 -- The bound trees: statements in which each name is a place.
-use Rattle.std.specs.Prelude.{ℕ, List, length, map, Option, Bool, true, false, ◌||◌, ◌==◌, not}
-use Rattle.std.specs.List.{list_any}
+use Rattle.std.specs.Prelude.{ℕ, List, map, Option}
 use Rattle.std.specs.Option.{option_map}
 use Rattle.ae_base.specs.declared.types.Ty.{Ty}
 use Rattle.sql_tree.specs.Operands as operands
@@ -79,14 +78,6 @@ pub record BoundQuery : Type 0 where
   pub filter : Option (conditions.Condition ℕ ℕ)
   pub group_by : List PlaceAt
   pub order_by : List BoundOrderKey
-
-abbrev pub is_count : BoundItemValue → Bool
-is_count (Value operand) = false
-is_count (Count at) = true
-
--- a query with GROUP BY or COUNT( * )
-abbrev pub is_grouped : BoundQuery → Bool
-is_grouped q = not (length q.group_by == 0) || list_any (λ item. is_count item.value) q.items
 
 pub data BoundStatement : Type 0 where
   Definition : (definition : BoundDefinition) → BoundStatement

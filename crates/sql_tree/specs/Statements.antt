@@ -1,6 +1,5 @@
 -- The statements as trees without where they lie in memory. Each place is an offset in the text, in bytes.
-use Rattle.std.specs.Prelude.{ℕ, List, length, map, Option, Bool, true, false, ◌||◌, ◌==◌, not}
-use Rattle.std.specs.List.{list_any}
+use Rattle.std.specs.Prelude.{ℕ, List, map, Option}
 use Rattle.std.specs.Option.{option_map}
 use Rattle.sql_tree.specs.Operands as operands
 use Rattle.sql_tree.specs.Conditions as conditions
@@ -63,18 +62,6 @@ pub record Query : Type 0 where
   pub filter : Option (conditions.Condition ColumnRef (List ℕ))
   pub group_by : List ColumnAt
   pub order_by : List OrderKey
-
-abbrev pub is_count : ItemValue → Bool
-is_count (Value operand) = false
-is_count (Count at) = true
-
-abbrev pub has_count : Items → Bool
-has_count (Star at) = false
-has_count (Listed items) = list_any (λ item. is_count item.value) items
-
--- a query with GROUP BY or COUNT( * )
-abbrev pub is_grouped : Query → Bool
-is_grouped query = not (length query.group_by == 0) || has_count query.items
 
 pub data Statement : Type 0 where
   Definition : (definition : code_definition.Definition) → Statement

@@ -1,9 +1,5 @@
 //! Statements, with names as they are written.
 
-ghost use Rattle.std.specs.Prelude.{◌≡◌, map};
-ghost use Rattle.std.specs.List.{list_any};
-ghost use Rattle.sql_tree.specs.Statements.{has_count, is_count, is_grouped, item_of, items_of, query_of};
-
 use crate::conditions::Condition;
 use crate::operands::{ColumnRef, Operand};
 use ae_base::blobs::Blob;
@@ -88,28 +84,6 @@ pub enum Items {
     List(Seq<Item>),
 }
 
-fn is_count(item: &Item) -> bool
-    ensures { result ≡ is_count (item_of item.now).value }
-{
-    matches!(item.value, ItemValue::Count { .. })
-}
-
-#[tactic(auto, using(crate::proofs::Counts::counts))]
-fn count_among(items: &[Item]) -> bool
-    ensures { result ≡ list_any (λ item. is_count item.value) (map item_of items.now) }
-{
-    items.iter().any(|item| is_count(item))
-}
-
-fn has_count(items: &Items) -> bool
-    ensures { result ≡ has_count (items_of items.now) }
-{
-    match items {
-        Items::Star { .. } => false,
-        Items::List(items) => count_among(items.as_slice()),
-    }
-}
-
 /// A table of FROM.
 #[derive(Drop)]
 pub struct SourceTable {
@@ -149,15 +123,6 @@ pub struct Query {
     pub filter: Option<Condition<ColumnRef, ParamName>>,
     pub group_by: Seq<ColumnAt>,
     pub order_by: Seq<OrderKey>,
-}
-
-impl Query {
-    /// Whether the query has GROUP BY or COUNT(*), so that it shows groups of rows.
-    pub fn is_grouped(&self) -> bool
-        ensures { result ≡ is_grouped (query_of self.now) }
-    {
-        !self.group_by.is_empty() || has_count(&self.items)
-    }
 }
 
 /// A statement that begins a transaction or ends one: BEGIN TRANSACTION, COMMIT or ROLLBACK.

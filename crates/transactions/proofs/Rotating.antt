@@ -17,8 +17,7 @@ use Rattle.sql_tree.specs.Operands as operands
 use Rattle.scalar.specs.Eval.{atom_at}
 use Rattle.operators.specs.Events.{scan_of}
 use Rattle.operators.specs.Found.{Found, in_order, keys_cmp}
-use Rattle.query_results.specs.Results.{items_of, results, found_of}
-use Rattle.sql_tree.specs.Bound.{is_count}
+use Rattle.query_results.specs.Results.{items_of, results, is_count, found_of}
 use Rattle.row_changes.specs.Rows.{admitted, column_at, value_into, values_into, value_at, completed, new_row}
 use Rattle.sql_tree.specs.declared.bound.BoundSource.{BoundSource}
 use Rattle.ae_base.specs.declared.types.Enc.{Enc}
