@@ -13,7 +13,9 @@ returns-after-skipped-len c =
     let counted = c.len.ensures in
     let left = rw is at c.requires in
     let row = rw items at c.swap_remove-row.ensures.value in
-    rw is
-    (_, row_lent c.in-Rows.batch c.swap_remove-row.result c.args.skipped left row,
-     row_used c.in-Rows.batch c.args.skipped c.len.result c.args.long c.if-skipped-len.used left (omega (arith, counted, own, many))
-     (elim c.if-skipped-len.branch [ then-skipped-len w ↦ inl (w.if-skipped-len.true, w.used-is) | else-skipped-len w ↦ inr (w.if-skipped-len.false, w.used-is) ]))
+    rw is (
+      _,
+      row_lent c.in-Rows.batch c.swap_remove-row.result c.args.skipped left row,
+      row_used c.in-Rows.batch c.args.skipped c.len.result c.args.long c.if-skipped-len.used left (omega (arith, counted, own, many))
+          (elim c.if-skipped-len.branch [ then-skipped-len w ↦ inl (w.if-skipped-len.true, w.used-is) | else-skipped-len w ↦ inr (w.if-skipped-len.false, w.used-is) ]),
+    )
