@@ -107,7 +107,6 @@ fn read_rows(
 }
 
 /// Hands the driver all replies to an execution, and answers what the batch came to.
-#[tactic(auto, using(crate::proofs::Keeping::of_same))]
 fn read(
     alloc: Global,
     driver: &mut Driver,
