@@ -1,4 +1,4 @@
--- Names that differ, when one more is put behind them.
+-- Names that differ, when one more is put after them.
 use Rattle.std.proofs.Common.{◌≡◌, ℕ, ◌<◌, ◌≤◌, List, [], ◌∷◌, ◌++◌, length, map, true, false, not, IsTrue, nat_lt, refl, sym, ◌∙◌, arith, length-append}
 use Rattle.std.specs.List.{list_any}
 use Rattle.std.specs.Str.{bytes_eq}
@@ -15,7 +15,7 @@ bytes_eq_sym a b = one_answer (bytes_eq a b) (bytes_eq b a) (bytes_eq-Decides a 
   (λ e. (bytes_eq-Decides b a).1 (sym e)),
 )
 
--- names differ with one more behind them that is among none of them
+-- names differ with one more after them that is among none of them
 pub differ_push : (names : List (List ℕ)) (name : List ℕ) → all_differ names ≡ true → list_any (bytes_eq name) names ≡ false → all_differ (names ++ name ∷ []) ≡ true
 differ_push [] name d h = refl
 differ_push (n ∷ names) name d h =

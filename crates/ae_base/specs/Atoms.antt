@@ -1,4 +1,4 @@
--- Atoms as contracts see them: a cell is the list of bytes that it stands for.
+-- Atoms as contracts see them: a cell is the list of bytes that it means.
 use Rattle.std.specs.Prelude.{List, ℕ, Bool, true, false, Option, Some, None}
 use Rattle.std.specs.Str.{bytes_eq}
 use Rattle.ae_base.specs.Values.{datum_eq}

@@ -64,10 +64,10 @@ name_of (fault.Conflict table counts) = codes "Conflict"
 name_of fault.InTransaction = codes "InTransaction"
 name_of fault.NoTransaction = codes "NoTransaction"
 
--- the detail behind the name: a place, a name, a parameter with its @, two versions, a number, or a table
+-- the detail after the name: an offset, a name, a parameter with its @, two versions, a number, or a table
 -- and its two change counts
-abbrev pub at_place : ℕ → List ℕ
-at_place at = codes " at " ++ decimal at
+abbrev pub at_offset : ℕ → List ℕ
+at_offset at = codes " at " ++ decimal at
 
 abbrev pub of_name : List ℕ → List ℕ
 of_name name = codes " " ++ encode_utf8_all name
@@ -80,7 +80,7 @@ seen_and_now seen now = codes " seen " ++ decimal seen ++ codes " now " ++ decim
 
 abbrev pub detail_of : SqlFault → List ℕ
 detail_of fault.Syntax = []
-detail_of (fault.NumberTooWide at) = at_place at
+detail_of (fault.NumberTooWide at) = at_offset at
 detail_of fault.TooDeep = []
 detail_of fault.TooLong = []
 detail_of (fault.NoTable name) = of_name name
@@ -88,9 +88,9 @@ detail_of (fault.NoColumn name) = of_name name
 detail_of (fault.Ambiguous name) = of_name name
 detail_of (fault.NoParam name) = of_param name
 detail_of (fault.NoKey name) = of_name name
-detail_of (fault.NotGrouped at) = at_place at
-detail_of (fault.TypeClash at) = at_place at
-detail_of (fault.EncryptionClash at) = at_place at
+detail_of (fault.NotGrouped at) = at_offset at
+detail_of (fault.TypeClash at) = at_offset at
+detail_of (fault.EncryptionClash at) = at_offset at
 detail_of (fault.Moved versions) = seen_and_now versions.seen versions.now
 detail_of (fault.ParamClash name) = of_param name
 detail_of (fault.BadCell name) = of_param name

@@ -1,4 +1,4 @@
--- What a client is told of keys.
+-- How keys are described to a client.
 use Rattle.std.specs.Prelude.{ℕ, ◌≤◌, List, length, encode_utf8_all}
 
 -- the path of a master key has 1 to 1,024 bytes of UTF-8

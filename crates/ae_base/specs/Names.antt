@@ -23,6 +23,6 @@ abbrev pub all_differ : List (List ℕ) → Bool
 all_differ [] = true
 all_differ (name ∷ names) = not (list_any (bytes_eq name) names) && all_differ names
 
--- a statement has at most 128 parameters: whether a further one of that name may stand behind these
+-- a statement has at most 128 parameters: whether a further one of that name may stand after these
 abbrev pub admits : List (List ℕ) → List ℕ → Bool
 admits names name = nat_lt (length names) 128 && not (list_any (bytes_eq name) names)

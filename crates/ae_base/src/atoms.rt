@@ -21,7 +21,7 @@ pub enum AtomOf<K> {
 }
 
 /// What a row holds in one column. Contracts see the case, with the bytes that a sealed value
-/// stands for.
+/// means.
 pub struct Atom<K: Same> {
     atom: AtomOf<K>,
 }

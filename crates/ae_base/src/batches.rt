@@ -39,7 +39,8 @@ pub type Declarations = ParamList<ParamDecl>;
 /// Declarations with their values.
 pub type Params = ParamList<Param>;
 
-/// One statement with its parameters, and the names of those that may be sent only as cells.
+/// One statement with its parameters, and the names of the parameters that may be sent only as
+/// cells.
 #[derive(Drop)]
 pub struct Batch {
     pub text: Txt,

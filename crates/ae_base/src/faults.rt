@@ -57,7 +57,7 @@ pub enum SqlFault {
     DuplicateKey(UniqueNumber),
     /// A definition of a name that its kind has already.
     Exists(Name),
-    /// A drop of a name that isn't there.
+    /// A drop of a name that doesn't exist.
     NoSuch(Name),
     /// A drop of a key that is still used.
     KeyInUse(Name),
@@ -156,7 +156,7 @@ impl fmt::Display for SqlFault {
     }
 }
 
-/// What stands behind the name of a fault in its line.
+/// What follows the name of a fault in its line.
 #[derive(Drop)]
 struct Detail<'a>(&'a SqlFault);
 

@@ -1,4 +1,4 @@
-//! The values of column encryption keys, as a client is told of them.
+//! The values of column encryption keys, as they are described to a client.
 
 ghost use Rattle.std.specs.Cmp.Rules.{hashing};
 ghost use Rattle.std.specs.Hash as fed;
@@ -9,8 +9,8 @@ use crate::lists::Duplicate;
 use std::alloc::AllocError;
 use std::hash::{Hash, Hasher};
 
-/// A value of a column encryption key as a client is told of it: the path of the master key that
-/// wraps the key, and the wrapped key.
+/// A value of a column encryption key as it is described to a client: the path of the master key
+/// that wraps the key, and the wrapped key.
 #[derive(Drop)]
 pub struct KeyValue {
     pub path: KeyPath,

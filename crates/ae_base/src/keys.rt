@@ -1,4 +1,5 @@
-//! What is known of keys without opening them: paths, wrapped keys, and what a client is told.
+//! What is known of keys without opening them: paths, wrapped keys, and the description that a
+//! client gets.
 
 ghost use Rattle.std.specs.Prelude.{◌≡◌, IfSome, IsSome, ◌↔◌};
 ghost use Rattle.std.specs.Cmp.Lexicographic.{nat_list_eq_equiv};
@@ -133,8 +134,8 @@ impl Duplicate for EncryptedValue {
     }
 }
 
-/// What a client is told of a column encryption key: its number and name, and its values in the
-/// order in which they were added.
+/// The description of a column encryption key that a client gets: its number and name, and its
+/// values in the order in which they were added.
 #[derive(Drop)]
 pub struct KeyMeta {
     pub id: KeyId,

@@ -21,7 +21,7 @@ pub const MOST_OPEN_PARENTHESES: usize = 64;
 /// The greatest number of a statement.
 pub const MOST_NUMBER: u64 = 9_223_372_036_854_775_807;
 
-/// The greatest number behind a minus.
+/// The greatest number after a minus.
 pub const MOST_NEGATED_NUMBER: u64 = 9_223_372_036_854_775_808;
 
 /// The most characters of a name.

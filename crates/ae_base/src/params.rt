@@ -75,7 +75,7 @@ impl<P: Named> ParamList<P> {
         self.items.as_slice()
     }
 
-    /// Whether a further parameter may stand at the end: fewer than 128 are there, and none has its
+    /// Whether a further parameter may be appended: there are fewer than 128, and none has its
     /// name.
     pub fn admits(&self, item: &P) -> bool
         ensures { result ≡ admits (map P.called self.now) (P.called item.now) }
@@ -83,7 +83,7 @@ impl<P: Named> ParamList<P> {
         admits(self.items.as_slice(), item)
     }
 
-    /// Puts a parameter at the end where it is admitted, and says whether it did. Else, and out of
+    /// Appends a parameter where it is admitted, and says whether it did. Else, and out of
     /// memory, nothing changes.
     pub fn push(&mut self, item: P) -> Result<bool, AllocError>
         ensures admits { IfOk result

@@ -11,17 +11,17 @@ use std::hash::Hash;
 /// Each value stands for a list of bytes, which contracts alone see. So the comparisons of SQL may
 /// be made on encrypted cells by whoever cannot read them.
 pub trait Same: Eq + Hash + Drop {
-    /// The bytes that a value stands for.
+    /// The bytes that a value means.
     ghost stands: { Self → List ℕ };
 
     /// What is hashed for some bytes.
     ghost fed: { List ℕ → List (List ℕ) };
 
-    /// A value that stands for the same bytes.
+    /// A value that means the same bytes.
     fn copy(&self) -> Result<Self, AllocError>
         ensures { IfOk result (λ copy. stands copy ≡ stands self.now) };
 
-    /// Two values are the same exactly where they stand for the same bytes.
+    /// Two values are the same exactly if they mean the same bytes.
     ghost same_where: { (x y : Self) → Self.eq x y ≡ bytes_eq (stands x) (stands y) };
 
     /// What is hashed of a value depends on its bytes alone.

@@ -24,7 +24,7 @@ impl Drop for ColumnDef {
     }
 }
 
-/// A unique key: the places of its columns in the table, from 0.
+/// A unique key: the ordinals of its columns in the table, from 0.
 pub type UniqueKey = Seq<usize>;
 
 /// A table: its name, its columns, and its unique keys in text order.

@@ -29,7 +29,7 @@ impl TextSize {
     /// The largest size.
     pub const MOST: u16 = MOST_TEXT_UNITS;
 
-    /// The size of so many units, where there is one.
+    /// The size of `units` units, if that is a size.
     pub fn from_number(units: u16) -> Option<TextSize>
         ensures value { IfSome result (λ size. size ≡ units) }
         ensures exactly { IsSome result ↔ IsTextSize units }
@@ -117,9 +117,9 @@ pub enum Ty {
     Int,
     /// Numbers of 64 bits.
     BigInt,
-    /// Texts of at most so many UTF-16 units.
+    /// Texts of at most this many UTF-16 units.
     NVarChar(TextSize),
-    /// At most so many bytes.
+    /// At most this many bytes.
     VarBinary(BinarySize),
 }
 

@@ -80,7 +80,7 @@ fn bytes_fit(bytes: &[u8], ty: Ty) -> bool
     }
 }
 
-/// Whether a text has at most so many UTF-16 units.
+/// Whether a text has at most `most` UTF-16 units.
 pub fn has_units_within(text: &str, most: u16) -> bool
     ensures { IsTrue result ↔ (units (chars text.now) ≤ most) }
 {

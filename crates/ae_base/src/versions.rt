@@ -1,10 +1,11 @@
-//! Versions of catalogs and change counts of tables, as they were seen and as they stand.
+//! Versions of catalogs and change counts of tables: the ones that were seen, and the present ones.
 
 ghost use Rattle.std.specs.Prelude.{◌≡◌, ◌≢◌, ◌<◌, ◌↔◌, IfSome, IsSome};
 
 use std::marker::Model;
 
-/// The version of the catalog by which a statement was described, and the other one that stands.
+/// The version of the catalog by which a statement was described, and the present one, which
+/// differs.
 #[derive(Clone, Copy)]
 pub struct Versions {
     seen: u64,
@@ -43,7 +44,7 @@ impl Versions {
         self.seen
     }
 
-    /// The version that stands.
+    /// The present version.
     pub fn now(self) -> u64
         ensures version { result ≡ self.now }
         ensures differ { self.seen ≢ self.now }
@@ -52,7 +53,7 @@ impl Versions {
     }
 }
 
-/// The change count of a table as a transaction saw it, and the greater one that stands.
+/// The change count of a table as a transaction saw it, and the present one, which is greater.
 #[derive(Clone, Copy)]
 pub struct ChangeCounts {
     seen: u64,
@@ -91,7 +92,7 @@ impl ChangeCounts {
         self.seen
     }
 
-    /// The count that stands.
+    /// The present count.
     pub fn now(self) -> u64
         ensures count { result ≡ self.now }
         ensures rose { self.seen < self.now }

@@ -5,23 +5,23 @@ use Rattle.ae_base.specs.declared.frames.FrameVersion.{FrameVersion}
 use Rattle.ae_edge.specs.Devices.{Rose}
 use Rattle.command_words.specs.declared.commands.Command.TheVariants as command
 use Rattle.check_command.specs.Ends.{CountsChecked, read_by}
-use Rattle.check_command.specs.declared.steps.Checked.{Checked}
-use Rattle.check_command.specs.declared.steps.Checked.TheVariants as checked
+use Rattle.check_command.specs.declared.steps.CheckEnding.{CheckEnding}
+use Rattle.check_command.specs.declared.steps.CheckEnding.TheVariants as checked
 use Rattle.gen_command.specs.Generating.{PutsScript}
-use Rattle.gen_command.specs.declared.commands.Generated.{Generated}
-use Rattle.gen_command.specs.declared.commands.Generated.TheVariants as generated
-use Rattle.journal_command.specs.declared.endings.Ended.{Ended}
-use Rattle.journal_command.specs.declared.endings.Ended.TheVariants as ended
-use Rattle.serve_command.specs.declared.commands.Served.{Served}
-use Rattle.serve_command.specs.declared.commands.Served.TheVariants as served
+use Rattle.gen_command.specs.declared.commands.GenEnding.{GenEnding}
+use Rattle.gen_command.specs.declared.commands.GenEnding.TheVariants as generated
+use Rattle.journal_command.specs.declared.endings.JournalEnding.{JournalEnding}
+use Rattle.journal_command.specs.declared.endings.JournalEnding.TheVariants as ended
+use Rattle.serve_command.specs.declared.commands.ServeEnding.{ServeEnding}
+use Rattle.serve_command.specs.declared.commands.ServeEnding.TheVariants as served
 use Rattle.wrap_command.specs.Wrapping.{CountsInput, Makes}
-use Rattle.wrap_command.specs.declared.commands.Wrapped.{Wrapped}
-use Rattle.wrap_command.specs.declared.commands.Wrapped.TheVariants as wrapped
+use Rattle.wrap_command.specs.declared.commands.WrapEnding.{WrapEnding}
+use Rattle.wrap_command.specs.declared.commands.WrapEnding.TheVariants as wrapped
 use Rattle.script_run.specs.declared.stops.Stop.TheVariants as stop
 use Rattle.script_source.specs.Scripts.{CountsScript}
 use Rattle.script_source.specs.declared.Unread.TheVariants as unread
-use Rattle.script_run.specs.declared.runs.Ran.{Ran}
-use Rattle.script_run.specs.declared.runs.Ran.TheVariants as ran
+use Rattle.script_run.specs.declared.runs.RunEnding.{RunEnding}
+use Rattle.script_run.specs.declared.runs.RunEnding.TheVariants as ran
 use Rattle.command_words.specs.declared.status.Status.TheVariants as status
 use Rattle.run_command.specs.Ends.{IsOfPeer}
 use Rattle.ae_cli.specs.Does.{IsCaused, uses}
@@ -37,13 +37,13 @@ module _ (old new : Seen) where
   abbrev Rises : Type 0
   Rises = Rose old.out.faults new.out.faults ⊎ Rose old.tap.faults new.tap.faults
 
-  pub run_caused : (summary : Bool) (version : FrameVersion) (r : Ran) → IsOfPeer r
+  pub run_caused : (summary : Bool) (version : FrameVersion) (r : RunEnding) → IsOfPeer r
       → (r ≡ ran.Unread unread.ReadFault → Rose old.script.faults new.script.faults) → (r ≡ ran.Stopped stop.WriteFault → Rises)
       → (r ≡ ran.Stopped stop.EntropyFault → Rose old.entropy.faults new.entropy.faults) → (r ≡ ran.Stopped stop.VaultFault → Rose old.vault.faults new.vault.faults)
       → IsCaused (uses (Some (command.Run summary version))) (status_of r) old new
   run_caused summary version ran.Done p s w e v = tt
   run_caused summary version ran.Refusals p s w e v = tt
-  run_caused summary version (ran.Stopped (stop.BadReply place)) p s w e v = tt
+  run_caused summary version (ran.Stopped (stop.BadReply offset)) p s w e v = tt
   run_caused summary version (ran.Stopped stop.ReadFault) p s w e v = absurd p
   run_caused summary version (ran.Stopped stop.TooLong) p s w e v = tt
   run_caused summary version (ran.Stopped stop.EntropyFault) p s w e v = (refl, e refl)
@@ -55,13 +55,13 @@ module _ (old new : Seen) where
   run_caused summary version (ran.Unread (unread.BadLine line)) p s w e v = tt
   run_caused summary version (ran.Unread unread.OutOfMemory) p s w e v = tt
 
-  pub drive_caused : (version : FrameVersion) (r : Ran) → (r ≡ ran.Unread unread.ReadFault → Rose old.script.faults new.script.faults)
+  pub drive_caused : (version : FrameVersion) (r : RunEnding) → (r ≡ ran.Unread unread.ReadFault → Rose old.script.faults new.script.faults)
       → (r ≡ ran.Stopped stop.ReadFault → Rose old.replies.faults new.replies.faults)
       → (r ≡ ran.Stopped stop.WriteFault → Rises) → (r ≡ ran.Stopped stop.EntropyFault → Rose old.entropy.faults new.entropy.faults)
       → (r ≡ ran.Stopped stop.VaultFault → Rose old.vault.faults new.vault.faults) → IsCaused (uses (Some (command.Drive version))) (status_of r) old new
   drive_caused version ran.Done s l w e v = tt
   drive_caused version ran.Refusals s l w e v = tt
-  drive_caused version (ran.Stopped (stop.BadReply place)) s l w e v = tt
+  drive_caused version (ran.Stopped (stop.BadReply offset)) s l w e v = tt
   drive_caused version (ran.Stopped stop.ReadFault) s l w e v = inr (refl, l refl)
   drive_caused version (ran.Stopped stop.TooLong) s l w e v = tt
   drive_caused version (ran.Stopped stop.EntropyFault) s l w e v = (refl, e refl)
@@ -73,7 +73,7 @@ module _ (old new : Seen) where
   drive_caused version (ran.Unread (unread.BadLine line)) s l w e v = tt
   drive_caused version (ran.Unread unread.OutOfMemory) s l w e v = tt
 
-  pub check_caused : (c : Checked) → CountsScript (read_by c) old.script.faults new.script.faults
+  pub check_caused : (c : CheckEnding) → CountsScript (read_by c) old.script.faults new.script.faults
       → CountsChecked c old.out.faults new.out.faults → IsCaused (uses (Some command.Check)) (status_of_checking c) old new
   check_caused checked.Done s w = tt
   check_caused checked.Refusals s w = tt
@@ -83,16 +83,16 @@ module _ (old new : Seen) where
   check_caused (checked.BadLine line) s w = tt
   check_caused checked.TooLong s w = tt
 
-  pub serve_caused : (s : Served) → (s ≡ served.ReadFault → Rose old.script.faults new.script.faults) → (s ≡ served.WriteFault → Rose old.out.faults new.out.faults)
+  pub serve_caused : (s : ServeEnding) → (s ≡ served.ReadFault → Rose old.script.faults new.script.faults) → (s ≡ served.WriteFault → Rose old.out.faults new.out.faults)
       → IsCaused (uses (Some (command.Serve false))) (status_of_serving s) old new
   serve_caused served.Done s w = tt
   serve_caused served.ReadFault s w = inl (refl, s refl)
   serve_caused served.WriteFault s w = inl (refl, w refl)
   serve_caused served.OutOfMemory s w = tt
   serve_caused served.TooLong s w = tt
-  serve_caused (served.BadFrame place) s w = tt
+  serve_caused (served.BadFrame offset) s w = tt
 
-  pub journal_caused : (e : Ended) → (e ≡ ended.ReadFault → Rose old.script.faults new.script.faults) → (e ≡ ended.WriteFault → Rose old.out.faults new.out.faults)
+  pub journal_caused : (e : JournalEnding) → (e ≡ ended.ReadFault → Rose old.script.faults new.script.faults) → (e ≡ ended.WriteFault → Rose old.out.faults new.out.faults)
       → (e ≡ ended.DiskFault → Rose old.disk.faults new.disk.faults) → IsCaused (uses (Some (command.Serve true))) (status_of_journaling e) old new
   journal_caused ended.Done s w d = tt
   journal_caused ended.ReadFault s w d = inl (refl, s refl)
@@ -100,11 +100,11 @@ module _ (old new : Seen) where
   journal_caused ended.DiskFault s w d = (refl, d refl)
   journal_caused ended.OutOfMemory s w d = tt
   journal_caused ended.TooLong s w d = tt
-  journal_caused (ended.BadFrame place) s w d = tt
-  journal_caused (ended.Damaged place) s w d = tt
+  journal_caused (ended.BadFrame offset) s w d = tt
+  journal_caused (ended.Damaged offset) s w d = tt
   journal_caused ended.JournalFull s w d = tt
 
-  pub wrap_caused : (path : List ℕ) (r : Wrapped) (bytes : List ℕ) → CountsInput r old.script.faults new.script.faults → Makes r path bytes old.vault new.vault old.out new.out
+  pub wrap_caused : (path : List ℕ) (r : WrapEnding) (bytes : List ℕ) → CountsInput r old.script.faults new.script.faults → Makes r path bytes old.vault new.vault old.out new.out
       → IsCaused (uses (Some (command.Wrap path))) (status_of_wrapping path r) old new
   wrap_caused path wrapped.Done bytes s m = tt
   wrap_caused path wrapped.ReadFault bytes s m = inl (refl, s)
@@ -115,23 +115,23 @@ module _ (old new : Seen) where
   wrap_caused path wrapped.TooLong bytes s m = tt
   wrap_caused path wrapped.NoMasterKey bytes s m = tt
 
-  pub gen_caused : (size : ℕ) (r : Generated) → PutsScript r size old.out new.out → IsCaused (uses (Some (command.Gen size))) (status_of_generating r) old new
+  pub gen_caused : (size : ℕ) (r : GenEnding) → PutsScript r size old.out new.out → IsCaused (uses (Some (command.Gen size))) (status_of_generating r) old new
   gen_caused size generated.Done p = tt
   gen_caused size generated.WriteFault p = inl (refl, p.counts)
   gen_caused size generated.OutOfMemory p = tt
 
 -- that status comes of no other end
-pub bad_reply : (r : Ran) (place : ℕ) → status_of r ≡ status.BadReply place → r ≡ ran.Stopped (stop.BadReply place)
-bad_reply ran.Done place e = absurd cc
-bad_reply ran.Refusals place e = absurd cc
-bad_reply (ran.Stopped (stop.BadReply p)) place e = cc
-bad_reply (ran.Stopped stop.ReadFault) place e = absurd cc
-bad_reply (ran.Stopped stop.TooLong) place e = absurd cc
-bad_reply (ran.Stopped stop.EntropyFault) place e = absurd cc
-bad_reply (ran.Stopped stop.VaultFault) place e = absurd cc
-bad_reply (ran.Stopped stop.WriteFault) place e = absurd cc
-bad_reply (ran.Stopped stop.OutOfMemory) place e = absurd cc
-bad_reply (ran.Unread unread.ReadFault) place e = absurd cc
-bad_reply (ran.Unread unread.TooLong) place e = absurd cc
-bad_reply (ran.Unread (unread.BadLine line)) place e = absurd cc
-bad_reply (ran.Unread unread.OutOfMemory) place e = absurd cc
+pub bad_reply : (r : RunEnding) (offset : ℕ) → status_of r ≡ status.BadReply offset → r ≡ ran.Stopped (stop.BadReply offset)
+bad_reply ran.Done offset e = absurd cc
+bad_reply ran.Refusals offset e = absurd cc
+bad_reply (ran.Stopped (stop.BadReply p)) offset e = cc
+bad_reply (ran.Stopped stop.ReadFault) offset e = absurd cc
+bad_reply (ran.Stopped stop.TooLong) offset e = absurd cc
+bad_reply (ran.Stopped stop.EntropyFault) offset e = absurd cc
+bad_reply (ran.Stopped stop.VaultFault) offset e = absurd cc
+bad_reply (ran.Stopped stop.WriteFault) offset e = absurd cc
+bad_reply (ran.Stopped stop.OutOfMemory) offset e = absurd cc
+bad_reply (ran.Unread unread.ReadFault) offset e = absurd cc
+bad_reply (ran.Unread unread.TooLong) offset e = absurd cc
+bad_reply (ran.Unread (unread.BadLine line)) offset e = absurd cc
+bad_reply (ran.Unread unread.OutOfMemory) offset e = absurd cc

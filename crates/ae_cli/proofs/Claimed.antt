@@ -8,7 +8,7 @@ use Rattle.ae_base.specs.declared.faults.SqlFault.TheVariants.{EncryptionClash}
 use Rattle.ae_base.specs.declared.frames.FrameVersion.{FrameVersion}
 use Rattle.ae_edge.specs.Devices.{AddsPrefix}
 use Rattle.ae_edge.specs.Vaults.{KeyMap}
-use Rattle.ae_edge.proofs.Interface.{adds_front_none, removes_none}
+use Rattle.ae_edge.proofs.Interface.{adds_prefix_none, removes_none}
 use Rattle.command_words.specs.Words.{command_in}
 use Rattle.command_words.specs.declared.commands.Command.{Command}
 use Rattle.command_words.specs.declared.commands.Command.TheVariants as command
@@ -26,15 +26,15 @@ use Rattle.script_lang.specs.declared.steps.Step.TheVariants.{Turn, Trust}
 use Rattle.script_source.specs.Scripts.{IsScript}
 use Rattle.script_source.specs.declared.Unread.TheVariants as unread
 use Rattle.script_run.specs.Draws.{Drew}
-use Rattle.script_run.specs.declared.runs.Ran.{Ran}
-use Rattle.script_run.specs.declared.runs.Ran.TheVariants as ran
+use Rattle.script_run.specs.declared.runs.RunEnding.{RunEnding}
+use Rattle.script_run.specs.declared.runs.RunEnding.TheVariants as ran
 use Rattle.command_words.specs.declared.status.Status.{Status}
 use Rattle.command_words.specs.declared.status.Status.TheVariants as status
 use Rattle.script_run.specs.declared.stops.Stop.TheVariants as stop
 use Rattle.plaintext_laws.specs.Alike.{Alike}
 use Rattle.plaintext_laws.specs.Clashes.{IsBoundAs, IsClash, IsReached, IsRunIn, IsUntypedAt, batch_of}
 use Rattle.plaintext_laws.specs.Laws.{ClashesExactly}
-use Rattle.plaintext_laws.specs.Batches.{Came, begun, executed_with, execution_of, readied, waits, why_unopened}
+use Rattle.plaintext_laws.specs.Batches.{BatchEnd, begun, executed_with, execution_of, readied, waits, why_unopened}
 use Rattle.plaintext_laws.specs.Reference.{held_at, means, nothing_held, reference, with_held}
 use Rattle.run_command.specs.Ends.{RunDevices, RunsScript}
 use Rattle.run_command.specs.declared.runs.Count.{Count}
@@ -43,16 +43,16 @@ use Rattle.run_command.specs.RunOf.{IsRunOf}
 use Rattle.run_command.specs.Transcript.{TapsTranscript, transcript}
 use Rattle.ae_cli.specs.Does.{DidAsked, Does, IsCaused, uses}
 use Rattle.ae_cli.specs.Endings.{status_of}
-use Rattle.ae_cli.specs.Headline.{CameToItsEnd, HasUntyped, Headline, IsStop, IsUntyped, TurnAt, WasStopped, turns_from}
+use Rattle.ae_cli.specs.Headline.{RanToItsEnd, HasUntyped, Headline, IsStop, IsUntyped, TurnAt, WasStopped, turns_from}
 use Rattle.ae_cli.specs.Seen.{Seen, run_devices}
 
 -- ---- a clash comes of nothing before typing
 
-unfit_is_none : (state : State) (number : ℕ) (batch : Batch) (ready : Pending → Came) (why : Option DriverFault) → IsClash (begun state number batch ready why).comes → why ≡ None
+unfit_is_none : (state : State) (number : ℕ) (batch : Batch) (ready : Pending → BatchEnd) (why : Option DriverFault) → IsClash (begun state number batch ready why).comes → why ≡ None
 unfit_is_none state number batch ready None is = refl
 unfit_is_none state number batch ready (Some f) is = absurd is
 
-chosen : (test : Bool) (x y : Came) → IsClash (if test then x else y).comes → ¬ (IsClash y.comes) → test ≡ true
+chosen : (test : Bool) (x y : BatchEnd) → IsClash (if test then x else y).comes → ¬ (IsClash y.comes) → test ≡ true
 chosen true x y is never = refl
 chosen false x y is never = absurd (never is)
 
@@ -65,9 +65,9 @@ opened_is_none keys trusted state number p None is = (refl, eqb-true p.version (
 abbrev Untyped : KeyMap → List (List ℕ) → ℕ → Act → Option Pending → State → Type 0
 Untyped keys trusted number act held state = IsUntyped keys (record { trusted = trusted; session = number; act = act; held = held; state = state })
 
-clash_place : (comes : Outcome) → IsClash comes → (at : ℕ) × (comes ≡ outcome.Refused (EncryptionClash at))
-clash_place (outcome.Refused (EncryptionClash at)) is = (at, refl)
-clash_place other is = absurd is
+clash_offset : (comes : Outcome) → IsClash comes → (at : ℕ) × (comes ≡ outcome.Refused (EncryptionClash at))
+clash_offset (outcome.Refused (EncryptionClash at)) is = (at, refl)
+clash_offset other is = absurd is
 
 module _ (law : ClashesExactly) (keys : KeyMap) where
   -- a turn with a batch of its own, or one that its session holds
@@ -80,9 +80,9 @@ module _ (law : ClashesExactly) (keys : KeyMap) where
 
     runs_clashing : Clashes → Runs
     runs_clashing is =
-        let place = clash_place (means keys trusted number act held state).comes is in
-        let there = law.only keys trusted number act held state place.0 place.1 in
-        (there.0, there.1, there.2, (place.0, there.3))
+        let offset = clash_offset (means keys trusted number act held state).comes is in
+        let there = law.only keys trusted number act held state offset.0 offset.1 in
+        (there.0, there.1, there.2, (offset.0, there.3))
 
     has_untyped : IsReached keys trusted state number act held → (batch : Batch) (now : State)
         → batch_of act held ≡ Some batch → now ≡ state → (at : ℕ) → IsUntypedAt now number batch at → Untyped keys trusted number act held state
@@ -151,7 +151,7 @@ of_first (inr y) = let e : false ≡ true = y.0 in absurd cc
 
 module _ (version : FrameVersion) (keys : KeyMap) (steps : List Step) (old new : Seen) where
   abbrev Ends : Status → Type 0
-  Ends end = CameToItsEnd version keys steps end old new ⊎ WasStopped version keys steps end old new
+  Ends end = RanToItsEnd version keys steps end old new ⊎ WasStopped version keys steps end old new
 
   -- its output and its tap are as they were, and no byte was drawn
   untouched : (end : Status) → IsStop end old new → run_devices version new ≡ run_devices version old → Ends end
@@ -161,28 +161,28 @@ module _ (version : FrameVersion) (keys : KeyMap) (steps : List Step) (old new :
       let tap : new.tap.content ≡ old.tap.content = ap (λ (x : RunDevices). x.tap.content) e in
       inr (record {
         cause = cause;
-        text = subst (λ x. AddsPrefix (print (meaning keys steps)) old.out.content x) (sym out) (adds_front_none (print (meaning keys steps)) old.out.content);
+        text = subst (λ x. AddsPrefix (print (meaning keys steps)) old.out.content x) (sym out) (adds_prefix_none (print (meaning keys steps)) old.out.content);
         frames = record {
           drawn = [];
           share = subst (λ x. Drew [] old.entropy.content x) (sym entropy) (removes_none old.entropy.content);
-          tap = λ more. subst (λ x. AddsPrefix (transcript version keys steps more) old.tap.content x) (sym tap) (adds_front_none (transcript version keys steps more) old.tap.content);
+          tap = λ more. subst (λ x. AddsPrefix (transcript version keys steps more) old.tap.content x) (sym tap) (adds_prefix_none (transcript version keys steps more) old.tap.content);
         };
       })
 
-  abbrev Tapped : Ran → Type 0
+  abbrev Tapped : RunEnding → Type 0
   Tapped r = TapsTranscript version r keys steps old.entropy.content new.entropy.content old.tap.content new.tap.content
 
-  abbrev Printed : Ran → Type 0
+  abbrev Printed : RunEnding → Type 0
   Printed r = PrintsPlain r keys steps old.out.content new.out.content
 
-  abbrev Caused : Ran → Type 0
+  abbrev Caused : RunEnding → Type 0
   Caused r = IsCaused (uses (Some (command.Run false version))) (status_of r) old new
 
-  ends_so : (r : Ran) (count : Count) (bytes : List ℕ) → RunsScript r count bytes (run_devices version old) (run_devices version new)
+  ends_so : (r : RunEnding) (count : Count) (bytes : List ℕ) → RunsScript r count bytes (run_devices version old) (run_devices version new)
       → IsDoneOrFault r → Printed r → Tapped r → Caused r → Ends (status_of r)
   ends_so ran.Done count bytes c d p t w = inl (record { ends = rw p.1 refl; text = p.0; frames = t })
   ends_so ran.Refusals count bytes c d p t w = inl (record { ends = rw p.1 refl; text = p.0; frames = t })
-  ends_so (ran.Stopped (stop.BadReply place)) count bytes c d p t w = absurd d
+  ends_so (ran.Stopped (stop.BadReply offset)) count bytes c d p t w = absurd d
   ends_so (ran.Stopped stop.ReadFault) count bytes c d p t w = absurd d
   ends_so (ran.Stopped stop.TooLong) count bytes c d p t w = absurd d
   ends_so (ran.Stopped stop.EntropyFault) count bytes c d p t w = inr (record { cause = w.1; text = p; frames = t })
@@ -196,25 +196,25 @@ module _ (version : FrameVersion) (keys : KeyMap) (steps : List Step) (old new :
 
   asked_so : (words : List (List ℕ)) (end : Status) → DidAsked (Some (command.Run false version)) words end old new → old.peer.state ≡ Some empty_state
       → (bytes : List ℕ) → old.script.content ≡ Some bytes → IsScript bytes steps → old.vault.content ≡ Some keys → Alike keys steps → Ends end
-  asked_so words end did state bytes told script keys_told alike =
+  asked_so words end did state bytes known script keys_known alike =
       let d = did.0.run in
       let read = d.reads in
-      let is : read.bytes ≡ bytes = subst (λ o. IfSome o (λ left. read.bytes ≡ left)) told read.told in
+      let is : read.bytes ≡ bytes = subst (λ o. IfSome o (λ left. read.bytes ≡ left)) known read.exposed in
       let s : IsScript read.bytes steps = subst (λ bs. IsScript bs steps) (sym is) script in
       let r : IsRunOf d.how read.bytes (run_devices version old) (run_devices version new) = read.holds in
       subst Ends (sym d.ends)
-      (ends_so d.how r.count read.bytes r.content (r.complete state steps s) (r.plain state steps s keys keys_told alike) (r.transcript state steps s keys keys_told)
+      (ends_so d.how r.count read.bytes r.content (r.complete state steps s) (r.plain state steps s keys keys_known alike) (r.transcript state steps s keys keys_known)
       (subst (λ x. IsCaused (uses (Some (command.Run false version))) x old new) d.ends did.1))
 
   does_so : (words : List (List ℕ)) → command_in words ≡ Some (command.Run false version) → (end : Status) → Does words end old new → old.peer.state ≡ Some empty_state
       → (bytes : List ℕ) → old.script.content ≡ Some bytes → IsScript bytes steps → old.vault.content ≡ Some keys → Alike keys steps → Ends end
   unfolding Does
-  does_so words is end (inl did) state bytes told script keys_told alike = asked_so words end
-      (subst (λ (x : Option Command). DidAsked x words end old new) is did) state bytes told script keys_told alike
-  does_so words is end (inr none) state bytes told script keys_told alike = subst Ends (sym none.0) (untouched status.OutOfMemory tt (ap (run_devices version) none.1))
+  does_so words is end (inl did) state bytes known script keys_known alike = asked_so words end
+      (subst (λ (x : Option Command). DidAsked x words end old new) is did) state bytes known script keys_known alike
+  does_so words is end (inr none) state bytes known script keys_known alike = subst Ends (sym none.0) (untouched status.OutOfMemory tt (ap (run_devices version) none.1))
 
 pub headline : ClashesExactly → Headline
-headline law words version is end old new does state bytes told steps script keys keys_told alike = (
+headline law words version is end old new does state bytes known steps script keys keys_known alike = (
   clashes_from law keys steps [] nothing_held empty_state,
-  does_so version keys steps old new words is end does state bytes told script keys_told alike,
+  does_so version keys steps old new words is end does state bytes known script keys_known alike,
 )

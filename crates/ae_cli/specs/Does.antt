@@ -8,7 +8,7 @@ use Rattle.command_words.specs.declared.commands.Command.TheVariants as command
 use Rattle.server_core.specs.Serve.{State, empty_state}
 use Rattle.wire_frames.specs.Frames.{End}
 use Rattle.script_source.specs.Scripts.{CountsScript, TakesScript}
-use Rattle.script_run.specs.declared.runs.Ran.{Ran}
+use Rattle.script_run.specs.declared.runs.RunEnding.{RunEnding}
 use Rattle.command_words.specs.declared.status.Status.{Status}
 use Rattle.command_words.specs.declared.status.Status.TheVariants as status
 use Rattle.script_run.specs.Ends as runs
@@ -19,15 +19,15 @@ use Rattle.check_command.specs.Ends as checks
 use Rattle.check_command.specs.Ends.{ChecksScript, CountsChecked}
 use Rattle.serve_command.specs.ServeAll.{ServeAll}
 use Rattle.serve_command.specs.Serving.{IsServed, ServesStream, most_stream_bytes}
-use Rattle.serve_command.specs.declared.commands.Served.{Served}
+use Rattle.serve_command.specs.declared.commands.ServeEnding.{ServeEnding}
 use Rattle.wrap_command.specs.Wrapping as wraps
 use Rattle.wrap_command.specs.Wrapping.{Makes}
 use Rattle.journal_command.specs.Exact.{ServesExactly}
 use Rattle.journal_command.specs.Journaling.{ServesJournal}
 use Rattle.journal_command.specs.Servable.{IsntDamaged, StaysServable}
-use Rattle.journal_command.specs.declared.endings.Ended.{Ended}
+use Rattle.journal_command.specs.declared.endings.JournalEnding.{JournalEnding}
 use Rattle.gen_command.specs.Generating.{PutsScript}
-use Rattle.gen_command.specs.declared.commands.Generated.{Generated}
+use Rattle.gen_command.specs.declared.commands.GenEnding.{GenEnding}
 use Rattle.ae_cli.specs.Endings.{status_of, status_of_checking, status_of_generating, status_of_journaling, status_of_serving, status_of_wrapping}
 use Rattle.ae_cli.specs.Seen.{Seen, drive_devices, run_devices}
 
@@ -41,34 +41,34 @@ pub record DidScript {How : Type 0} (status_by : How → Status) (Did : How → 
   pub reads : Reads (Did how) (Takes how) (Counts how) old.script new.script
 
 -- It ran a script. Over a peer that serves from the empty state no reply stopped it, whatever the devices expose.
-pub record DidRun (Did : Ran → List ℕ → Type 0) (end : Status) (old new : Seen) : Type 0 where
+pub record DidRun (Did : RunEnding → List ℕ → Type 0) (end : Status) (old new : Seen) : Type 0 where
   pub run : DidScript status_of Did (λ ran. TakesScript (runs.read_by ran)) (λ ran. CountsScript (runs.read_by ran)) end old new
-  pub awaited : old.peer.state ≡ Some empty_state → (place : ℕ) → end ≢ status.BadReply place
+  pub expected : old.peer.state ≡ Some empty_state → (offset : ℕ) → end ≢ status.BadReply offset
 
 -- It served requests: what was taken of the script, and what was written for it; and that transactions took effect one after another. If
 -- the script exposes its bytes: by how those within the limit end, and the frames of the replies to their requests.
 pub record DidServe (end : Status) (old new : Seen) : Type 0 where
-  pub how : Served
+  pub how : ServeEnding
   pub ends : end ≡ status_of_serving how
   pub serves : ServesStream how old.script.content new.script.content old.out.content new.out.content
   pub exact : (bytes frames : List ℕ) (stream_end : End) (after : State) → old.script.content ≡ Some bytes → ServeAll empty_state (take most_stream_bytes bytes) stream_end frames after
       → IsServed how bytes stream_end frames old.out.content new.out.content
 
--- It served requests with a server whose changes are kept on the disk: what was taken of the script, what was put for it, and what a crash
+-- It served requests with a server whose changes are kept on the disk: what was taken of the script, what was written for it, and what a crash
 -- leaves of the disk at each moment; and that transactions took effect one after another. If the script exposes its bytes and the disk its
 -- file: by how those within the limit end, and the frames of the replies to their requests. A file that it left, or one without a record,
 -- isn't found damaged.
 pub record DidServeJournal (end : Status) (old new : Seen) : Type 0 where
-  pub how : Ended
+  pub how : JournalEnding
   pub ends : end ≡ status_of_journaling how
   pub serves : ServesJournal how old.script.content new.script.content old.disk.content new.disk.content old.out.content new.out.content
   pub exact : ServesExactly how old.script.content old.disk.content old.out.content new.out.content
   pub servable : WhereExposed StaysServable old.disk.content new.disk.content
   pub undamaged : IsntDamaged how old.disk.content new.disk.content
 
--- It put the script of a size, or a front of it.
+-- It put the script of a size, or a prefix of it.
 pub record DidGen (size : ℕ) (end : Status) (old new : Seen) : Type 0 where
-  pub how : Generated
+  pub how : GenEnding
   pub ends : end ≡ status_of_generating how
   pub puts : PutsScript how size old.out new.out
 

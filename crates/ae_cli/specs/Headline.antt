@@ -73,7 +73,7 @@ ClashesAreUntyped keys steps = AllZip (λ turn comes. IsClash comes ↔ IsUntype
 
 -- The status says whether an outcome is a refusal. The output has gained the text of the outcomes, and the tap the frames of the exchange
 -- with the server, with cells sealed under the random bytes that were drawn.
-pub record CameToItsEnd (version : FrameVersion) (keys : KeyMap) (steps : List Step) (end : Status) (old new : Seen) : Type 0 where
+pub record RanToItsEnd (version : FrameVersion) (keys : KeyMap) (steps : List Step) (end : Status) (old new : Seen) : Type 0 where
   pub ends : end ≡ (if has_refusal (meaning keys steps) then status.Refusals else status.Done)
   pub text : Adds (print (meaning keys steps)) old.out.content new.out.content
   pub frames : TapsWhole version keys steps old.entropy.content new.entropy.content old.tap.content new.tap.content
@@ -102,4 +102,4 @@ Headline = (words : List (List ℕ)) (version : FrameVersion) → command_in wor
     → (end : Status) (old new : Seen) → Does words end old new → old.peer.state ≡ Some empty_state
     → (bytes : List ℕ) → old.script.content ≡ Some bytes → (steps : List Step) → IsScript bytes steps
     → (keys : KeyMap) → old.vault.content ≡ Some keys → Alike keys steps
-    → ClashesAreUntyped keys steps × (CameToItsEnd version keys steps end old new ⊎ WasStopped version keys steps end old new)
+    → ClashesAreUntyped keys steps × (RanToItsEnd version keys steps end old new ⊎ WasStopped version keys steps end old new)

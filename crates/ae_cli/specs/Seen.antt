@@ -1,4 +1,4 @@
--- What is seen of all that the program is lent.
+-- What is seen of all devices that the program borrows.
 use Rattle.std.specs.Prelude.{ℕ, Bool, List, Option}
 use Rattle.ae_base.specs.declared.frames.FrameVersion.{FrameVersion}
 use Rattle.ae_edge.specs.Devices.{Device}

@@ -28,24 +28,25 @@ use wrap_command::commands::wrap;
 
 /// Does what the words ask for, of which the first is the program's name, and says how it ended.
 ///
-/// - `run` reads a script from `script`, runs its steps through a driver and the peer, and puts the
-///   text to `out` and every frame to `tap`. The values of protected columns pass as cells: the
+/// - `run` reads a script from `script`, runs its steps through a driver and the peer, and writes
+///   the text to `out` and every frame to `tap`. The values of protected columns pass as cells: the
 ///   driver opens their keys through the vault, draws from the random source for randomized ones,
-///   and prints what the cells hold. `run --summary` does the same, and puts four lines in the
+///   and prints what the cells hold. `run --summary` does the same, and writes four lines in the
 ///   place of the text: the steps, the refusals, the result rows and the requests.
-/// - `drive` runs a script against recorded replies: it takes their frames from `replies`, and puts
-///   those of the requests alone to `tap`, which it closes behind the last. The frames of `run` and
-///   `drive` are of version 1, and with `--frames 2` of version 2, in which rows share frames.
+/// - `drive` runs a script against recorded replies: it takes their frames from `replies`, and
+///   writes those of the requests alone to `tap`, which it closes after the last. The frames of
+///   `run` and `drive` are of version 1, and with `--frames 2` of version 2, in which rows share
+///   frames.
 /// - `check` reads a script from `script`, executes its definitions, describes every other batch
-///   without executing it, and puts the result of each to `out`, with the rules that show it for a
-///   clash.
-/// - `serve` reads frames of requests from `script`, and puts the frames of the replies of a server
-///   that begins with nothing defined to `out`, in each request's version. With `--journal` the
-///   server keeps its changes on `disk`: it begins with what the records there give, and each
-///   change is there before its replies are put.
+///   without executing it, and writes the result of each to `out`, with the rules that show it for
+///   a clash.
+/// - `serve` reads frames of requests from `script`, and writes the frames of the replies of a
+///   server that begins with nothing defined to `out`, in each request's version. With `--journal`
+///   the server keeps its changes on `disk`: it begins with what the records there give, and each
+///   change is there before its replies are written.
 /// - `wrap PATH` reads a column key from `script`, wraps it under the master key at the path, and
-///   puts its digits to `out`.
-/// - `gen N` puts the script of a size to `out`: two keys and a table with protected columns,
+///   writes its digits to `out`.
+/// - `gen N` writes the script of a size to `out`: two keys and a table with protected columns,
 ///   N rows of it, and two reads.
 ///
 /// Other words are `Usage`.

@@ -5,83 +5,83 @@ ghost use Rattle.ae_cli.specs.Endings.{status_of_checking, status_of_generating,
 
 use ae_base::refusals::Refusal;
 use ae_base::texts::Txt;
-use check_command::steps::Checked;
+use check_command::steps::CheckEnding;
 use command_words::status::Status;
-use gen_command::commands::Generated;
-use journal_command::endings::Ended;
-use serve_command::commands::Served;
-use wrap_command::commands::Wrapped;
+use gen_command::commands::GenEnding;
+use journal_command::endings::JournalEnding;
+use serve_command::commands::ServeEnding;
+use wrap_command::commands::WrapEnding;
 
 /// The status of a check.
-pub fn of_checking(checked: Checked) -> Status
+pub fn of_checking(checked: CheckEnding) -> Status
     ensures { result ≡ status_of_checking checked }
 {
     match checked {
-        Checked::Done => Status::Done,
-        Checked::Refusals => Status::Refusals,
-        Checked::ReadFault => Status::ReadFault,
-        Checked::WriteFault => Status::WriteFault,
-        Checked::OutOfMemory => Status::OutOfMemory,
-        Checked::BadLine(line) => Status::BadScript(line),
-        Checked::TooLong => Status::TooLong,
+        CheckEnding::Done => Status::Done,
+        CheckEnding::Refusals => Status::Refusals,
+        CheckEnding::ReadFault => Status::ReadFault,
+        CheckEnding::WriteFault => Status::WriteFault,
+        CheckEnding::OutOfMemory => Status::OutOfMemory,
+        CheckEnding::BadLine(line) => Status::BadScript(line),
+        CheckEnding::TooLong => Status::TooLong,
     }
 }
 
 /// The status of serving.
-pub fn of_serving(served: Served) -> Status
+pub fn of_serving(served: ServeEnding) -> Status
     ensures { result ≡ status_of_serving served }
 {
     match served {
-        Served::Done => Status::Done,
-        Served::ReadFault => Status::ReadFault,
-        Served::WriteFault => Status::WriteFault,
-        Served::OutOfMemory => Status::OutOfMemory,
-        Served::TooLong => Status::TooLong,
-        Served::BadFrame(place) => Status::BadFrame(place),
+        ServeEnding::Done => Status::Done,
+        ServeEnding::ReadFault => Status::ReadFault,
+        ServeEnding::WriteFault => Status::WriteFault,
+        ServeEnding::OutOfMemory => Status::OutOfMemory,
+        ServeEnding::TooLong => Status::TooLong,
+        ServeEnding::BadFrame(offset) => Status::BadFrame(offset),
     }
 }
 
 /// The status of serving with a journal.
-pub fn of_journaling(ended: Ended) -> Status
+pub fn of_journaling(ended: JournalEnding) -> Status
     ensures { result ≡ status_of_journaling ended }
 {
     match ended {
-        Ended::Done => Status::Done,
-        Ended::ReadFault => Status::ReadFault,
-        Ended::WriteFault => Status::WriteFault,
-        Ended::DiskFault => Status::DiskFault,
-        Ended::OutOfMemory => Status::OutOfMemory,
-        Ended::TooLong => Status::TooLong,
-        Ended::BadFrame(place) => Status::BadFrame(place),
-        Ended::Damaged(place) => Status::BadJournal(place),
-        Ended::JournalFull => Status::JournalFull,
+        JournalEnding::Done => Status::Done,
+        JournalEnding::ReadFault => Status::ReadFault,
+        JournalEnding::WriteFault => Status::WriteFault,
+        JournalEnding::DiskFault => Status::DiskFault,
+        JournalEnding::OutOfMemory => Status::OutOfMemory,
+        JournalEnding::TooLong => Status::TooLong,
+        JournalEnding::BadFrame(offset) => Status::BadFrame(offset),
+        JournalEnding::Damaged(offset) => Status::BadJournal(offset),
+        JournalEnding::JournalFull => Status::JournalFull,
     }
 }
 
 /// The status of a wrapping at a path.
-pub fn of_wrapping(path: Txt, wrapped: Wrapped) -> Status
+pub fn of_wrapping(path: Txt, wrapped: WrapEnding) -> Status
     ensures { result ≡ status_of_wrapping path wrapped }
 {
     match wrapped {
-        Wrapped::Done => Status::Done,
-        Wrapped::ReadFault => Status::ReadFault,
-        Wrapped::WriteFault => Status::WriteFault,
-        Wrapped::OutOfMemory => Status::OutOfMemory,
-        Wrapped::VaultFault => Status::VaultFault,
-        Wrapped::BadLine => Status::BadScript(1),
-        Wrapped::TooLong => Status::TooLong,
-        Wrapped::NoMasterKey => Status::NoMasterKey(path),
+        WrapEnding::Done => Status::Done,
+        WrapEnding::ReadFault => Status::ReadFault,
+        WrapEnding::WriteFault => Status::WriteFault,
+        WrapEnding::OutOfMemory => Status::OutOfMemory,
+        WrapEnding::VaultFault => Status::VaultFault,
+        WrapEnding::BadLine => Status::BadScript(1),
+        WrapEnding::TooLong => Status::TooLong,
+        WrapEnding::NoMasterKey => Status::NoMasterKey(path),
     }
 }
 
 /// The status of generating.
-pub fn of_generating(generated: Generated) -> Status
+pub fn of_generating(generated: GenEnding) -> Status
     ensures { result ≡ status_of_generating generated }
 {
     match generated {
-        Generated::Done => Status::Done,
-        Generated::WriteFault => Status::WriteFault,
-        Generated::OutOfMemory => Status::OutOfMemory,
+        GenEnding::Done => Status::Done,
+        GenEnding::WriteFault => Status::WriteFault,
+        GenEnding::OutOfMemory => Status::OutOfMemory,
     }
 }
 

@@ -49,7 +49,7 @@ fn words_of(rt: &HostRuntime) -> io::Result<Seq<Txt>> {
     Ok(words)
 }
 
-/// The status of words of which one isn't UTF-8.
+/// The status of words that aren't all UTF-8.
 fn not_utf8(alloc: Global) -> Status
     ensures { ((text : List ℕ) × (result ≡ Status.Usage text)) ⊎ (result ≡ Status.OutOfMemory) }
 {

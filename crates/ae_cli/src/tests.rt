@@ -95,7 +95,7 @@ fn keys(alloc: Global) -> Result<Vec<(Txt, [u8; 32])>, AllocError> {
 
 /// The result of the words over a script, replies and a file on the disk, where the first call of
 /// one device fails. What takes memory is made before the devices.
-fn come_to<S: Source, L: Source>(
+fn run_words<S: Source, L: Source>(
     alloc: Global,
     words: &[&str],
     script: &mut S,
@@ -130,7 +130,7 @@ fn come_to<S: Source, L: Source>(
     )
 }
 
-/// What the words leave of devices that are lent.
+/// What the words leave of devices that are borrowed.
 fn left_of<S: Source, L: Source>(
     alloc: Global,
     words: &[Txt],
@@ -166,7 +166,7 @@ fn left_where(
     let script = script.to_vec(alloc)?;
     let mut script = MemSource::new(script, 10, calls);
     let mut replies = MemSource::new(Vec::new(alloc), 10, Vec::new(alloc));
-    come_to(alloc, words, &mut script, &mut replies, b"", fails)
+    run_words(alloc, words, &mut script, &mut replies, b"", fails)
 }
 
 fn left_by(alloc: Global, words: &[&str], script: &[u8]) -> Result<Left, AllocError> {
@@ -213,7 +213,7 @@ fn driven(alloc: Global, replies: &[u8]) -> Result<Left, AllocError> {
     let replies = replies.to_vec(alloc)?;
     let mut script = MemSource::new(script, 10, Vec::new(alloc));
     let mut replies = MemSource::new(replies, 10, Vec::new(alloc));
-    come_to(alloc, &["ae", "drive"], &mut script, &mut replies, b"", "")
+    run_words(alloc, &["ae", "drive"], &mut script, &mut replies, b"", "")
 }
 
 #[test]
@@ -273,7 +273,7 @@ fn words_are_commands_as_clap_reads_them(rt: HostRuntime) -> Result<(), Fail> {
     Ok(())
 }
 
-// The words behind the program's name.
+// The words after the program's name.
 const OTHER_WORDS: [&[&str]; 57] = [
     &[],
     &["walk"],
@@ -334,7 +334,7 @@ const OTHER_WORDS: [&[&str]; 57] = [
     &["-V"],
 ];
 
-// The result of some words behind the program's name.
+// The result of some words after the program's name.
 fn left_behind(alloc: Global, words: &[&str]) -> Result<Left, AllocError> {
     let mut all = Vec::new(alloc);
     all.push("ae")?;
@@ -436,7 +436,7 @@ fn journaled(alloc: Global, requests: &[u8], file: &[u8]) -> Result<Left, AllocE
     let mut script = MemSource::new(requests.to_vec(alloc)?, 10, Vec::new(alloc));
     let mut replies = MemSource::new(Vec::new(alloc), 10, Vec::new(alloc));
     let words = ["ae", "serve", "--journal"];
-    come_to(alloc, &words, &mut script, &mut replies, file, "")
+    run_words(alloc, &words, &mut script, &mut replies, file, "")
 }
 
 #[test]
@@ -516,7 +516,7 @@ fn left_past(alloc: Global, words: &[&str], bytes: Vec<u8>) -> Result<Left, Allo
         at: 0,
     };
     let mut replies = MemSource::new(Vec::new(alloc), 10, Vec::new(alloc));
-    come_to(alloc, words, &mut script, &mut replies, b"", "")
+    run_words(alloc, words, &mut script, &mut replies, b"", "")
 }
 
 #[test]
@@ -570,7 +570,7 @@ fn left_over(alloc: Global, script: Vec<u8>, bytes: Vec<u8>) -> Result<Left, All
         back: FIRST_REPLIES.len(),
         at: 0,
     };
-    come_to(alloc, &["ae", "drive"], &mut script, &mut replies, b"", "")
+    run_words(alloc, &["ae", "drive"], &mut script, &mut replies, b"", "")
 }
 
 #[test]

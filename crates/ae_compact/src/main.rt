@@ -3,7 +3,7 @@
 #![tactic(auto)]
 
 use disk::file_disk::FileDisk;
-use journal_compaction::commands::{Compacted, compact};
+use journal_compaction::commands::{CompactEnding, compact};
 use std::fs::File;
 use std::io::ErrorKind;
 use std::process::ExitCode;
@@ -21,7 +21,7 @@ fn main(rt: HostRuntime) -> ExitCode {
     match count_words(&rt) {
         Ok(0..=1) => ending(&rt, write_anew(&rt)),
         Err(error) if error.kind() == ErrorKind::OutOfMemory => {
-            ending(&rt, Compacted::OutOfMemory)
+            ending(&rt, CompactEnding::OutOfMemory)
         }
         _ => {
             let _ = eprint!(rt; "{USAGE}");
@@ -35,17 +35,17 @@ fn count_words(rt: &HostRuntime) -> io::Result<usize> {
     Ok(env::args(rt)?.count())
 }
 
-/// Writes the journal anew, and puts the new file in the place of the old one. Both are held until
-/// the end, so that no server has the journal meanwhile.
-fn write_anew(rt: &HostRuntime) -> Compacted {
+/// Writes the journal anew, and replaces the old file by the new one. Both are locked until the
+/// end, so that no server has the journal meanwhile.
+fn write_anew(rt: &HostRuntime) -> CompactEnding {
     let mut disk = FileDisk::new(rt, JOURNAL);
     let mut new = FileDisk::new(rt, NEW);
     let mut compacted = compact(rt.alloc(), &mut disk, &mut new);
-    if compacted == Compacted::Done && put_in_place(rt).is_err() {
-        compacted = Compacted::NewDiskFault;
+    if compacted == CompactEnding::Done && put_in_place(rt).is_err() {
+        compacted = CompactEnding::NewDiskFault;
     }
     // Where the journal is held elsewhere, the new file may be another compaction's.
-    if !matches!(compacted, Compacted::Done | Compacted::DiskFault) {
+    if !matches!(compacted, CompactEnding::Done | CompactEnding::DiskFault) {
         let _ = fs::remove_file(rt, NEW);
     }
     compacted
@@ -58,7 +58,7 @@ fn put_in_place(rt: &HostRuntime) -> io::Result<()> {
 }
 
 // The number stands, also where nothing can be said on standard error.
-fn ending(rt: &HostRuntime, compacted: Compacted) -> ExitCode {
+fn ending(rt: &HostRuntime, compacted: CompactEnding) -> ExitCode {
     let _ = eprint!(rt; "{compacted}");
     ExitCode::from(compacted.number())
 }

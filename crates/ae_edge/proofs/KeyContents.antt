@@ -42,14 +42,14 @@ key_exactly line content ends =
     )
 
 -- the line's digits are the first 64 bytes
-front : (line content : List ℕ) → EndsLine line content → length line ≡ 64 → take 64 content ≡ line
-front line content (inl e) n = rw (← n, e) (take-append_seam line (10 ∷ []))
-front line content (inr e) n = rw (← n, e.0) (take-length line)
+prefix : (line content : List ℕ) → EndsLine line content → length line ≡ 64 → take 64 content ≡ line
+prefix line content (inl e) n = rw (← n, e) (take-append_seam line (10 ∷ []))
+prefix line content (inr e) n = rw (← n, e.0) (take-length line)
 
 key_value : (line content bytes : List ℕ) → EndsLine line content → decode_sized line 32 ≡ Ok bytes → decode_of (take 64 content) ≡ Ok bytes
 key_value line content bytes ends is =
     let n = decode_sized-ok line 32 bytes is in
-    let e = front line content ends n in
+    let e = prefix line content ends n in
     rw e (sym (decode_sized-twice line 32 n) ∙ is)
 
 -- what decoding the line answers is the content's key

@@ -3,5 +3,5 @@ mod KeyContents
 mod KeyPaths
 mod Progress
 mod Reading
-mod Told
+mod Exposed
 mod Whole

@@ -29,7 +29,7 @@ IsKeyOf None content = ¬ IsKeyFile content
 
 -- the content is the line and an LF, or it is the line, which ends in no LF
 abbrev pub EndsLine : List ℕ → List ℕ → Type 0
-EndsLine line content = (content ≡ line ++ 10 ∷ []) ⊎ ((content ≡ line) × ((front : List ℕ) → line ≢ front ++ 10 ∷ []))
+EndsLine line content = (content ≡ line ++ 10 ∷ []) ⊎ ((content ≡ line) × ((prefix : List ℕ) → line ≢ prefix ++ 10 ∷ []))
 
 -- where the bytes of a reader are known, it has given the first n of the buffer, and all that it had where the buffer is not full
 abbrev pub HasFilled : Option (List ℕ) → Option (List ℕ) → ℕ → List ℕ → Type 0

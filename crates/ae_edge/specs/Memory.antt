@@ -37,12 +37,12 @@ after_call calls failed = record {
 
 -- the bytes that are left, the most that a call gives, and the calls
 pub record SourceState : Type 0 where
-  pub left : List ℕ
+  pub rest : List ℕ
   pub piece : ℕ
   pub calls : CallState
 
 pub record SinkState : Type 0 where
-  pub held : List ℕ
+  pub content : List ℕ
   pub calls : CallState
   pub closed : Bool
 
@@ -57,7 +57,7 @@ pub record EntropyState : Type 0 where
 -- a call gives the next piece, as long as it may be; else nothing but the calls changes
 abbrev pub MemTakes : ℕ → Taken → SourceState → SourceState → Type 0
 MemTakes max (taken.Bytes bytes) old new =
-    (bytes ≡ take (min max old.piece) old.left) × (new ≡ record { left = drop (min max old.piece) old.left; piece = old.piece; calls = after_call old.calls false })
+    (bytes ≡ take (min max old.piece) old.rest) × (new ≡ record { rest = drop (min max old.piece) old.rest; piece = old.piece; calls = after_call old.calls false })
 MemTakes max taken.End old new = new ≡ record old { calls = after_call old.calls false }
 MemTakes max taken.Failed old new = new ≡ record old { calls = after_call old.calls true }
 MemTakes max taken.OutOfMemory old new = new ≡ record old { calls = after_call old.calls false }
@@ -65,7 +65,7 @@ MemTakes max taken.OutOfMemory old new = new ≡ record old { calls = after_call
 -- a call puts the whole piece; else nothing but the calls changes
 abbrev pub MemPuts : List ℕ → Put → SinkState → SinkState → Type 0
 MemPuts bytes (put.Bytes n) old new =
-    (n ≡ length bytes) × (new ≡ record old { held = old.held ++ bytes; calls = after_call old.calls false })
+    (n ≡ length bytes) × (new ≡ record old { content = old.content ++ bytes; calls = after_call old.calls false })
 MemPuts bytes put.Failed old new = new ≡ record old { calls = after_call old.calls true }
 MemPuts bytes put.OutOfMemory old new = new ≡ record old { calls = after_call old.calls false }
 

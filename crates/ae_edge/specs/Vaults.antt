@@ -20,7 +20,7 @@ Finds path (Found key) keys = key_at keys path ≡ Some key
 Finds path NotThere keys = key_at keys path ≡ None
 Finds path Failed keys = Unit {0}
 
--- a call finds that where the keys are told, and leaves them as they are
+-- a call finds that where the keys are exposed, and leaves them as they are
 abbrev pub LooksUp : List ℕ → MasterKey → Option KeyMap → Option KeyMap → Type 0
 LooksUp path result old new = (new ≡ old) × IfSome old (Finds path result)
 

@@ -24,7 +24,7 @@ pub trait Entropy {
             (seen self.old) (seen self.new) };
 }
 
-/// One that is lent.
+/// A borrowed random source.
 impl<E: Entropy> Entropy for &mut E {
     ghost seen = { λ e. lent (E.seen e.now) e.ghost_name };
 

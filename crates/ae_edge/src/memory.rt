@@ -1,5 +1,5 @@
-//! Devices in memory. Each fails at the calls of the listed numbers, from 0, and tells what it
-//! holds; with an empty list it never fails.
+//! Devices in memory. Each fails at the calls of the listed numbers, from 0, and exposes its
+//! content; with an empty list it never fails.
 
 pub mod calls;
 pub mod entropy;

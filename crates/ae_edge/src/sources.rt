@@ -24,7 +24,7 @@ pub trait Source {
     /// What is seen of it. Its content is the bytes that are left.
     ghost seen: { Self → Device (List ℕ) };
 
-    /// Takes the next bytes, at least one and at most `max`. After `Failed` and without memory the
+    /// Takes the next bytes, at least one and at most `max`. After `Failed` and out of memory the
     /// same bytes are left.
     fn take(&mut self, alloc: Global, max: usize) -> Taken
         requires { 1 ≤ max }
@@ -33,7 +33,7 @@ pub trait Source {
             (seen self.old) (seen self.new) };
 }
 
-/// One that is lent.
+/// A borrowed source.
 impl<S: Source> Source for &mut S {
     ghost seen = { λ s. lent (S.seen s.now) s.ghost_name };
 

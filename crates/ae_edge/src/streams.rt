@@ -1,4 +1,4 @@
-//! Sources that are read to their end, and bytes that are put whole.
+//! Sources that are read to their end, and bytes that are written whole.
 
 ghost use Rattle.std.specs.Prelude.{◌≡◌, ◌≤◌, IfOk, length};
 ghost use Rattle.ae_edge.specs.Devices.{Calls, WhereExposed};
@@ -19,8 +19,8 @@ pub enum ReadError {
     OutOfMemory,
 }
 
-/// Reads a source to its end, within a limit in bytes. At most one byte more than the limit is
-/// taken; what was taken before an error is lost.
+/// Reads a source to its end, within a limit in bytes. It takes at most one byte more than the
+/// limit; the bytes taken before an error are lost.
 pub fn read_all<S: Source>(source: &mut S, alloc: Global, limit: usize) -> Result<Blob, ReadError>
     ensures within { IfOk result (λ bytes. length bytes ≤ limit) }
     ensures call { Calls (WhereExposed (ReadsAll limit result)) (CountsReadAll result)
@@ -43,7 +43,7 @@ pub fn read_all<S: Source>(source: &mut S, alloc: Global, limit: usize) -> Resul
     Err(ReadError::TooLong)
 }
 
-/// Why some bytes weren't put whole. A front of them was put.
+/// Why some bytes weren't written whole. A prefix of them was written.
 #[derive(Clone, Copy, PartialEq, Eq, Debug)]
 pub enum WriteError {
     /// A call of the sink failed.
@@ -51,7 +51,7 @@ pub enum WriteError {
     OutOfMemory,
 }
 
-/// Puts all of some bytes, in as many calls as it takes.
+/// Writes all of some bytes, in as many calls as it takes.
 pub fn put_all<W: Sink>(sink: &mut W, bytes: &[u8]) -> Result<(), WriteError>
     ensures call { Calls (PutsAll bytes.now result) (CountsPutAll result)
         (W.seen sink.old) (W.seen sink.new) }

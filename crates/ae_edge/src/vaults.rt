@@ -10,7 +10,7 @@ use ae_base::texts::Txt;
 pub enum MasterKey {
     /// The master key at the path.
     Found([u8; 32]),
-    /// The vault has no such path.
+    /// The vault hasn't this path.
     NotThere,
     /// The call failed.
     Failed,
@@ -27,7 +27,7 @@ pub trait Vault {
             (seen self.old) (seen self.new) };
 }
 
-/// One that is lent.
+/// A borrowed vault.
 impl<V: Vault> Vault for &mut V {
     ghost seen = { λ v. lent (V.seen v.now) v.ghost_name };
 

@@ -9,7 +9,7 @@ use ae_edge::adapters::source::StdSource;
 use std::io::ErrorKind;
 use std::process::ExitCode;
 use std::{env, io};
-use view_command::commands::{Viewed, view};
+use view_command::commands::{ViewEnding, view};
 use view_command::words::asks_page;
 
 /// How the words are written.
@@ -21,7 +21,10 @@ fn main(rt: HostRuntime) -> ExitCode {
             Some(page) => viewed(&rt, page),
             None => refused(&rt),
         },
-        Err(error) if error.kind() == ErrorKind::OutOfMemory => ending(&rt, Viewed::OutOfMemory),
+        Err(error) if error.kind() == ErrorKind::OutOfMemory => ending(
+            &rt,
+            ViewEnding::OutOfMemory,
+        ),
         Err(_) => refused(&rt),
     }
 }
@@ -43,7 +46,7 @@ fn viewed(rt: &HostRuntime, page: bool) -> ExitCode {
 }
 
 // The number stands, also where nothing can be said on standard error.
-fn ending(rt: &HostRuntime, viewed: Viewed) -> ExitCode {
+fn ending(rt: &HostRuntime, viewed: ViewEnding) -> ExitCode {
     let _ = eprint!(rt; "{viewed}");
     ExitCode::from(viewed.number())
 }

@@ -4,7 +4,7 @@ use Rattle.std.specs.Simd.Lanes.{zip2}
 use Rattle.std.proofs.lemmas.Nat.Bits.{bit_at_and, bit_at_xor}
 use Rattle.aes_block.specs.Planes.{bit}
 
--- lane i of a result, also behind the last
+-- lane i of a result, also after the last
 lane-zip2 : (f : ℕ → ℕ → ℕ) → f 0 0 ≡ 0 → (xs ys : List ℕ) (i : ℕ) → length xs ≡ length ys
     → get_or (zip2 f xs ys) i 0 ≡ f (get_or xs i 0) (get_or ys i 0)
 lane-zip2 f none [] [] i same = rw none refl

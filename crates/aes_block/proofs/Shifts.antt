@@ -10,7 +10,7 @@ use Rattle.std.proofs.lemmas.Nat.Bits.{bit_at_and, bit_at_ones, bit_at-zero, bit
 use Rattle.std.proofs.lemmas.Simd.{map-map, zip2_splat}
 use Rattle.aes_block.specs.Planes.{bit}
 
--- each lane with the same number, also behind the last lane
+-- each lane with the same number, also after the last lane
 lane-splat : (f : ℕ → ℕ → ℕ) (xs : List ℕ) (n y i : ℕ) → length xs ≡ n → f 0 y ≡ 0
     → get_or (zip2 f xs (replicate n y)) i 0 ≡ f (get_or xs i 0) y
 lane-splat f xs n y i long none = rw (zip2_splat f xs n y long) (elim (cases_lt i (length xs)) [

@@ -3,7 +3,7 @@ use Rattle.std.specs.Prelude.{ℕ, zero, suc, ◌-◌, ◌&&◌, nat_le, nat_lt,
 use Rattle.std.specs.List.{range_with_len}
 use Rattle.aes_block.specs.Aes.{add_round_key, inv_mix_columns, inv_mix_polynomial, inv_shift_rows, inv_sub_bytes, word, word_product}
 
--- word i of its key words: InvMixColumns of word i, but for the words of the first and the last round key
+-- word i of its key words: InvMixColumns of word i, except for the words of the first and the last round key
 abbrev pub inv_key_word : List (List ℕ) → ℕ → List ℕ
 inv_key_word words i = if nat_le 4 i && nat_lt i 56 then word_product inv_mix_polynomial (word words i) else word words i
 

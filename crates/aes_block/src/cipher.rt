@@ -95,7 +95,7 @@ impl Aes256 {
     }
 }
 
-/// A cipher made ready to decrypt many blocks, eight at once: its round keys stand in planes.
+/// A cipher made ready to decrypt many blocks, eight at once: its round keys are bit planes.
 ///
 /// A contract sees it as the 32 bytes of its key.
 #[derive(Drop)]

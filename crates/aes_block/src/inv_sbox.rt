@@ -222,7 +222,7 @@ fn four_planes(right: [Plane; 9], left: [Plane; 9], shared: [Plane; 9]) -> [Plan
     [w6, w5, w3, w0]
 }
 
-/// All planes of the result, of which four are those.
+/// All planes of the result, four of which are given.
 #[inline(always)]
 fn all_planes(
     right: [Plane; 9],

@@ -49,7 +49,7 @@ use Rattle.ae_base.specs.Results.{◌>>=◌, or_fault}
 use Rattle.ae_base.specs.declared.faults.SqlFault.TheVariants as fault
 use Rattle.ae_base.specs.declared.keys.EncryptedValue.{EncryptedValue}
 use Rattle.ae_base.specs.declared.one_or_two.OneOrTwo.{OneOrTwo}
-use Rattle.catalog.specs.Catalogs.{Catalog, key_named, key_place, has_value, other_value, is_value_under, is_at_last_version, revalued, with_values, with_value, without_value}
+use Rattle.catalog.specs.Catalogs.{Catalog, key_named, key_position, has_value, other_value, is_value_under, is_at_last_version, revalued, with_values, with_value, without_value}
 use Rattle.catalog.specs.WellFormed.{label_of, MastersDiffer}
 use Rattle.catalog.specs.declared.keys.ColumnKey.{ColumnKey}
 use Rattle.catalog.proofs.Found.{accepted}
@@ -59,29 +59,29 @@ valued key values = record key { values = values }
 
 -- ---- the place of the key
 
-at-place : (name : List ℕ) (values : OneOrTwo EncryptedValue) (keys : List ColumnKey) (place : ℕ) (d : ColumnKey) → place < length keys
-    → bytes_eq (get_or keys place d).name name ≡ true → ((k : ℕ) → k < place → bytes_eq (get_or keys k d).name name ≡ false)
-    → set keys place (valued (get_or keys place d) values) ≡ revalued name values keys
-at-place name values [] place d lt is before = absurd (omega arith)
-at-place name values (key ∷ keys) zero d lt is before = ap (λ b. cond b (valued key values ∷ keys) (key ∷ revalued name values keys)) (sym is)
-at-place name values (key ∷ keys) (suc place) d lt is before =
-    ap (λ rest. key ∷ rest) (at-place name values keys place d (omega arith) is (λ k less. before (suc k) (omega arith)))
+at-index : (name : List ℕ) (values : OneOrTwo EncryptedValue) (keys : List ColumnKey) (index : ℕ) (d : ColumnKey) → index < length keys
+    → bytes_eq (get_or keys index d).name name ≡ true → ((k : ℕ) → k < index → bytes_eq (get_or keys k d).name name ≡ false)
+    → set keys index (valued (get_or keys index d) values) ≡ revalued name values keys
+at-index name values [] index d lt is before = absurd (omega arith)
+at-index name values (key ∷ keys) zero d lt is before = ap (λ b. cond b (valued key values ∷ keys) (key ∷ revalued name values keys)) (sym is)
+at-index name values (key ∷ keys) (suc index) d lt is before =
+    ap (λ rest. key ∷ rest) (at-index name values keys index d (omega arith) is (λ k less. before (suc k) (omega arith)))
     ∙ ap (λ b. cond b (valued key values ∷ keys) (key ∷ revalued name values keys)) (sym (before 0 (omega arith)))
 
-pub revalued-place : (name : List ℕ) (values : OneOrTwo EncryptedValue) (keys : List ColumnKey) (place : ℕ) (d : ColumnKey)
-    → position (λ key. bytes_eq key.name name) keys ≡ Some place → set keys place (valued (get_or keys place d) values) ≡ revalued name values keys
-revalued-place name values keys place d e =
-    let p = position-Some (λ (key : ColumnKey). bytes_eq key.name name) keys place d e in
-    at-place name values keys place d p.0 p.1 p.2
+pub revalued-index : (name : List ℕ) (values : OneOrTwo EncryptedValue) (keys : List ColumnKey) (index : ℕ) (d : ColumnKey)
+    → position (λ key. bytes_eq key.name name) keys ≡ Some index → set keys index (valued (get_or keys index d) values) ≡ revalued name values keys
+revalued-index name values keys index d e =
+    let p = position-Some (λ (key : ColumnKey). bytes_eq key.name name) keys index d e in
+    at-index name values keys index d p.0 p.1 p.2
 
-pub set-there : (catalog : Catalog) (name : List ℕ) (values : OneOrTwo EncryptedValue) (place : ℕ) (key : ColumnKey) (copied : List ℕ) (keys : List ColumnKey)
-    → key_place catalog name ≡ Some place → key ≡ get_or catalog.keys place key → copied ≡ key.name
-    → keys ≡ set catalog.keys place (record { id = key.id; name = copied; values = values }) → keys ≡ revalued name values catalog.keys
-set-there catalog name values place key copied keys e is same made =
+pub set-there : (catalog : Catalog) (name : List ℕ) (values : OneOrTwo EncryptedValue) (index : ℕ) (key : ColumnKey) (copied : List ℕ) (keys : List ColumnKey)
+    → key_position catalog name ≡ Some index → key ≡ get_or catalog.keys index key → copied ≡ key.name
+    → keys ≡ set catalog.keys index (record { id = key.id; name = copied; values = values }) → keys ≡ revalued name values catalog.keys
+set-there catalog name values index key copied keys e is same made =
     made
-    ∙ ap (λ name. set catalog.keys place (record { id = key.id; name = name; values = values })) same
-    ∙ ap (λ key. set catalog.keys place (valued key values)) is
-    ∙ revalued-place name values catalog.keys place key e
+    ∙ ap (λ name. set catalog.keys index (record { id = key.id; name = name; values = values })) same
+    ∙ ap (λ key. set catalog.keys index (valued key values)) is
+    ∙ revalued-index name values catalog.keys index key e
 
 all-others : (name : List ℕ) (values : OneOrTwo EncryptedValue) (keys : List ColumnKey) → All (λ key. bytes_eq key.name name ≡ false) keys → revalued name values keys ≡ keys
 all-others name values [] others = refl

@@ -30,8 +30,8 @@ IdsAreNotReused = (old new : Catalog) (id : ℕ) (key : ColumnKey) → IsCatalog
     → key_of new id ≡ Some key → (before : ColumnKey) × (key_of old id ≡ Some before) × (before.name ≡ key.name)
 
 -- a key that is there can be told
-abbrev pub KeysAreTold : Type 0
-KeysAreTold = (catalog : Catalog) (id : ℕ) → IsCatalog catalog → IsSome (key_of catalog id) → IsSome (key_meta catalog id)
+abbrev pub KeysAreDescribed : Type 0
+KeysAreDescribed = (catalog : Catalog) (id : ℕ) → IsCatalog catalog → IsSome (key_of catalog id) → IsSome (key_meta catalog id)
 
 -- a key that is found by its name is found by its number
 abbrev pub NamedAreNumbered : Type 0

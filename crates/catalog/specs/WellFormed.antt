@@ -1,4 +1,4 @@
--- Which catalogs can stand, and how one follows another.
+-- Which catalogs can occur, and how one follows another.
 use Rattle.std.specs.Prelude.{◌≡◌, ◌≢◌, ◌<◌, ◌≤◌, ℕ, ◌+◌, List, ◌++◌, length, map, Contains, IsSome, slice_index_or}
 use Rattle.std.specs.List.{All, AllPairs}
 use Rattle.ae_base.specs.OneOrTwo.{each_of}

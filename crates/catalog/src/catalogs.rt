@@ -8,13 +8,13 @@ ghost use Rattle.catalog.specs.Catalogs.{
   master_named,
   key_named,
   table_named,
-  master_place,
-  key_place,
-  table_place,
+  master_position,
+  key_position,
+  table_position,
   key_of,
   key_meta,
-  value_told,
-  values_told,
+  described_value,
+  described_values,
   is_under,
   is_table_under,
   is_master_used,
@@ -133,8 +133,8 @@ impl Catalog {
             .find(|master| master.name == *name)
     }
 
-    fn master_place(&self, name: &Name) -> Option<usize>
-        ensures { result ≡ master_place self.now name.now }
+    fn master_position(&self, name: &Name) -> Option<usize>
+        ensures { result ≡ master_position self.now name.now }
     {
         self.masters
             .as_slice()
@@ -158,8 +158,8 @@ impl Catalog {
         self.keys.as_slice().iter().find(|key| key.name == *name)
     }
 
-    fn key_place(&self, name: &Name) -> Option<usize>
-        ensures { result ≡ key_place self.now name.now }
+    fn key_position(&self, name: &Name) -> Option<usize>
+        ensures { result ≡ key_position self.now name.now }
     {
         self.keys
             .as_slice()
@@ -205,9 +205,9 @@ impl Catalog {
         self.tables.as_slice()
     }
 
-    /// The place of the table of a name among the tables, from 0. It takes no memory.
-    pub fn table_place(&self, name: &Name) -> Option<usize>
-        ensures { result ≡ table_place self.now name.now }
+    /// The position of the table of a name among the tables, from 0. It takes no memory.
+    pub fn table_position(&self, name: &Name) -> Option<usize>
+        ensures { result ≡ table_position self.now name.now }
     {
         self.tables
             .as_slice()
@@ -221,14 +221,14 @@ impl Catalog {
         self.keys.as_slice().iter().find(|key| key.id == id)
     }
 
-    /// What a client is told of the column key of a number.
+    /// The description of the column key of a number.
     pub fn key_meta(&self, id: KeyId) -> Result<Option<KeyMeta>, AllocError>
         ensures { IfOk result (λ meta. meta ≡ key_meta self.now id) }
     {
         let Some(key) = self.key_of(id) else {
             return Ok(None);
         };
-        let Some(values) = self.values_told(&key.values)? else {
+        let Some(values) = self.described_values(&key.values)? else {
             return Ok(None);
         };
         Ok(Some(KeyMeta {
@@ -238,8 +238,8 @@ impl Catalog {
         }))
     }
 
-    fn value_told(&self, value: &EncryptedValue) -> Result<Option<KeyValue>, AllocError>
-        ensures { IfOk result (λ told. told ≡ value_told self.now value.now) }
+    fn described_value(&self, value: &EncryptedValue) -> Result<Option<KeyValue>, AllocError>
+        ensures { IfOk result (λ described. described ≡ described_value self.now value.now) }
     {
         let Some(path) = self.master(&value.master) else {
             return Ok(None);
@@ -250,21 +250,21 @@ impl Catalog {
         }))
     }
 
-    /// The values of a column key as a client is told of them.
-    fn values_told(
+    /// The values of a column key as they are described to a client.
+    fn described_values(
         &self,
         values: &OneOrTwo<EncryptedValue>,
     ) -> Result<Option<OneOrTwo<KeyValue>>, AllocError>
-        ensures { IfOk result (λ told. told ≡ values_told self.now values.now) }
+        ensures { IfOk result (λ described. described ≡ described_values self.now values.now) }
     {
-        let Some(first) = self.value_told(&values.first)? else {
+        let Some(first) = self.described_value(&values.first)? else {
             return Ok(None);
         };
         let Some(second) = &values.second else {
             let second = None;
             return Ok(Some(OneOrTwo { first, second }));
         };
-        match self.value_told(second)? {
+        match self.described_value(second)? {
             None => Ok(None),
             second => Ok(Some(OneOrTwo { first, second })),
         }
@@ -360,10 +360,10 @@ impl Catalog {
         match definition {
             BoundDefinition::CreateTable(_) => Effect::Adds,
             BoundDefinition::DropTable(name) => {
-                Effect::Removes(self.table_place(name).unwrap_or(0))
+                Effect::Removes(self.table_position(name).unwrap_or(0))
             }
             BoundDefinition::ReplaceTable { old, .. } => {
-                Effect::Removes(self.table_place(old).unwrap_or(0))
+                Effect::Removes(self.table_position(old).unwrap_or(0))
             }
             BoundDefinition::CreateMaster { .. }
             | BoundDefinition::CreateKey { .. }
@@ -391,9 +391,9 @@ impl Catalog {
         Ok(())
     }
 
-    /// Defines a column key of values under different master keys that are there, at the end of the
-    /// list. It gets the next number. `Exists` for a name that a column key has, else `Full` where
-    /// no further one can be defined. After a fault or out of memory the catalog is as before.
+    /// Defines a column key of values under different master keys that exist, and appends it. It
+    /// gets the next number. `Exists` for a name that a column key has, else `Full` where no
+    /// further one can be defined. After a fault or out of memory the catalog is as before.
     fn create_key(&mut self, name: Name, values: OneOrTwo<EncryptedValue>) -> Result<(), Refusal>
         requires there { AreMastersThere self.old values }
         requires differ { MastersDiffer values }
@@ -473,14 +473,14 @@ impl Catalog {
             (self.new ≡ record self.old { keys = revalued name.now values self.old.keys }) }
         ensures err { OnErr result (self.new ≡ self.old) }
     {
-        if let Some(place) = self.key_place(name) {
-            let key = self.keys.get(place);
+        if let Some(index) = self.key_position(name) {
+            let key = self.keys.get(index);
             let key = ColumnKey {
                 id: key.id,
                 name: key.name.copy()?,
                 values,
             };
-            self.keys.set(place, key);
+            self.keys.set(index, key);
         }
         Ok(())
     }
@@ -508,7 +508,7 @@ impl Catalog {
     fn drop_master(&mut self, name: &Name) -> Result<(), Refusal>
         ensures { Defines result self.old self.new (without_master self.old name.now) }
     {
-        let Some(place) = self.master_place(name) else {
+        let Some(index) = self.master_position(name) else {
             return Err(Refusal::Fault(SqlFault::NoSuch(name.copy()?)));
         };
         if self.is_master_used(name) {
@@ -517,7 +517,7 @@ impl Catalog {
         if self.is_at_last_version() {
             return Err(Refusal::Fault(SqlFault::Full));
         }
-        self.masters.remove(place);
+        self.masters.remove(index);
         self.version += 1;
         Ok(())
     }
@@ -529,7 +529,7 @@ impl Catalog {
     fn drop_key(&mut self, name: &Name) -> Result<(), Refusal>
         ensures { Defines result self.old self.new (without_key self.old name.now) }
     {
-        let Some(place) = self.key_place(name) else {
+        let Some(index) = self.key_position(name) else {
             return Err(Refusal::Fault(SqlFault::NoSuch(name.copy()?)));
         };
         if self.is_key_used(name) {
@@ -538,7 +538,7 @@ impl Catalog {
         if self.is_at_last_version() {
             return Err(Refusal::Fault(SqlFault::Full));
         }
-        self.keys.remove(place);
+        self.keys.remove(index);
         self.version += 1;
         Ok(())
     }
@@ -549,13 +549,13 @@ impl Catalog {
     fn drop_table(&mut self, name: &Name) -> Result<(), Refusal>
         ensures { Defines result self.old self.new (without_table self.old name.now) }
     {
-        let Some(place) = self.table_place(name) else {
+        let Some(index) = self.table_position(name) else {
             return Err(Refusal::Fault(SqlFault::NoSuch(name.copy()?)));
         };
         if self.is_at_last_version() {
             return Err(Refusal::Fault(SqlFault::Full));
         }
-        self.tables.remove(place);
+        self.tables.remove(index);
         self.version += 1;
         Ok(())
     }
@@ -571,8 +571,8 @@ impl Catalog {
         if self.is_at_last_version() {
             return Err(Refusal::Fault(SqlFault::Full));
         }
-        let place = self.table_place(&old).unwrap();
-        let from = self.table_place(new).unwrap();
+        let index = self.table_position(&old).unwrap();
+        let from = self.table_position(new).unwrap();
         let table = self.tables.get(from);
         let named = TableDef {
             name: old,
@@ -580,7 +580,7 @@ impl Catalog {
             uniques: table.uniques.copy()?,
         };
         self.tables.set(from, named);
-        self.tables.remove(place);
+        self.tables.remove(index);
         self.version += 1;
         Ok(())
     }

@@ -10,7 +10,7 @@ pub enum Effect {
     Stays,
     /// A table more, at the end.
     Adds,
-    /// The table at a place is taken out.
+    /// The table at a position is taken out.
     Removes(usize),
 }
 
@@ -23,9 +23,9 @@ impl Effect {
         match self {
             Effect::Stays => {}
             Effect::Adds => items.push_reserved(new),
-            Effect::Removes(place) => {
-                if place < items.len() {
-                    let _gone = items.remove(place);
+            Effect::Removes(index) => {
+                if index < items.len() {
+                    let _gone = items.remove(index);
                 }
             }
         }

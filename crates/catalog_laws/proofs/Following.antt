@@ -1,4 +1,4 @@
--- The shared catalog behind a step, a session's call, a request and some requests follows the one before.
+-- The shared catalog after a step, a session's call, a request and some requests follows the one before.
 use Rattle.std.proofs.Common.{◌≡◌, ◌<◌, ◌≤◌, ◌⊎◌, inl, inr, ℕ, List, [], ◌∷◌, ◌++◌, map, Contains, refl, sym, subst, ◌∙◌, arith, Result, Ok, Err}
 use Rattle.std.specs.List.{All}
 use Rattle.ae_base.specs.Atoms.{Atom}
@@ -18,7 +18,7 @@ use Rattle.engine.specs.Step.{Done, done_by, outcome, rows_to_delete, rows_to_in
 use Rattle.engine.specs.Worlds.{World}
 use Rattle.transactions.specs.Stores.{Ask, transact}
 use Rattle.transactions.proofs.Interface.{AreBegun, IsNext, shared_by, store_begun, transact_begun}
-use Rattle.statement_analysis.specs.Describing.{Meant, describe}
+use Rattle.statement_analysis.specs.Describing.{Analysis, describe}
 use Rattle.wire_messages.specs.declared.requests.Request.{Request}
 use Rattle.wire_messages.specs.declared.requests.Request.TheVariants.{Describe, Execute}
 use Rattle.server_core.specs.Serve.{State, ask_of, catalog_of, executed, prepared, serve, serve_all}
@@ -26,9 +26,9 @@ use Rattle.server_core.specs.States.{any_cell}
 use Rattle.server_core.proofs.Interface.{answered_after, described_after}
 use Rattle.catalog_laws.specs.Laws.{CatalogsFollow}
 
--- ---- what holds of a state, and behind each call, holds behind a request
+-- ---- what holds of a state, and after each call, holds after a request
 
-executed_by : (P : State → Type 0) (state : State) (session : ℕ) (r : Result (Meant × List Atom) SqlFault) → P state → ((ask : Ask) → P (transact state session ask).after)
+executed_by : (P : State → Type 0) (state : State) (session : ℕ) (r : Result (Analysis × List Atom) SqlFault) → P state → ((ask : Ask) → P (transact state session ask).after)
     → P (executed state session r).after
 executed_by P state session (Ok ready) h k =
     let t = transact state session (ask_of ready) in

@@ -1,4 +1,4 @@
 mod Following
 mod Names
 mod Numbers
-mod Told
+mod Known

@@ -11,7 +11,7 @@ use Rattle.wire_messages.specs.declared.requests.Request.{Request}
 use Rattle.server_core.specs.Serve.{State, catalog_of, empty_state, serve_all}
 use Rattle.server_core.specs.States.{any_cell}
 
--- the catalog that the sessions share, behind some requests
+-- the catalog that the sessions share, after some requests
 abbrev pub catalog_behind : State → List Request → Catalog
 catalog_behind state requests = (serve_all state requests).1.shared.world.catalog
 
@@ -33,16 +33,16 @@ NumbersHaveOneName = (history more : List Request) (session other id : ℕ) (key
     → key_of (catalog_of (serve_all empty_state history).1 session) id ≡ Some key
     → key_of (catalog_of (serve_all empty_state (history ++ more)).1 other) id ≡ Some later → later.name ≡ key.name
 
--- what a reply tells of keys
-abbrev pub told_in : Reply → List KeyMeta
-told_in (Described description) = description.keys
-told_in (Columns header) = header.keys
-told_in (Row atoms) = []
-told_in (Ended done) = []
-told_in (Refused f) = []
+-- what a reply says of keys
+abbrev pub known_in : Reply → List KeyMeta
+known_in (Described description) = description.keys
+known_in (Columns header) = header.keys
+known_in (Row atoms) = []
+known_in (Ended done) = []
+known_in (Refused f) = []
 
 -- Of all that is told in the replies to some requests, keys of one number have one name.
-abbrev pub ToldKeysHaveOneName : Type 0
-ToldKeysHaveOneName = (requests : List Request) (one other : KeyMeta)
-    → let told = flat_map told_in (serve_all empty_state requests).0 in
-    Contains told one → Contains told other → one.id ≡ other.id → one.name ≡ other.name
+abbrev pub KnownKeysHaveOneName : Type 0
+KnownKeysHaveOneName = (requests : List Request) (one other : KeyMeta)
+    → let known = flat_map known_in (serve_all empty_state requests).0 in
+    Contains known one → Contains known other → one.id ≡ other.id → one.name ≡ other.name

@@ -1,12 +1,12 @@
 //! The laws of a server's catalogs: functions that do nothing, whose contracts are the laws.
 
 ghost use Rattle.catalog_laws.specs.Laws.{CatalogsFollow, KeyNumbersAreNotReused};
-ghost use Rattle.catalog_laws.specs.Laws.{NumbersHaveOneName, ToldKeysHaveOneName};
+ghost use Rattle.catalog_laws.specs.Laws.{NumbersHaveOneName, KnownKeysHaveOneName};
 
 use catalog::laws::{definitions_are_followed, ids_are_not_reused};
 use server_core::laws::requests_may_be_asked;
 
-/// Whatever is requested of a server in a state that can stand, the catalog that its sessions share
+/// Whatever is requested of a server in a state that can occur, the catalog that its sessions share
 /// follows the one before.
 pub fn catalogs_follow()
     ensures { CatalogsFollow }
@@ -33,10 +33,10 @@ pub fn numbers_have_one_name()
     definitions_are_followed();
 }
 
-/// The same of all that a server tells of column keys, in its replies to whatever requests: keys of
+/// The same of all that a server describes of column keys, in its replies to any requests: keys of
 /// one number have one name.
-pub fn told_keys_have_one_name()
-    ensures { ToldKeysHaveOneName }
+pub fn known_keys_have_one_name()
+    ensures { KnownKeysHaveOneName }
 {
     definitions_are_followed();
 }

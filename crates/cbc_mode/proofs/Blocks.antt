@@ -23,12 +23,12 @@ first_chunks-append : (n k : ℕ) (xs ys : List ℕ) → k * n ≤ length xs
     → first_chunks n (suc k) (xs ++ ys) ≡ first_chunks n k xs ++ take n (drop (k * n) xs ++ ys) ∷ []
 first_chunks-append n zero xs ys le = rw zero-mul refl
 first_chunks-append n (suc k) xs ys le =
-    let front : n ≤ length xs = omega arith in
+    let prefix : n ≤ length xs = omega arith in
     let rest : k * n ≤ length (drop n xs) = omega (arith, length-drop n xs) in
     let more = first_chunks-append n k (drop n xs) ys rest in
     let place : drop (k * n) (drop n xs) ≡ drop (suc k * n) xs = drop-drop (k * n) n xs ∙ ap (λ (m : ℕ). drop m xs) (omega arith) in
-    let taken = take-append-le n xs ys front in
-    let dropped = drop-append-le n xs ys front in
+    let taken = take-append-le n xs ys prefix in
+    let dropped = drop-append-le n xs ys prefix in
     rw (taken, dropped) (ap (λ (chunks : List (List ℕ)). take n xs ∷ chunks) (more ∙ ap (λ (zs : List ℕ). first_chunks n k (drop n xs) ++ take n (zs ++ ys) ∷ []) place))
 
 -- chunks joined again

@@ -38,9 +38,9 @@ IsChainedBelow-last key iv blocks i previous ciphertext last cipher_block so_far
 pub cbc-cut : (key iv bytes rest last : List ℕ) (blocks : List (List ℕ)) → blocks ≡ blocks_of bytes → rest ≡ drop (length bytes / 16 * 16) bytes → last ≡ with_padding rest
     → concat (cbc_encryption key iv (blocks ++ last ∷ [])) ≡ cbc key iv bytes
 unfolding cbc
-cbc-cut key iv bytes rest last blocks front back e =
+cbc-cut key iv bytes rest last blocks prefix back e =
     let whole = blocks_of-padded bytes in
     let padded_rest : with_padding rest ≡ with_padding (drop (length bytes / 16 * 16) bytes) = ap (λ (xs : List ℕ). with_padding xs) back in
-    ap (λ (bs : List (List ℕ)). concat (cbc_encryption key iv (bs ++ last ∷ []))) front
+    ap (λ (bs : List (List ℕ)). concat (cbc_encryption key iv (bs ++ last ∷ []))) prefix
     ∙ ap (λ (block : List ℕ). concat (cbc_encryption key iv (blocks_of bytes ++ block ∷ []))) (e ∙ padded_rest)
     ∙ ap (λ (bs : List (List ℕ)). concat (cbc_encryption key iv bs)) (sym whole)

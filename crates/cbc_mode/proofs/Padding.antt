@@ -68,7 +68,7 @@ padded-unpadded_by bytes plain count whole there e =
     let most = leb-true count 16 bounds.1 in
     let back = replicate-from_all (drop kept bytes) count parts.1 in
     let back_long : length (drop kept bytes) ≡ count = omega (arith, length-drop kept bytes) in
-    let front_long : length plain ≡ kept = ap length (sym test.1) ∙ length-take kept bytes ∙ omega arith in
+    let prefix_long : length plain ≡ kept = ap length (sym test.1) ∙ length-take kept bytes ∙ omega arith in
     let number : 16 - length plain % 16 ≡ count = omega arith in
     let tail : replicate (16 - length plain % 16) (16 - length plain % 16) ≡ drop kept bytes =
     ap (λ (n : ℕ). replicate n n) number ∙ ap (λ (n : ℕ). replicate n count) (sym back_long) ∙ sym back in
@@ -81,12 +81,12 @@ unpadded_by-padding : (bytes : List ℕ) (count : ℕ) → 1 ≤ count → count
 unpadded_by-padding bytes count least most =
     let pad = replicate count count in
     let kept : length (bytes ++ pad) - count ≡ length bytes = omega (arith, length-append bytes pad, length-replicate count count) in
-    let front = take_at bytes pad (length bytes) refl in
+    let prefix = take_at bytes pad (length bytes) refl in
     let back = drop_at bytes pad (length bytes) refl in
     let low : nat_le 1 count ≡ true = grind (arith, nat_tests) in
     let high : nat_le count 16 ≡ true = grind (arith, nat_tests) in
     let all = all-replicate count count in
-    rw (kept, front, back, low, high, all) refl
+    rw (kept, prefix, back, low, high, all) refl
 
 pub unpadded-padded : (bytes : List ℕ) → without_padding (with_padding bytes) ≡ Some bytes
 unpadded-padded bytes =

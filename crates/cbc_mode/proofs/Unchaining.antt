@@ -189,12 +189,12 @@ IsAppended-blocks key iv blocks i last old new so_far le =
 pub flat_map-first_chunks : {X : Type 0} (n k : ℕ) (xs : List X) → flat_map (λ chunk. chunk) (first_chunks n k xs) ++ drop (k * n) xs ≡ xs
 flat_map-first_chunks n zero xs = rw zero-mul refl
 flat_map-first_chunks {X} n (suc k) xs =
-    let front = take n xs in
+    let prefix = take n xs in
     let chunks = flat_map (λ (chunk : List X). chunk) (first_chunks n k (drop n xs)) in
     let rest : drop (suc k * n) xs ≡ drop (k * n) (drop n xs) = ap (λ (m : ℕ). drop m xs) (omega arith) ∙ sym (drop-drop (k * n) n xs) in
-    append_assoc front chunks (drop (suc k * n) xs)
-    ∙ ap (λ (left : List X). front ++ (chunks ++ left)) rest
-    ∙ ap (λ (left : List X). front ++ left) (flat_map-first_chunks n k (drop n xs))
+    append_assoc prefix chunks (drop (suc k * n) xs)
+    ∙ ap (λ (left : List X). prefix ++ (chunks ++ left)) rest
+    ∙ ap (λ (left : List X). prefix ++ left) (flat_map-first_chunks n k (drop n xs))
     ∙ take-append-drop n xs
 
 -- chaining again what unchaining gives
@@ -252,9 +252,9 @@ pub IsUnchained-both : (key iv bytes : List ℕ) (blocks rest : List (List ℕ))
     → length iv ≡ 16 → length bytes % 16 ≡ 0 → blocks ≡ blocks_of bytes → eights ≡ first_chunks 8 (length blocks / 8) blocks
     → rest ≡ drop (length blocks / 8 * 8) blocks → old ≡ []
     → IsAppended key iv (flat_map (λ eight. eight) eights) p old mid → IsAppended key p rest q mid new → IsUnchained key iv bytes new
-IsUnchained-both key iv bytes blocks rest eights p q old mid new iv_long whole cut front back none first second =
+IsUnchained-both key iv bytes blocks rest eights p q old mid new iv_long whole cut prefix back none first second =
     let whole_blocks : flat_map (λ (eight : List (List ℕ)). eight) eights ++ rest ≡ blocks =
-    ap (λ (es : List (List (List ℕ))). flat_map (λ (eight : List (List ℕ)). eight) es ++ rest) front
+    ap (λ (es : List (List (List ℕ))). flat_map (λ (eight : List (List ℕ)). eight) es ++ rest) prefix
     ∙ ap (λ (bs : List (List ℕ)). flat_map (λ (eight : List (List ℕ)). eight) (first_chunks 8 (length blocks / 8) blocks) ++ bs) back
     ∙ flat_map-first_chunks 8 (length blocks / 8) blocks in
     let both = IsAppended-then key (flat_map (λ eight. eight) eights) rest iv p q old mid new first second in

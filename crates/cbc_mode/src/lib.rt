@@ -95,7 +95,7 @@ fn unchained8(key: &Decryptor<'_>, previous: &[u8; 16], blocks: &[[u8; 16]; 8]) 
     plain
 }
 
-// Puts what the blocks decrypt to at the end, and gives the block that the next one is added to. A
+// Appends what the blocks decrypt to, and gives the block that the next one is added to. A
 // short ciphertext has no eight blocks, and its cipher isn't made ready for them.
 fn append_eights(
     plaintext: &mut Vec<u8>,

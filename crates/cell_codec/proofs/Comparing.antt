@@ -31,13 +31,13 @@ difference-more xs ys i difference below_xs below_ys so_far =
           let before : difference ≡ 0 = omega (arith, le_or_l difference (bit_xor x y)) in
           let here : bit_xor x y ≡ 0 = omega (arith, le_or_r difference (bit_xor x y)) in
           take_more xs i 0 below_xs
-          ∙ ap₂ (λ front byte. front ++ byte ∷ []) (so_far.none_equal before) (same_from_xor x y here)
+          ∙ ap₂ (λ prefix byte. prefix ++ byte ∷ []) (so_far.none_equal before) (same_from_xor x y here)
           ∙ sym (take_more ys i 0 below_ys);
       equal_none = λ same.
           let before : take i xs ≡ take i ys =
           sym (take-take i (i + 1) xs (omega arith)) ∙ ap (take i) same ∙ take-take i (i + 1) ys (omega arith) in
           let here : x ≡ y =
-          sym (get_or-take (i + 1) xs i 0 (omega arith)) ∙ ap (λ front. get_or front i 0) same ∙ get_or-take (i + 1) ys i 0 (omega arith) in
+          sym (get_or-take (i + 1) xs i 0 (omega arith)) ∙ ap (λ prefix. get_or prefix i 0) same ∙ get_or-take (i + 1) ys i 0 (omega arith) in
           ap₂ bit_or (so_far.equal_none before) (ap (λ byte. bit_xor byte y) here ∙ xor_self y) ∙ or_zero_l 0;
     }
 

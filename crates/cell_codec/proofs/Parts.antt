@@ -17,7 +17,7 @@ tag_in-parts tag iv ciphertext long =
     ap (take 32) (drop_at (version ∷ []) (tag ++ iv ++ ciphertext) 1 refl ∙ append_assoc tag iv ciphertext)
     ∙ take_at tag (iv ++ ciphertext) 32 long
 
--- what stands behind the tag
+-- what stands after the tag
 behind_tag : (tag iv ciphertext : List ℕ) → length tag ≡ 32 → drop 33 (version ∷ tag ++ iv ++ ciphertext) ≡ iv ++ ciphertext
 behind_tag tag iv ciphertext long =
     ap (drop 33) (append_assoc (version ∷ tag) iv ciphertext) ∙ drop_at (version ∷ tag) (iv ++ ciphertext) 33 (omega arith)

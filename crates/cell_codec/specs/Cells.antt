@@ -38,7 +38,7 @@ iv_of keys bytes = take 16 (hmac keys.iv_key bytes)
 abbrev pub sealed_det : Keys → List ℕ → List ℕ
 sealed_det keys bytes = cell_of keys (iv_of keys bytes) bytes
 
--- the parts of a cell behind its version byte
+-- the parts of a cell after its version byte
 abbrev pub tag_in : List ℕ → List ℕ
 tag_in cell = take 32 (drop 1 cell)
 

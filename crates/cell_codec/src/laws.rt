@@ -12,7 +12,7 @@ pub fn sealing_is_read_back()
     cbc_mode::each_undoes_the_other();
 }
 
-/// A cell has the length that `cell_len` tells and is made of bytes, and the cell of no more bytes
+/// A cell has the length that `cell_len` gives and is made of bytes, and the cell of no more bytes
 /// than a type's values have at most is of the type's shape.
 pub fn sealing_makes_cells()
     ensures cell { SealedIsCell }

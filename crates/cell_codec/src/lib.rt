@@ -21,6 +21,6 @@ const VERSION: u8 = 0x01;
 /// The length in bytes of a block of ciphertext.
 const BLOCK_LENGTH: usize = 16;
 
-/// The length in bytes of what stands before the ciphertext: the version byte, the MAC and the
+/// The length in bytes of the head before the ciphertext: the version byte, the MAC and the
 /// initialization vector.
 const HEAD_LENGTH: usize = 49;

@@ -17,14 +17,14 @@ pub fn shape_ok(cell: &Cell, ty: Ty) -> bool
     cell.lead() == VERSION && is_length_of(cell.len(), ty)
 }
 
-/// Whether a cell of so many bytes has no more blocks than the cells of the type's values.
+/// Whether a cell of `count` bytes has no more blocks than the cells of the type's values.
 fn is_length_of(count: usize, ty: Ty) -> bool
     ensures { result ≡ is_length_of count ty }
 {
     is_cell_length(count) && count <= HEAD_LENGTH + most_blocks(ty) * BLOCK_LENGTH
 }
 
-/// Whether so many bytes are a head and one or more blocks.
+/// Whether `count` bytes are a head and one or more blocks.
 pub(crate) fn is_cell_length(count: usize) -> bool
     ensures { result ≡ is_cell_length count }
 {

@@ -60,7 +60,7 @@ fn lead(cell: &[u8]) -> u8
     }
 }
 
-/// The parts of a cell behind its version byte.
+/// The parts of a cell after its version byte.
 #[derive(Clone, Copy)]
 struct Parts<'a> {
     tag: &'a [u8; 32],

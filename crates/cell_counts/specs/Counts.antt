@@ -1,4 +1,4 @@
--- How often each of what stands at the places of a class came, and which cells are the commonest.
+-- How often each value and cell of a class was seen, and which cells are the commonest.
 use Rattle.std.specs.Prelude.{ℕ, suc, ◌+◌, ◌-◌, List, [], ◌∷◌, ◌++◌, length, take, drop, get_or, slice_set, nat_lt, if◌then◌else◌, replicate, Option, Some, None}
 use Rattle.std.specs.List.{insert, position}
 use Rattle.cell_counts.specs.declared.frequent.Common.{Common}
@@ -30,12 +30,12 @@ noted c (Numbered n) = record c { cells = c.cells + 1; numbers = raised c.number
 -- before the first that came less often; ten are kept
 abbrev pub put_at : Option ℕ → Common → List Common → List Common
 put_at None one best = best ++ one ∷ []
-put_at (Some place) one best = insert best place one
+put_at (Some index) one best = insert best index one
 
 abbrev pub placed : Common → List Common → List Common
 placed one best = take 10 (put_at (position (λ (b : Common). nat_lt b.count one.count) best) one best)
 
--- behind the best so far, the cells from a number on
+-- after the best so far, the cells from a number on
 abbrev pub commonest : List Common → ℕ → List ℕ → List Common
 commonest best n [] = best
 commonest best n (count ∷ counts) = commonest (placed (record { number = n; count = count }) best) (suc n) counts

@@ -1,4 +1,4 @@
-//! How often each of what stands at the places of a class came.
+//! How often each value and cell of a class was seen.
 
 ghost use Rattle.std.specs.Prelude.{◌≡◌, ◌+◌, IfOk, OnOk};
 ghost use Rattle.cell_counts.specs.Counts.{no_counts, noted, raised};

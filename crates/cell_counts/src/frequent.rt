@@ -15,19 +15,19 @@ pub struct Common {
 
 /// The first place whose cell came less often.
 fn first_rarer(best: &[Common], count: u64) -> Option<usize>
-    ensures place { result ≡ position (λ b. nat_lt b.count count) best.now }
-    ensures within { IfSome result (λ place. place < length best.now) }
+    ensures index { result ≡ position (λ b. nat_lt b.count count) best.now }
+    ensures within { IfSome result (λ index. index < length best.now) }
 {
     best.iter().position(|b| b.count < count)
 }
 
 /// Puts a cell before the first that came less often, and lets the last go where there are more
 /// than ten.
-fn place(best: &mut Vec<Common>, one: Common) -> Result<(), AllocError>
+fn index(best: &mut Vec<Common>, one: Common) -> Result<(), AllocError>
     ensures { OnOk result (best.new.items ≡ placed one best.old.items) }
 {
     match first_rarer(best.as_slice(), one.count) {
-        Some(place) => best.insert(place, one)?,
+        Some(index) => best.insert(index, one)?,
         None => best.push(one)?,
     }
     best.truncate(10);
@@ -42,7 +42,7 @@ pub fn commonest(alloc: Global, numbers: &[u64]) -> Result<Vec<Common>, AllocErr
     let mut best = Vec::new(alloc);
     for number in 0..numbers.len() {
         let count = numbers[number];
-        place(&mut best, Common { number, count })?;
+        index(&mut best, Common { number, count })?;
     }
     Ok(best)
 }

@@ -1,5 +1,5 @@
-//! How often what stands at the places of a class came: NULLs, plain values, and cells, which are
-//! counted by number where they have one.
+//! How often the values of a class were seen: NULLs, plain values, and cells, which are counted by
+//! number if they have one.
 #![tactic(auto)]
 
 mod counts;

@@ -12,7 +12,7 @@ use Rattle.sql_tree.specs.Bound.{Bound}
 use Rattle.enc_types.specs.Least.{inferred_encs}
 use Rattle.transactions.specs.Stores.{Transaction, Transacted, seen_by}
 use Rattle.wire_messages.specs.Messages.{Description}
-use Rattle.statement_analysis.specs.Describing.{Meant, binding_of, typed, with_encs, understood, describe, description}
+use Rattle.statement_analysis.specs.Describing.{Analysis, binding_of, typed, with_encs, analyzed, describe, description}
 use Rattle.statement_analysis.specs.Explaining.{Explains, Shows}
 use Rattle.server_core.specs.Serve.{State, catalog_of}
 use Rattle.conversation.specs.Batches.{why_unfit}
@@ -20,14 +20,14 @@ use Rattle.conversation.specs.Pending.{Pending, Use, uses_of}
 use Rattle.conversation.specs.declared.faults.DriverFault.{DriverFault}
 use Rattle.conversation.specs.declared.outcomes.Outcome.{Outcome}
 use Rattle.conversation.specs.declared.outcomes.Outcome.TheVariants as outcome
-use Rattle.plaintext_laws.specs.Batches.{Came, came, declarations_of, pending}
+use Rattle.plaintext_laws.specs.Batches.{BatchEnd, batch_end, declarations_of, pending}
 use Rattle.plaintext_laws.specs.Batches as plain
 use Rattle.check_command.specs.Asked.{is_clash}
 use Rattle.check_command.specs.Check.{HasNoTransaction, checked, described_only, defines, Chains}
 use Rattle.check_command.proofs.Unused.{IsDone, alone_at, definition_done}
 
 -- a refusal of the server leaves the state
-abbrev Stays : State → Came → Type 0
+abbrev Stays : State → BatchEnd → Type 0
 Stays state c = (f : SqlFault) → c.comes ≡ outcome.Refused f → c.state ≡ state
 
 done_stays : (state : State) (catalog : Catalog) (t : Transacted) → IsDone state t → (f : SqlFault) → plain.answered [] [] catalog t.answer ≡ outcome.Refused f → t.after ≡ state
@@ -40,16 +40,16 @@ module _ (state : State) (number : ℕ) (alone : HasNoTransaction state) where
   abbrev here : Catalog
   here = catalog_of state number
 
-  stepped_stays : (batch : Batch) → defines batch.text ≡ true → (r : Result Meant SqlFault)
-      → understood here batch.text (declarations_of batch) ≡ r → Stays state (plain.stepped [] [] state number batch r)
-  stepped_stays batch d (Ok meant) u = λ f e. done_stays state here _ (definition_done state number batch meant alone d u) f e
+  stepped_stays : (batch : Batch) → defines batch.text ≡ true → (r : Result Analysis SqlFault)
+      → analyzed here batch.text (declarations_of batch) ≡ r → Stays state (plain.stepped [] [] state number batch r)
+  stepped_stays batch d (Ok analysis) u = λ f e. done_stays state here _ (definition_done state number batch analysis alone d u) f e
   stepped_stays batch d (Err g) u = λ f e. refl
 
   version_stays : (p : Pending) → defines p.batch.text ≡ true → (b : Bool)
       → Stays state
-      (cond b (plain.stepped [] [] state number p.batch (understood here p.batch.text (declarations_of p.batch)))
-      (came (outcome.Refused (fault.Moved (record { seen = p.version; now = here.version }))) None state))
-  version_stays p d true = stepped_stays p.batch d (understood here p.batch.text (declarations_of p.batch)) refl
+      (cond b (plain.stepped [] [] state number p.batch (analyzed here p.batch.text (declarations_of p.batch)))
+      (batch_end (outcome.Refused (fault.Moved (record { seen = p.version; now = here.version }))) None state))
+  version_stays p d true = stepped_stays p.batch d (analyzed here p.batch.text (declarations_of p.batch)) refl
   version_stays p d false = λ f e. refl
 
   opened_stays : (p : Pending) → defines p.batch.text ≡ true → (o : Option DriverFault) → Stays state (plain.executed_with [] [] state number p o)
@@ -99,26 +99,26 @@ clash_stays state number batch comes alone e c = let r = refused_by comes c in c
 
 -- ---- without a clash there is nothing to explain
 
-named_understood : (catalog : Catalog) (batch : Batch) (r : Result Bound SqlFault)
-    → binding_of catalog batch.text (declarations_of batch) ≡ r → understood catalog batch.text (declarations_of batch) ≡ r >>= typed
-unfolding understood
-named_understood catalog batch r e = rw e refl
+named_analyzed : (catalog : Catalog) (batch : Batch) (r : Result Bound SqlFault)
+    → binding_of catalog batch.text (declarations_of batch) ≡ r → analyzed catalog batch.text (declarations_of batch) ≡ r >>= typed
+unfolding analyzed
+named_analyzed catalog batch r e = rw e refl
 
 module _ (state : State) (number : ℕ) (batch : Batch) (other : is_clash (checked state number batch).comes ≡ false) (fit : why_unfit batch ≡ None) where
   abbrev catalog : Catalog
   catalog = catalog_of state number
 
-  shows_nothing : (b : Bound) → understood catalog batch.text (declarations_of batch) ≡ typed b → (i : Result (List Enc) ℕ) → inferred_encs b ≡ i → Shows b i []
+  shows_nothing : (b : Bound) → analyzed catalog batch.text (declarations_of batch) ≡ typed b → (i : Result (List Enc) ℕ) → inferred_encs b ≡ i → Shows b i []
   shows_nothing b u (Ok encs) i = refl
   shows_nothing b u (Err at) i =
-      let t : understood catalog batch.text (declarations_of batch) ≡ Err (fault.EncryptionClash at) = u ∙ ap (with_encs b) i in
-      let d : describe catalog batch.text (declarations_of batch) ≡ Err (fault.EncryptionClash at) = ap (λ r. r >>= λ meant. Ok (description catalog (declarations_of batch) meant)) t in
+      let t : analyzed catalog batch.text (declarations_of batch) ≡ Err (fault.EncryptionClash at) = u ∙ ap (with_encs b) i in
+      let d : describe catalog batch.text (declarations_of batch) ≡ Err (fault.EncryptionClash at) = ap (λ r. r >>= λ analysis. Ok (description catalog (declarations_of batch) analysis)) t in
       let c : (checked state number batch).comes ≡ outcome.Refused (fault.EncryptionClash at) = rw (fit, d) refl in
       let clash : true ≡ false = sym (ap is_clash c) ∙ other in
       absurd cc
 
   explains_nothing : (r : Result Bound SqlFault) → binding_of catalog batch.text (declarations_of batch) ≡ r → Explains r []
-  explains_nothing (Ok b) e = shows_nothing b (named_understood catalog batch (Ok b) e) (inferred_encs b) refl
+  explains_nothing (Ok b) e = shows_nothing b (named_analyzed catalog batch (Ok b) e) (inferred_encs b) refl
   explains_nothing (Err f) e = refl
 
 pub no_chain : (state : State) (number : ℕ) (batch : Batch) (comes : Outcome) → (checked state number batch).comes ≡ comes

@@ -9,7 +9,7 @@ use Rattle.wire_messages.specs.declared.requests.Request.TheVariants.{Execute}
 use Rattle.conversation.specs.Devices.{Devices, AreOwn, IsAtDraw, IsAtKey}
 use Rattle.conversation.specs.Paths.{Event, Follows, stays, asks}
 use Rattle.conversation.specs.Pending.{Pending}
-use Rattle.conversation.specs.Sessions.{Tells, answered, nobody, session_at}
+use Rattle.conversation.specs.Sessions.{Gives, answered, nobody, session_at}
 use Rattle.conversation.specs.Talk.{Talk, Asks, Ends}
 use Rattle.conversation.specs.Turns.{execute}
 use Rattle.conversation.specs.declared.answers.ExecuteAnswer.{ExecuteAnswer}
@@ -44,9 +44,9 @@ abbrev telling : Result Request DriverFault → Session → Talk
 telling (Ok r) after = Asks r (Ends [])
 telling (Err f) after = Ends []
 
-told_one : (x : Result Request DriverFault) (after : Session) (r : Request) → telling x after ≡ Asks r (Ends []) → x ≡ Ok r
-told_one (Ok y) after r e = cc
-told_one (Err f) after r e = absurd cc
+known_one : (x : Result Request DriverFault) (after : Session) (r : Request) → telling x after ≡ Asks r (Ends []) → x ≡ Ok r
+known_one (Ok y) after r e = cc
+known_one (Err f) after r e = absurd cc
 
 -- what is pending is sent without parameters
 abbrev pub SendsAs : ℕ → Session → Result Request DriverFault → Type 0
@@ -68,17 +68,17 @@ module _ (trusted : List (List ℕ)) (number : ℕ) (s : Session) (unused : IsUn
   pub sent_as : (r : Result (Result Request DriverFault) Halt) (after : Session) → Executes trusted r number s after old new → OrShort (SendsAs number s) r
   sent_as (Ok x) after h =
       let g = h telling in
-      let t = told_one x after _ (stays_there (telling x after) g.events g.follows g.own) in
+      let t = known_one x after _ (stays_there (telling x after) g.events g.follows g.own) in
       λ p e. t ∙ ap (λ (q : Pending). let r : Result Request DriverFault = Ok (Execute number q.version q.batch.text []) in r) (one_pending p e)
   sent_as (Err halt.OutOfMemory) after h = tt
   sent_as (Err halt.BadReply) after h = h.1 telling
-  sent_as (Err halt.EntropyFault) after h = let t = h.1 telling in subst IsAtDraw (stays_there t.rest t.events t.follows t.own) t.place
-  sent_as (Err halt.VaultFault) after h = let t = h.1 telling in subst IsAtKey (stays_there t.rest t.events t.follows t.own) t.place
+  sent_as (Err halt.EntropyFault) after h = let t = h.1 telling in subst IsAtDraw (stays_there t.rest t.events t.follows t.own) t.point
+  sent_as (Err halt.VaultFault) after h = let t = h.1 telling in subst IsAtKey (stays_there t.rest t.events t.follows t.own) t.point
 
 -- ---- the reply
 
 says_so : (trusted : List (List ℕ)) (after : Session) (old new : Devices) (comes : Outcome) (r : Result ExecuteAnswer Halt)
-    → Answers trusted r (Tells comes) session.Sent after old new → OrShort (Says comes) r
+    → Answers trusted r (Gives comes) session.Sent after old new → OrShort (Says comes) r
 says_so trusted after old new comes (Ok y) h = h.0
 says_so trusted after old new comes (Err halt.BadReply) h = let e = h.0 in absurd cc
 says_so trusted after old new comes (Err halt.OutOfMemory) h = tt
@@ -94,6 +94,6 @@ heard_as trusted r s after e a b replies x i h comes w =
     let new : Devices = record { entropy = silent 0; vault = b } in
     let one = w.1 in
     let same : x ≡ w.0 = rw one at i in
-    let told : answered s x ≡ Tells comes = rw (e, same) w.2 in
+    let known : answered s x ≡ Gives comes = rw (e, same) w.2 in
     says_so trusted after old new comes r
-    (subst (λ y. Answers trusted r (Tells comes) y after old new) e (subst (λ t. Answers trusted r t s after old new) told (h old)))
+    (subst (λ y. Answers trusted r (Gives comes) y after old new) e (subst (λ t. Answers trusted r t s after old new) known (h old)))

@@ -1,4 +1,4 @@
--- What a server replies to a batch that is begun is awaited, and tells its description or why there is none.
+-- What a server replies to a batch that is begun is expected, and tells its description or why there is none.
 use Rattle.std.proofs.Common.{◌≡◌, ◌<◌, ◌≤◌, arith, ℕ, List, [], ◌∷◌, length, Option, Some, None, Result, Ok, Err, true, refl, sym, ap, ◌∙◌, subst}
 use Rattle.std.specs.Prelude.{IfOk, unwrap_or, slice_index_or}
 use Rattle.std.proofs.lemmas.List.{length-map}
@@ -13,7 +13,7 @@ use Rattle.resolve.specs.Laws.{BoundStatementsAre}
 use Rattle.wire_messages.specs.Messages.{Description}
 use Rattle.wire_messages.specs.declared.replies.Reply.{Reply}
 use Rattle.wire_messages.specs.declared.replies.Reply.TheVariants as reply
-use Rattle.statement_analysis.specs.Describing.{Meant, understood, description, describe}
+use Rattle.statement_analysis.specs.Describing.{Analysis, analyzed, description, describe}
 use Rattle.server_core.specs.Serve.{State, catalog_of, described}
 use Rattle.conversation.specs.Pending.{Pending, uses_of}
 use Rattle.conversation.specs.Sessions as held
@@ -27,7 +27,7 @@ use Rattle.conversation.specs.declared.sessions.Session.{Session}
 use Rattle.conversation.specs.declared.sessions.Session.TheVariants as session
 use Rattle.conversation.specs.declared.sessions.Turn.{Turn}
 use Rattle.plaintext_laws.specs.Batches.{declarations_of, execution_of, pending}
-use Rattle.plaintext_laws.proofs.Interface.{told_among, encs_found}
+use Rattle.plaintext_laws.proofs.Interface.{known_among, encs_found}
 use Rattle.plaintext_laws.proofs.Interface.{parts_of}
 use Rattle.check_command.proofs.Following.{bind_ok}
 use Rattle.conversation.specs.declared.faults.Halt.{Halt}
@@ -36,7 +36,7 @@ use Rattle.driver.specs.Calls.{Takes}
 use Rattle.check_command.specs.Check.{HasNoTransaction, checked, defines}
 use Rattle.check_command.specs.Asked.{ComesTo, IsAsked, IsBegun, IsDefinition, OrShort, said_of, unforced}
 
--- it is awaited, and says so
+-- it is expected, and says so
 abbrev pub IsHeardAs : State → ℕ → Batch → Option (Turn DescribeAnswer) → Type 0
 IsHeardAs state number batch (Some turn) = IsAsked state number batch turn.after turn.answer
 IsHeardAs state number batch None = ⊥
@@ -49,20 +49,20 @@ none_open (p ∷ ps) (e ∷ es) = none_open ps es
 
 module _ (bound : BoundStatementsAre) (typings : TypingsAreOfColumns) (state : State) (number : ℕ) (batch : Batch) (s : Session) (b : IsBegun batch s) where
   -- each declared parameter has an encryption, where it is used
-  found : (meant : Meant) → understood (catalog_of state number) batch.text (declarations_of batch) ≡ Ok meant
-      → encs_of batch.params (description (catalog_of state number) (declarations_of batch) meant).params ≡ Some (told_among (is_used meant.bound) 0 meant.encs)
-  found meant e =
-      let parts = parts_of (catalog_of state number) batch.text (declarations_of batch) meant e in
-      let over_all = bound (catalog_of state number) parts.statement (declarations_of batch) meant.bound parts.binds in
-      let long : length meant.encs ≡ length batch.params =
-      (typings meant.bound meant.encs parts.infers).0 ∙ ap length over_all.params ∙ length-map (declarations_of batch) type_of ∙ length-map batch.params (λ (q : Param). q.declaration) in
-      encs_found meant.bound 0 batch.params meant.encs long b.params.1
+  found : (analysis : Analysis) → analyzed (catalog_of state number) batch.text (declarations_of batch) ≡ Ok analysis
+      → encs_of batch.params (description (catalog_of state number) (declarations_of batch) analysis).params ≡ Some (known_among (is_used analysis.bound) 0 analysis.encs)
+  found analysis e =
+      let parts = parts_of (catalog_of state number) batch.text (declarations_of batch) analysis e in
+      let over_all = bound (catalog_of state number) parts.statement (declarations_of batch) analysis.bound parts.binds in
+      let long : length analysis.encs ≡ length batch.params =
+      (typings analysis.bound analysis.encs parts.infers).0 ∙ ap length over_all.params ∙ length-map (declarations_of batch) type_of ∙ length-map batch.params (λ (q : Param). q.declaration) in
+      encs_found analysis.bound 0 batch.params analysis.encs long b.params.1
 
-  told_encs : (d : Description) → describe (catalog_of state number) batch.text (declarations_of batch) ≡ Ok d → (es : List (Option Enc)) × (encs_of batch.params d.params ≡ Some es)
-  told_encs d e =
-      let h = bind_ok (understood (catalog_of state number) batch.text (declarations_of batch)) (λ meant. Ok (description (catalog_of state number) (declarations_of batch) meant)) d e in
+  known_encs : (d : Description) → describe (catalog_of state number) batch.text (declarations_of batch) ≡ Ok d → (es : List (Option Enc)) × (encs_of batch.params d.params ≡ Some es)
+  known_encs d e =
+      let h = bind_ok (analyzed (catalog_of state number) batch.text (declarations_of batch)) (λ analysis. Ok (description (catalog_of state number) (declarations_of batch) analysis)) d e in
       let is : description (catalog_of state number) (declarations_of batch) h.0 ≡ d = cc in
-      (told_among (is_used h.0.bound) 0 h.0.encs, ap (λ (x : Description). encs_of batch.params x.params) (sym is) ∙ found h.0 h.1)
+      (known_among (is_used h.0.bound) 0 h.0.encs, ap (λ (x : Description). encs_of batch.params x.params) (sym is) ∙ found h.0 h.1)
 
   described_so : (d : Description) → describe (catalog_of state number) batch.text (declarations_of batch) ≡ Ok d
       → (o : Option (List (Option Enc))) → encs_of batch.params d.params ≡ o → (es : List (Option Enc)) → o ≡ Some es
@@ -80,7 +80,7 @@ module _ (bound : BoundStatementsAre) (typings : TypingsAreOfColumns) (state : S
       → (x : Reply) → x ∷ [] ≡ (described state r).replies → IsHeardAs state number batch (held.described (session.Begun batch) x)
   hears (Ok d) e x h =
       let i : x ≡ reply.Described d = cc in
-      let t = told_encs d e in
+      let t = known_encs d e in
       subst (λ y. IsHeardAs state number batch (held.described (session.Begun batch) y)) (sym i) (described_so d e (encs_of batch.params d.params) refl t.0 t.1)
   hears (Err f) e x h =
       let i : x ≡ reply.Refused f = cc in
@@ -97,9 +97,9 @@ answers_of state number batch (Some turn) (Err halt.OutOfMemory) old after h e =
 answers_of state number batch (Some turn) (Err halt.EntropyFault) old after h e = absurd e
 answers_of state number batch (Some turn) (Err halt.VaultFault) old after h e = absurd e
 
-pub told_answers : BoundStatementsAre → TypingsAreOfColumns → (state : State) (number : ℕ) (batch : Batch) (s : Session) → IsBegun batch s → (x : Reply) → x ∷ [] ≡ said_of state number batch
+pub known_answers : BoundStatementsAre → TypingsAreOfColumns → (state : State) (number : ℕ) (batch : Batch) (s : Session) → IsBegun batch s → (x : Reply) → x ∷ [] ≡ said_of state number batch
     → (r : Result DescribeAnswer Halt) (after : Session) → Takes r (held.described s x) s after → OrShort (IsAsked state number batch after) r
-told_answers bound typings state number batch s b x t r after h =
+known_answers bound typings state number batch s b x t r after h =
     answers_of state number batch (held.described s x) r s after
     (subst (λ y. IsHeardAs state number batch (held.described y x)) (sym b.begun)
     (hears bound typings state number batch s b (describe (catalog_of state number) batch.text (declarations_of batch)) refl x t)) h

@@ -12,7 +12,7 @@ use Rattle.sql_tree.specs.Bound.{BoundStatement, Bound}
 use Rattle.sql_tree.specs.Bound as bound
 use Rattle.sql_tree.specs.Statements.{Statement}
 use Rattle.sql_tree.specs.Statements as tree
-use Rattle.sql_tree.specs.Sorts.{is_written_defining, target}
+use Rattle.sql_tree.specs.Kinds.{is_written_defining, target}
 use Rattle.sql_tree.specs.Uses.{uses}
 use Rattle.semantic_checks.specs.Checks.{check_of}
 use Rattle.catalog.specs.Catalogs.{Catalog}
@@ -31,7 +31,7 @@ use Rattle.wire_messages.specs.declared.params.UsedParam.{UsedParam}
 use Rattle.wire_messages.specs.declared.replies.Reply.{Reply}
 use Rattle.wire_messages.specs.declared.requests.Request.{Request}
 use Rattle.wire_messages.specs.declared.requests.Request.TheVariants.{Execute}
-use Rattle.statement_analysis.specs.Describing.{Meant, understood, used_from, description}
+use Rattle.statement_analysis.specs.Describing.{Analysis, analyzed, used_from, description}
 use Rattle.server_core.specs.Serve.{State, catalog_of, answered, serve}
 use Rattle.wire_messages.specs.Exchanges.{Served}
 use Rattle.conversation.specs.declared.outcomes.Outcome as comes_to
@@ -40,9 +40,9 @@ use Rattle.conversation.specs.Pending.{Pending, Use, uses_in, uses_of}
 use Rattle.conversation.specs.declared.sessions.Session.{Session}
 use Rattle.conversation.specs.declared.sessions.Session.TheVariants as session
 use Rattle.conversation.specs.Sessions.{encs_of, with_enc}
-use Rattle.plaintext_laws.specs.Batches.{Came, declarations_of, pending}
+use Rattle.plaintext_laws.specs.Batches.{BatchEnd, declarations_of, pending}
 use Rattle.plaintext_laws.specs.Batches as plain
-use Rattle.plaintext_laws.proofs.Interface.{parts_of, understood_alone, transact_alone}
+use Rattle.plaintext_laws.proofs.Interface.{parts_of, analyzed_alone, transact_alone}
 use Rattle.check_command.proofs.Executing.{same_there}
 use Rattle.check_command.proofs.Following.{bind_ok}
 use Rattle.check_command.specs.Asked.{AnswersAs, ComesTo, IsDefinition}
@@ -81,23 +81,23 @@ bind_defines catalog s declarations b d e =
 
 -- ---- it uses no parameter
 
-unused : (s : BoundStatement) (b : Bound) → b.statement ≡ s → IsDefining s → (place : ℕ) → uses place b ≡ false
-unused (bound.Definition d) b e h place = rw e refl
-unused (bound.Insert insert) b e h place = absurd h
-unused (bound.Update update) b e h place = absurd h
-unused (bound.Delete delete) b e h place = absurd h
-unused (bound.Select query) b e h place = absurd h
-unused (bound.Control control) b e h place = absurd h
+unused : (s : BoundStatement) (b : Bound) → b.statement ≡ s → IsDefining s → (ordinal : ℕ) → uses ordinal b ≡ false
+unused (bound.Definition d) b e h ordinal = rw e refl
+unused (bound.Insert insert) b e h ordinal = absurd h
+unused (bound.Update update) b e h ordinal = absurd h
+unused (bound.Delete delete) b e h ordinal = absurd h
+unused (bound.Select query) b e h ordinal = absurd h
+unused (bound.Control control) b e h ordinal = absurd h
 
-module _ (b : Bound) (none : (place : ℕ) → uses place b ≡ false) where
-  used_none : {A : Type 0} (place : ℕ) (xs : List A) → used_among (is_used b) place xs ≡ []
-  used_none place [] = refl
-  used_none place (x ∷ xs) = let u = none place in rw u (used_none (suc place) xs)
+module _ (b : Bound) (none : (ordinal : ℕ) → uses ordinal b ≡ false) where
+  used_none : {A : Type 0} (ordinal : ℕ) (xs : List A) → used_among (is_used b) ordinal xs ≡ []
+  used_none ordinal [] = refl
+  used_none ordinal (x ∷ xs) = let u = none ordinal in rw u (used_none (suc ordinal) xs)
 
-  none_told : (place : ℕ) (ds : List ParamDecl) (es : List Enc) → used_from place b ds es ≡ []
-  none_told place [] es = refl
-  none_told place (d ∷ ds) [] = refl
-  none_told place (d ∷ ds) (e ∷ es) = let u = none place in rw u (none_told (place + 1) ds es)
+  none_known : (ordinal : ℕ) (ds : List ParamDecl) (es : List Enc) → used_from ordinal b ds es ≡ []
+  none_known ordinal [] es = refl
+  none_known ordinal (d ∷ ds) [] = refl
+  none_known ordinal (d ∷ ds) (e ∷ es) = let u = none ordinal in rw u (none_known (ordinal + 1) ds es)
 
 no_encs : (ps : List Param) → (es : List (Option Enc)) × (encs_of ps [] ≡ Some es) × (uses_in ps es ≡ [])
 no_encs [] = ([], refl, refl)
@@ -178,22 +178,23 @@ transacts_so state number e idle h =
 -- ---- its result
 
 -- a definition that is understood is one that is bound
-pub defining_of : (catalog : Catalog) (batch : Batch) (meant : Meant) → defines batch.text ≡ true → understood catalog batch.text (declarations_of batch) ≡ Ok meant → IsDefining meant.bound.statement
-defining_of catalog batch meant defining e =
-    let parts = parts_of catalog batch.text (declarations_of batch) meant e in
-    bind_defines catalog parts.statement (declarations_of batch) meant.bound (ap reads_definition (sym parts.reads) ∙ defining) parts.binds
+pub defining_of : (catalog : Catalog) (batch : Batch) (analysis : Analysis) → defines batch.text ≡ true → analyzed catalog batch.text (declarations_of batch) ≡ Ok analysis
+    → IsDefining analysis.bound.statement
+defining_of catalog batch analysis defining e =
+    let parts = parts_of catalog batch.text (declarations_of batch) analysis e in
+    bind_defines catalog parts.statement (declarations_of batch) analysis.bound (ap reads_definition (sym parts.reads) ∙ defining) parts.binds
 
 abbrev pub atoms_of : Batch → List Atom
 atoms_of batch = map (λ (q : Param). plain_atom q.value) batch.params
 
-pub definition_done : (state : State) (number : ℕ) (batch : Batch) (meant : Meant) → HasNoTransaction state
-    → defines batch.text ≡ true → understood (catalog_of state number) batch.text (declarations_of batch) ≡ Ok meant
-    → IsDone state (transact state number (ask_of (execution meant.bound meant.encs (atoms_of batch))))
-definition_done state number batch meant idle defining e = transacts_so state number
-    (execution meant.bound meant.encs (atoms_of batch)) idle (defining_of (catalog_of state number) batch meant defining e)
+pub definition_done : (state : State) (number : ℕ) (batch : Batch) (analysis : Analysis) → HasNoTransaction state
+    → defines batch.text ≡ true → analyzed (catalog_of state number) batch.text (declarations_of batch) ≡ Ok analysis
+    → IsDone state (transact state number (ask_of (execution analysis.bound analysis.encs (atoms_of batch))))
+definition_done state number batch analysis idle defining e = transacts_so state number
+    (execution analysis.bound analysis.encs (atoms_of batch)) idle (defining_of (catalog_of state number) batch analysis defining e)
 
 -- it uses no parameter, the reply says what it means, and the state after it is that
-pub record ExecutesAs (state : State) (number : ℕ) (p : Pending) (c : Came) : Type 0 where
+pub record ExecutesAs (state : State) (number : ℕ) (p : Pending) (c : BatchEnd) : Type 0 where
   pub unused : uses_of p ≡ []
   pub replies : AnswersAs (serve state (Execute number p.version p.batch.text [])).replies c.comes
   pub after : c.state ≡ (serve state (Execute number p.version p.batch.text [])).after
@@ -206,40 +207,40 @@ answers_so catalog state t d = elim d.done [
   | inr h ↦ let e = h.1 in rw e ((_, refl, refl), refl)
 ]
 
-module _ (law : PreparedAlone) (state : State) (number : ℕ) (batch : Batch) (meant : Meant) (idle : HasNoTransaction state) (defining : defines batch.text ≡ true)
-    (e : understood (catalog_of state number) batch.text (declarations_of batch) ≡ Ok meant) where
+module _ (law : PreparedAlone) (state : State) (number : ℕ) (batch : Batch) (analysis : Analysis) (idle : HasNoTransaction state) (defining : defines batch.text ≡ true)
+    (e : analyzed (catalog_of state number) batch.text (declarations_of batch) ≡ Ok analysis) where
   abbrev here : Catalog
   here = catalog_of state number
 
   abbrev d : Description
-  d = description here (declarations_of batch) meant
+  d = description here (declarations_of batch) analysis
 
   abbrev p : Pending
   p = pending batch d
 
-  none_used : (place : ℕ) → uses place meant.bound ≡ false
-  none_used = unused meant.bound.statement meant.bound refl (defining_of here batch meant defining e)
+  none_used : (ordinal : ℕ) → uses ordinal analysis.bound ≡ false
+  none_used = unused analysis.bound.statement analysis.bound refl (defining_of here batch analysis defining e)
 
   no_use : uses_of p ≡ []
-  no_use = no_uses batch.params d.params (none_told meant.bound none_used 0 (declarations_of batch) meant.encs)
+  no_use = no_uses batch.params d.params (none_known analysis.bound none_used 0 (declarations_of batch) analysis.encs)
 
-  alone_is : understood here batch.text [] ≡ Ok (record { bound = alone meant.bound; encs = [] })
+  alone_is : analyzed here batch.text [] ≡ Ok (record { bound = alone analysis.bound; encs = [] })
   alone_is =
-      let u = understood_alone law here batch.text (declarations_of batch) meant (parts_of here batch.text (declarations_of batch) meant e) in
-      ap (understood here batch.text) (sym (used_none meant.bound none_used 0 (declarations_of batch))) ∙ u
-      ∙ ap (λ (es : List Enc). let v : Meant = record { bound = alone meant.bound; encs = es } in Ok v) (used_none meant.bound none_used 0 meant.encs)
+      let u = analyzed_alone law here batch.text (declarations_of batch) analysis (parts_of here batch.text (declarations_of batch) analysis e) in
+      ap (analyzed here batch.text) (sym (used_none analysis.bound none_used 0 (declarations_of batch))) ∙ u
+      ∙ ap (λ (es : List Enc). let v : Analysis = record { bound = alone analysis.bound; encs = es } in Ok v) (used_none analysis.bound none_used 0 analysis.encs)
 
   abbrev did : Transacted
-  did = transact state number (ask_of (execution meant.bound meant.encs (atoms_of batch)))
+  did = transact state number (ask_of (execution analysis.bound analysis.encs (atoms_of batch)))
 
   -- and does the same without its parameters
-  alone_does : transact state number (ask_of (execution (alone meant.bound) [] [])) ≡ did
+  alone_does : transact state number (ask_of (execution (alone analysis.bound) [] [])) ≡ did
   alone_does =
-      let es = used_none meant.bound none_used 0 meant.encs in
-      let xs = used_none meant.bound none_used 0 (atoms_of batch) in
-      ap (λ es. transact state number (ask_of (execution (alone meant.bound) es []))) (sym es)
-      ∙ ap (λ xs. transact state number (ask_of (execution (alone meant.bound) (used_among (is_used meant.bound) 0 meant.encs) xs))) (sym xs)
-      ∙ transact_alone state number meant.bound meant.encs (atoms_of batch)
+      let es = used_none analysis.bound none_used 0 analysis.encs in
+      let xs = used_none analysis.bound none_used 0 (atoms_of batch) in
+      ap (λ es. transact state number (ask_of (execution (alone analysis.bound) es []))) (sym es)
+      ∙ ap (λ xs. transact state number (ask_of (execution (alone analysis.bound) (used_among (is_used analysis.bound) 0 analysis.encs) xs))) (sym xs)
+      ∙ transact_alone state number analysis.bound analysis.encs (atoms_of batch)
 
   serves_so : serve state (Execute number p.version p.batch.text []) ≡ answered here did.answer did.after
   serves_so =
@@ -247,7 +248,7 @@ module _ (law : PreparedAlone) (state : State) (number : ℕ) (batch : Batch) (m
       let a = alone_is in
       rw (v, a) (ap (λ (t : Transacted). answered here t.answer t.after) alone_does)
 
-  means_so : plain.execution_of [] [] state number p ≡ plain.came_by [] [] here did
+  means_so : plain.execution_of [] [] state number p ≡ plain.batch_end_by [] [] here did
   means_so =
       let v = eq-eqb here.version here.version refl in
       ap (λ us. plain.executed_with [] [] state number p (plain.why_unopened [] [] p.keys (map (λ (u : Use). u.enc) us))) no_use
@@ -255,7 +256,7 @@ module _ (law : PreparedAlone) (state : State) (number : ℕ) (batch : Batch) (m
 
   runs_so : ExecutesAs state number p (plain.execution_of [] [] state number p)
   runs_so =
-      let done = definition_done state number batch meant idle defining e in
+      let done = definition_done state number batch analysis idle defining e in
       let a = answers_so here state did done in
       let s = serves_so in
       let m = means_so in
@@ -270,7 +271,7 @@ pub runs_definition : PreparedAlone → (state : State) (number : ℕ) (s : Sess
     → ExecutesAs state number p (plain.execution_of [] [] state number p)
 runs_definition law state number s h p e =
     let here = catalog_of state number in
-    let q = bind_ok (understood here h.batch.text (declarations_of h.batch)) (λ meant. Ok (description here (declarations_of h.batch) meant)) h.description h.described in
+    let q = bind_ok (analyzed here h.batch.text (declarations_of h.batch)) (λ analysis. Ok (description here (declarations_of h.batch) analysis)) h.description h.described in
     let is : description here (declarations_of h.batch) q.0 ≡ h.description = cc in
     let held : session.Pending (pending h.batch h.description) ≡ session.Pending p = sym h.holds ∙ e in
     let same : pending h.batch h.description ≡ p = cc in
@@ -279,7 +280,7 @@ runs_definition law state number s h p e =
 -- ---- its one reply
 
 -- what the reply says, and the state after it
-pub record Replied (state now : State) (seen : List Reply) (c : Came) : Type 0 where
+pub record Replied (state now : State) (seen : List Reply) (c : BatchEnd) : Type 0 where
   pub says : AnswersAs seen c.comes
   pub after : c.state ≡ now
   pub sessions : now.sessions ≡ state.sessions
@@ -298,6 +299,6 @@ replies_so law state now number s d p holds r replies seen i t e =
       sessions = ap (λ (x : State). x.sessions) (sym after) ∙ h.sessions;
     }
 
-pub comes_so : (c : Came) (now : State) (r : Result comes_to.Outcome AllocError) → c.state ≡ now → IfOk r (λ comes. c.comes ≡ comes) → IfOk r (ComesTo c now)
+pub comes_so : (c : BatchEnd) (now : State) (r : Result comes_to.Outcome AllocError) → c.state ≡ now → IfOk r (λ comes. c.comes ≡ comes) → IfOk r (ComesTo c now)
 comes_so c now (Ok comes) w h = (h, w)
 comes_so c now (Err e) w h = tt

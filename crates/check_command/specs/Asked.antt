@@ -23,7 +23,7 @@ use Rattle.conversation.specs.declared.outcomes.Outcome.TheVariants as outcome
 use Rattle.conversation.specs.declared.sessions.Session.{Session}
 use Rattle.conversation.specs.declared.sessions.Session.TheVariants as session
 use Rattle.script_lang.specs.Limits.{HasParams}
-use Rattle.plaintext_laws.specs.Batches.{Came, declarations_of, pending}
+use Rattle.plaintext_laws.specs.Batches.{BatchEnd, declarations_of, pending}
 use Rattle.check_command.specs.Check.{HasNoTransaction, defines}
 
 -- a batch that forces nothing
@@ -87,7 +87,7 @@ pub record IsUnused (s : Session) : Type 0 where
   pub unused : uses_of batch ≡ []
 
 -- its result, and the state after it
-abbrev pub ComesTo : Came → State → Outcome → Type 0
+abbrev pub ComesTo : BatchEnd → State → Outcome → Type 0
 ComesTo c after comes = (c.comes ≡ comes) × (c.state ≡ after)
 
 -- EncryptionClash
@@ -101,4 +101,4 @@ Says comes said = said ≡ executed.Says comes
 
 -- there is one reply, which tells it
 abbrev pub AnswersAs : List Reply → Outcome → Type 0
-AnswersAs replies comes = (x : Reply) × (replies ≡ x ∷ []) × (held.answered session.Sent x ≡ held.Tells comes)
+AnswersAs replies comes = (x : Reply) × (replies ≡ x ∷ []) × (held.answered session.Sent x ≡ held.Gives comes)

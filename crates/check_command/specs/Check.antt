@@ -1,13 +1,13 @@
 -- The result of `check`: the walk of the plaintext meaning from the empty state, in which a definition is executed, every other batch ends
--- with its description, nothing stays pending, and a rotation is passed over: its tables stay as they are. So no session ever has a
--- transaction. Behind a clash stands a chain of rules that shows it.
+-- with its description, nothing stays pending, and a rotation is skipped: its tables stay as they are. So no session ever has a
+-- transaction. After a clash stands a chain of rules that shows it.
 use Rattle.std.specs.Prelude.{◌≡◌, ◌⊎◌, ℕ, List, [], ◌∷◌, ◌++◌, flat_map, replicate, codes, decimal, encode_utf8_all, Option, Some, None, Result, Ok, Err, Bool, true, false}
 use Rattle.ae_base.specs.declared.batches.Batch.{Batch}
 use Rattle.ae_base.specs.declared.faults.SqlFault.{SqlFault}
 use Rattle.ae_edge.specs.Devices.{IsPrefix}
 use Rattle.sql_tree.specs.Bound.{Bound}
 use Rattle.sql_tree.specs.Statements.{Statement}
-use Rattle.sql_tree.specs.Sorts.{is_written_defining}
+use Rattle.sql_tree.specs.Kinds.{is_written_defining}
 use Rattle.sql_grammar.specs.Texts.{statement_in}
 use Rattle.statement_analysis.specs.Describing.{binding_of}
 use Rattle.statement_analysis.specs.Explaining.{Explains}
@@ -19,7 +19,7 @@ use Rattle.conversation.specs.declared.outcomes.Outcome.{Outcome}
 use Rattle.script_lang.specs.declared.steps.Step.{Step}
 use Rattle.script_lang.specs.declared.steps.Act.TheVariants.{Whole, Half, Execute, Rotate}
 use Rattle.script_lang.specs.declared.steps.Step.TheVariants.{Turn, Trust}
-use Rattle.plaintext_laws.specs.Batches.{Came, begins, declarations_of, execution_of, waits}
+use Rattle.plaintext_laws.specs.Batches.{BatchEnd, begins, declarations_of, execution_of, waits}
 use Rattle.outcome_text.specs.Printing.{line, printed_outcome}
 
 -- ---- which batches are executed
@@ -35,12 +35,12 @@ defines text = reads_definition (statement_in (encode_utf8_all text))
 -- ---- the result of a batch
 
 -- once it is described, a definition is executed; every other batch ends there. No key is there to open.
-abbrev pub described_only : State → ℕ → Bool → Pending → Came
+abbrev pub described_only : State → ℕ → Bool → Pending → BatchEnd
 described_only state number true = execution_of [] [] state number
 described_only state number false = waits state
 
 -- a batch of this session, which is idle
-abbrev pub checked : State → ℕ → Batch → Came
+abbrev pub checked : State → ℕ → Batch → BatchEnd
 checked state number batch = begins state number batch (described_only state number (defines batch.text)) None
 
 -- no session has a transaction
@@ -52,10 +52,10 @@ HasNoTransaction state = state.sessions ≡ replicate 64 None
 abbrev pub because : ℕ → List ℕ
 because at = line (codes "because at " ++ decimal at)
 
--- where the batch may be sent and has no encryption typing, the places of the rules of a chain that shows it; else none
+-- where the batch may be sent and has no encryption typing, the offsets of the rules of a chain that shows it; else none
 abbrev pub Chains : Option DriverFault → Result Bound SqlFault → List ℕ → Type 0
-Chains None bound places = Explains bound places
-Chains (Some f) bound places = places ≡ []
+Chains None bound offsets = Explains bound offsets
+Chains (Some f) bound offsets = offsets ≡ []
 
 -- the lines of a batch: its result, and for each rule of a chain `because at` its place
 pub record AreLinesOf (state : State) (number : ℕ) (batch : Batch) (lines : List ℕ) : Type 0 where
@@ -92,7 +92,7 @@ IsCheck state [] text = text ≡ []
 IsCheck state (b ∷ more) text =
     (lines rest : List ℕ) × AreLinesOf state b.number b.batch lines × IsCheck (checked state b.number b.batch).state more rest × (text ≡ lines ++ rest)
 
--- the text is a front of that: nothing, a front of the first batch's lines, or all of these and a front of what follows
+-- the text is a prefix of that: nothing, a prefix of the first batch's lines, or all of these and a prefix of what follows
 abbrev pub IsCheckPrefix : State → List SessionBatch → List ℕ → Type 0
 IsCheckPrefix state [] text = text ≡ []
 IsCheckPrefix state (b ∷ more) text =

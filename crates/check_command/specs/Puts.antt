@@ -1,4 +1,4 @@
--- What is put of one batch, and of one step.
+-- The text of one batch, and of one step.
 use Rattle.std.specs.Prelude.{◌≡◌, ◌⊎◌, ℕ, List, Option, Result, Ok, Err, Bool, false, string_bytes}
 use Rattle.ae_base.specs.declared.batches.Batch.{Batch}
 use Rattle.ae_edge.specs.Devices.{Adds, AddsPrefix}
@@ -17,7 +17,7 @@ pub record AreLines (old new : State) (number : ℕ) (batch : Batch) (lines : Li
   pub refused : lines.refused ≡ is_refusal (checked old number batch).comes
   pub state : (checked old number batch).state ≡ new
 
--- the lines of the batch were put, whether it was refused is told, and the state is the one after it
+-- the lines of the batch were written, whether it was refused is told, and the state is the one after it
 pub record PutsLines (refused : Bool) (old new : State) (number : ℕ) (batch : Batch) (before after : Option (List ℕ)) : Type 0 where
   pub lines : List ℕ
   pub are : AreLinesOf old number batch lines
@@ -25,16 +25,16 @@ pub record PutsLines (refused : Bool) (old new : State) (number : ℕ) (batch : 
   pub refuses : refused ≡ is_refusal (checked old number batch).comes
   pub state : (checked old number batch).state ≡ new
 
--- nothing was put of the batch, or a front of its lines
+-- nothing was written of the batch, or a prefix of its lines
 abbrev pub PutsPart : State → ℕ → Batch → Option (List ℕ) → Option (List ℕ) → Type 0
 PutsPart state number batch before after = (after ≡ before) ⊎ ((lines : List ℕ) × AreLinesOf state number batch lines × AddsPrefix lines before after)
 
--- a batch was put, or a part of it
+-- a batch was written, or a part of it
 abbrev pub PutsBatch : Result Bool WriteError → State → State → ℕ → Batch → Option (List ℕ) → Option (List ℕ) → Type 0
 PutsBatch (Ok refused) old new number batch before after = PutsLines refused old new number batch before after
 PutsBatch (Err e) old new number batch before after = PutsPart old number batch before after
 
--- of a step that has no batch nothing is put
+-- of a step that has no batch nothing is written
 pub record PutsNothing (r : Result Bool WriteError) (old new : State) (before after : Option (List ℕ)) : Type 0 where
   pub refuses : r ≡ Ok false
   pub state : new ≡ old

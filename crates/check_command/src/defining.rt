@@ -24,7 +24,7 @@ use std::alloc::{AllocError, Global};
 use wire_messages::replies::Reply;
 use wire_messages::requests::Request;
 
-/// Executes a described definition. It uses no parameter, so no key is there to open.
+/// Executes a described definition. It uses no parameter, so there is no key to open.
 pub fn defined(
     alloc: Global,
     server: &mut Server,
@@ -43,7 +43,7 @@ pub fn defined(
     let replies = server.serve(alloc, &request);
     drop(request);
     match replies {
-        Ok(replies) => told(alloc, driver, number, &mut vault, replies.as_slice()),
+        Ok(replies) => known(alloc, driver, number, &mut vault, replies.as_slice()),
         Err(error) => Err(error),
     }
 }
@@ -72,7 +72,7 @@ fn execution<'r>(
 }
 
 /// The result of the replies to a definition: there is one.
-fn told(
+fn known(
     alloc: Global,
     driver: &mut Driver,
     number: SessionId,
@@ -88,7 +88,7 @@ fn told(
     outcome_in(driver.answered(alloc, number, reply, vault))
 }
 
-/// The result that the driver tells of a definition.
+/// The result of a definition, as the driver gives it.
 fn outcome_in(said: Result<ExecuteAnswer, Halt>) -> Result<Outcome, AllocError>
     requires { (comes : Outcome) × OrShort (Says comes) said }
     ensures { (comes : Outcome) → OrShort (Says comes) said → IfOk result (λ c. comes ≡ c) }

@@ -74,13 +74,13 @@ fn heard(
     let replies = server.serve(alloc, &request);
     drop(request);
     match replies {
-        Ok(replies) => told(alloc, driver, number, replies.as_slice()),
+        Ok(replies) => known(alloc, driver, number, replies.as_slice()),
         Err(_) => Err(Halt::OutOfMemory),
     }
 }
 
 /// What the replies to a description tell: there is one.
-fn told(
+fn known(
     alloc: Global,
     driver: &mut Driver,
     number: SessionId,

@@ -24,22 +24,22 @@ use std::fmt::Write;
 use wire_parts::parts::TxtPart;
 use wire_parts::texts::StatementPart;
 
-/// The printed lines of a batch's result, and for each place of a chain `because at` it.
+/// The printed lines of a batch's result, and for each offset of a chain `because at` it.
 pub fn text_with(alloc: Global, outcome: &Outcome, chain: &[u32]) -> Result<String, AllocError>
     ensures { IfOk result (λ text. string_bytes text ≡ printed_outcome outcome.now
         ++ flat_map because chain.now) }
 {
     let mut text = text_of(alloc, outcome)?;
-    for place in chain {
-        push_because(&mut text, *place)?;
+    for offset in chain {
+        push_because(&mut text, *offset)?;
     }
     Ok(text)
 }
 
-fn push_because(text: &mut String, place: u32) -> Result<(), AllocError>
-    ensures { OnOk result (string_bytes text.new ≡ string_bytes text.old ++ because place) }
+fn push_because(text: &mut String, offset: u32) -> Result<(), AllocError>
+    ensures { OnOk result (string_bytes text.new ≡ string_bytes text.old ++ because offset) }
 {
-    write!(text, "because at {place}")?;
+    write!(text, "because at {offset}")?;
     text.push('\n')?;
     Ok(())
 }
@@ -51,7 +51,7 @@ pub fn is_clash(outcome: &Outcome) -> bool
     matches!(outcome, Outcome::Refused(SqlFault::EncryptionClash { .. }))
 }
 
-/// The places of the rules of a chain for which a batch has no encryption typing.
+/// The offsets of the rules of a chain for which a batch has no encryption typing.
 pub fn chain_of(alloc: Global, server: &Server, batch: &Batch) -> Result<Seq<u32>, AllocError>
     requires { why_unfit batch.now ≡ None }
     ensures { IfOk result

@@ -30,10 +30,10 @@ use std::alloc::{AllocError, Global};
 
 /// How a check ended.
 #[derive(Clone, Copy, PartialEq, Eq, Debug)]
-pub enum Checked {
-    /// The text was put whole, and no batch was refused.
+pub enum CheckEnding {
+    /// The text was written whole, and no batch was refused.
     Done,
-    /// The text was put whole, and a batch was refused.
+    /// The text was written whole, and a batch was refused.
     Refusals,
     /// A call of the script failed.
     ReadFault,
@@ -53,7 +53,7 @@ pub struct Lines {
     refused: bool,
 }
 
-/// The places of the chain behind the result of a batch.
+/// The offsets of the chain after the result of a batch.
 fn chain_behind(
     alloc: Global,
     server: &Server,
@@ -111,7 +111,7 @@ fn lines_of(
     lines
 }
 
-/// Checks a batch and puts its lines; says whether it was refused.
+/// Checks a batch and writes its lines; says whether it was refused.
 fn check_batch<W: Sink>(
     alloc: Global,
     server: &mut Server,
@@ -165,7 +165,12 @@ fn or_refused(refused: bool, refuses: bool) -> bool
 }
 
 /// Checks the batches of steps over a server in whose state nothing is defined.
-fn check_over<W: Sink>(alloc: Global, server: &mut Server, steps: &[Step], out: &mut W) -> Checked
+fn check_over<W: Sink>(
+    alloc: Global,
+    server: &mut Server,
+    steps: &[Step],
+    out: &mut W,
+) -> CheckEnding
     requires limits { All IsWithinLimits steps.now }
     requires empty { server.old ≡ empty_state }
     ensures { Calls (ChecksTo result steps.now) (CountsChecked result)
@@ -175,19 +180,19 @@ fn check_over<W: Sink>(alloc: Global, server: &mut Server, steps: &[Step], out: 
     for step in steps {
         match check_step(alloc, server, step, out) {
             Ok(refuses) => refused = or_refused(refused, refuses),
-            Err(WriteError::Failed) => return Checked::WriteFault,
-            Err(WriteError::OutOfMemory) => return Checked::OutOfMemory,
+            Err(WriteError::Failed) => return CheckEnding::WriteFault,
+            Err(WriteError::OutOfMemory) => return CheckEnding::OutOfMemory,
         }
     }
     if refused {
-        Checked::Refusals
+        CheckEnding::Refusals
     } else {
-        Checked::Done
+        CheckEnding::Done
     }
 }
 
 /// Checks the batches of steps over a server of their own.
-pub(crate) fn check_steps<W: Sink>(alloc: Global, steps: &[Step], out: &mut W) -> Checked
+pub(crate) fn check_steps<W: Sink>(alloc: Global, steps: &[Step], out: &mut W) -> CheckEnding
     requires { All IsWithinLimits steps.now }
     ensures { Calls (ChecksTo result steps.now) (CountsChecked result)
         (W.seen out.old) (W.seen out.new) }

@@ -52,11 +52,11 @@ ascii_so (b ∷ bs) e =
 pub plain_bytes : (bs : List ℕ) → list_all (λ b. nat_lt b 128) bs ≡ true → encode_utf8_all bs ≡ bs
 plain_bytes bs e = encodes-IsAscii bs (ascii_so bs e)
 
--- they are put behind
+-- they are put after
 pub put_plain : (old new bs : List ℕ) → list_all (λ b. nat_lt b 128) bs ≡ true → new ≡ old ++ bs → new ≡ old ++ encode_utf8_all bs
 put_plain old new bs a e = e ∙ ap (λ more. old ++ more) (sym (plain_bytes bs a))
 
--- ---- one part behind another
+-- ---- one part after another
 
 pub put_more : (old mid new xs ys : List ℕ) → mid ≡ old ++ encode_utf8_all xs → new ≡ mid ++ encode_utf8_all ys → new ≡ old ++ encode_utf8_all (xs ++ ys)
 put_more old mid new xs ys e f =

@@ -7,7 +7,7 @@ use Rattle.column_rotate.specs.declared.sent.Sent.{Sent}
 use Rattle.column_rotate.specs.Moves.{move_of}
 use Rattle.column_rotate.specs.Rotating.{Ends, heard, moved}
 
--- behind each outcome the conversation of a rotation goes on as the machine moves
+-- after each outcome the conversation of a rotation goes on as the machine moves
 abbrev pub RotationsAreNext : Type 0
 RotationsAreNext = (trusted : List (List ℕ)) (number : ℕ) (old new : List ℕ) (k : Ends) (sent : Sent) (columns : Accepted) (comes : Outcome) (after : Session)
     → heard trusted number old new k sent columns comes after

@@ -1,4 +1,4 @@
--- The first of the rows that are left, and the batch that puts it.
+-- The first of the rows that are left, and the batch that inserts it.
 use Rattle.std.specs.Prelude.{ℕ, List, [], ◌∷◌, Option, Some, None}
 use Rattle.ae_base.specs.declared.batches.Batch.{Batch}
 use Rattle.ae_base.specs.declared.values.Value.{Value}

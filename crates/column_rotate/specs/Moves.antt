@@ -1,4 +1,4 @@
--- The rotation of a table as a machine: what comes next, by the outcome of the batch that was sent last.
+-- The rotation of a table as a machine: its next step, by the outcome of the batch that was sent last.
 use Rattle.std.specs.Prelude.{◌≡◌, ◌≤◌, ℕ, List, [], ◌∷◌, length, Option, Some, None, Bool, not, ◌==◌, if◌then◌else◌}
 use Rattle.ae_base.specs.declared.batches.Batch.{Batch}
 use Rattle.ae_base.specs.declared.values.Value.{Value}
@@ -34,9 +34,9 @@ pub data Move : Type 0 where
   Finishes : (count : ℕ) → Move
   Fails : (fault : Fault) → Move
 
-abbrev pub rows_told : Outcome → List (List Value)
-rows_told (Rows rows) = rows
-rows_told other = []
+abbrev pub outcome_rows : Outcome → List (List Value)
+outcome_rows (Rows rows) = rows
+outcome_rows other = []
 
 abbrev pub is_empty : {A : Type 0} → List A → Bool
 is_empty xs = length xs == 0

@@ -1,4 +1,4 @@
--- The rotation of a table in a conversation: batches that are run quietly, one inside what comes after the other.
+-- The rotation of a table in a conversation: batches that are run quietly, each inside what follows the one before.
 use Rattle.std.specs.Prelude.{ℕ, List, [], ◌∷◌, length, Some, None, Bool, false, not, if◌then◌else◌}
 use Rattle.ae_base.specs.declared.batches.Batch.{Batch}
 use Rattle.ae_base.specs.declared.values.Value.{Value}
@@ -13,24 +13,24 @@ use Rattle.conversation.specs.declared.outcomes.Outcome as printed
 use Rattle.driver.specs.declared.outcomes.Fault.{Fault}
 use Rattle.driver.specs.declared.outcomes.Fault.TheVariants.{OfServer, OfDriver}
 use Rattle.driver.specs.declared.outcomes.Outcome.{Outcome}
-use Rattle.driver.specs.declared.outcomes.Outcome.TheVariants as told
+use Rattle.driver.specs.declared.outcomes.Outcome.TheVariants as of_driver
 use Rattle.column_rotate.specs.declared.sent.Sent.{Sent}
 use Rattle.column_rotate.specs.declared.sent.Sent.TheVariants as sent
 use Rattle.column_rotate.specs.Headers.{are_alike, columns_in}
-use Rattle.column_rotate.specs.Moves.{Move, Sends, Finishes, Fails, rows_told, is_empty}
+use Rattle.column_rotate.specs.Moves.{Move, Sends, Finishes, Fails, outcome_rows, is_empty}
 use Rattle.column_rotate.specs.Texts.{begins, reads_all, puts, replaces, commits, rolls_back}
 
 -- A batch's outcome, as it is told. A description isn't met here, and where an answer broke off without a fault all ends.
-abbrev pub told_of : printed.Outcome → Outcome
-told_of (outcome.Rows shown) = told.Rows shown.rows
-told_of (outcome.Broken shown (Some f)) = told.Refused (OfDriver f)
-told_of (outcome.Broken shown None) = told.Defined
-told_of (outcome.Changed count) = told.Changed count
-told_of outcome.Defined = told.Defined
-told_of (outcome.Rotated count) = told.Defined
-told_of (outcome.Described params) = told.Defined
-told_of (outcome.Refused f) = told.Refused (OfServer f)
-told_of (outcome.Failed f) = told.Refused (OfDriver f)
+abbrev pub driver_outcome : printed.Outcome → Outcome
+driver_outcome (outcome.Rows shown) = of_driver.Rows shown.rows
+driver_outcome (outcome.Broken shown (Some f)) = of_driver.Refused (OfDriver f)
+driver_outcome (outcome.Broken shown None) = of_driver.Defined
+driver_outcome (outcome.Changed count) = of_driver.Changed count
+driver_outcome outcome.Defined = of_driver.Defined
+driver_outcome (outcome.Rotated count) = of_driver.Defined
+driver_outcome (outcome.Described params) = of_driver.Defined
+driver_outcome (outcome.Refused f) = of_driver.Refused (OfServer f)
+driver_outcome (outcome.Failed f) = of_driver.Refused (OfDriver f)
 
 -- a fault, as it is printed
 abbrev pub fault_as : Fault → printed.Outcome
@@ -43,15 +43,15 @@ Ends = printed.Outcome → Session → Talk
 
 -- a refusal goes one way, anything else the other
 abbrev pub unless_refused : (Fault → Session → Talk) → (Outcome → Session → Talk) → Outcome → Session → Talk
-unless_refused fails k (told.Refused fault) after = fails fault after
-unless_refused fails k (told.Rows rows) after = k (told.Rows rows) after
-unless_refused fails k (told.Changed count) after = k (told.Changed count) after
-unless_refused fails k told.Defined after = k told.Defined after
+unless_refused fails k (of_driver.Refused fault) after = fails fault after
+unless_refused fails k (of_driver.Rows rows) after = k (of_driver.Rows rows) after
+unless_refused fails k (of_driver.Changed count) after = k (of_driver.Changed count) after
+unless_refused fails k of_driver.Defined after = k of_driver.Defined after
 
 module _ (trusted : List (List ℕ)) (number : ℕ) (old new : List ℕ) (k : Ends) where
   -- a batch is run quietly, and its outcome goes on
   abbrev pub runs : Batch → Session → (Accepted → Outcome → Session → Talk) → Talk
-  runs batch before k = running false trusted number batch before (λ comes columns after. k columns (told_of comes) after)
+  runs batch before k = running false trusted number batch before (λ comes columns after. k columns (driver_outcome comes) after)
 
   abbrev pub fails_with : Fault → Session → Talk
   fails_with fault after = k (fault_as fault) after
@@ -79,31 +79,31 @@ module _ (trusted : List (List ℕ)) (number : ℕ) (old new : List ℕ) (k : En
 
   abbrev pub reading_old : Accepted → Bool → Session → Talk
   reading_old news empty before =
-      runs (reads_all old) before (λ olds. unless_refused rolling_back (λ comes after. comparing news empty olds (rows_told comes) after))
+      runs (reads_all old) before (λ olds. unless_refused rolling_back (λ comes after. comparing news empty olds (outcome_rows comes) after))
 
   abbrev pub reading_new : Session → Talk
   reading_new before =
-      runs (reads_all new) before (λ news. unless_refused rolling_back (λ comes after. reading_old news (is_empty (rows_told comes)) after))
+      runs (reads_all new) before (λ news. unless_refused rolling_back (λ comes after. reading_old news (is_empty (outcome_rows comes)) after))
 
   abbrev pub beginning : Session → Talk
   beginning before = runs begins before (λ columns. unless_refused fails_with (λ comes after. reading_new after))
 
   -- ---- what is left of it
 
-  -- behind a move
+  -- after a move
   abbrev pub moved : Move → (Sent → Accepted → Outcome → Session → Talk) → Session → Talk
   moved (Sends batch sent) again before = runs batch before (again sent)
   moved (Finishes count) again before = k (outcome.Rotated count) before
   moved (Fails fault) again before = k (fault_as fault) before
 
-  -- behind the outcome of the batch that was sent last
+  -- after the outcome of the batch that was sent last
   abbrev pub heard : Sent → Accepted → Outcome → Session → Talk
   heard sent.Nothing columns comes after = beginning after
   heard sent.Begin columns comes after = unless_refused fails_with (λ comes after. reading_new after) comes after
   heard sent.ReadNew columns comes after =
-      unless_refused rolling_back (λ comes after. reading_old columns (is_empty (rows_told comes)) after) comes after
+      unless_refused rolling_back (λ comes after. reading_old columns (is_empty (outcome_rows comes)) after) comes after
   heard (sent.ReadOld news empty) columns comes after =
-      unless_refused rolling_back (λ comes after. comparing news empty columns (rows_told comes) after) comes after
+      unless_refused rolling_back (λ comes after. comparing news empty columns (outcome_rows comes) after) comes after
   heard (sent.Put columns all left) others comes after =
       unless_refused rolling_back (λ comes after. putting_each columns all left after) comes after
   heard (sent.Replace all) columns comes after = unless_refused rolling_back (λ comes after. committing all after) comes after

@@ -2,26 +2,26 @@
 
 ghost use Rattle.std.specs.Prelude.{◌≡◌};
 ghost use Rattle.conversation.specs.Turns.{Accepted};
-ghost use Rattle.column_rotate.specs.Headers as told;
+ghost use Rattle.column_rotate.specs.Headers as headers;
 
 use ae_base::limits::MOST_TABLE_COLUMNS;
 use ae_base::types::Ty;
 use driver::{AcceptedColumn, Columns};
 
 fn is_same_type(a: Ty, b: Ty) -> bool
-    ensures { result ≡ told.is_same_type a b }
+    ensures { result ≡ headers.is_same_type a b }
 {
     a == b
 }
 
 fn is_same_column(a: &AcceptedColumn, b: &AcceptedColumn) -> bool
-    ensures { result ≡ told.is_same_column a.now b.now }
+    ensures { result ≡ headers.is_same_column a.now b.now }
 {
     a.title() == b.title() && is_same_type(a.ty(), b.ty())
 }
 
 fn are_same_columns(a: &[AcceptedColumn], b: &[AcceptedColumn]) -> bool
-    ensures { result ≡ told.are_same_columns a.now b.now }
+    ensures { result ≡ headers.are_same_columns a.now b.now }
 {
     match a {
         [] => b.is_empty(),
@@ -32,9 +32,9 @@ fn are_same_columns(a: &[AcceptedColumn], b: &[AcceptedColumn]) -> bool
     }
 }
 
-/// Whether the columns of both tables are there, the same, and no more than a table has.
+/// Whether the columns of both tables exist, are the same, and are no more than a table has.
 pub fn are_alike(olds: &Option<Columns>, news: &Option<Columns>) -> bool
-    ensures { result ≡ told.are_alike olds.now news.now }
+    ensures { result ≡ headers.are_alike olds.now news.now }
 {
     match (olds, news) {
         (Some(olds), Some(news)) => {

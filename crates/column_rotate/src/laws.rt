@@ -2,7 +2,7 @@
 
 ghost use Rattle.column_rotate.specs.Laws.{RotationsAreNext};
 
-/// Behind each outcome the conversation of a rotation goes on as the machine moves.
+/// After each outcome the conversation of a rotation goes on as the machine moves.
 pub fn rotations_are_next()
     ensures { RotationsAreNext }
 {}

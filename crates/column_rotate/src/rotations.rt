@@ -3,7 +3,7 @@
 ghost use Rattle.std.specs.Prelude.{◌≡◌, ◌≤◌, [], IfOk, length, List, ℕ, encode_utf8_all};
 ghost use Rattle.driver.specs.Clients.{columns_of};
 ghost use Rattle.column_rotate.specs.Left.{first_put};
-ghost use Rattle.column_rotate.specs.Moves as told;
+ghost use Rattle.column_rotate.specs.Moves as moving;
 ghost use Rattle.column_rotate.specs.Moves.{IsMove, IsWithin};
 ghost use Rattle.column_rotate.specs.Texts.{batch_of, commits, reads_all, replaces};
 ghost use Rattle.column_rotate.specs.declared.sent.Sent.{Sent};
@@ -29,7 +29,7 @@ use std::mem;
 pub enum Next {
     /// This batch is to be run in the rotation's session.
     Send(Batch),
-    /// The table has been replaced, and so many rows were moved.
+    /// The table has been replaced, and this many rows were moved.
     Finished(u64),
     /// Nothing was changed, for this fault.
     Failed(Fault),
@@ -94,7 +94,7 @@ fn batch(alloc: Global, text: &str) -> Result<Batch, AllocError>
 }
 
 fn begins(alloc: Global) -> Result<Moved, AllocError>
-    ensures moves { IfOk result (λ moved. IsMove moved.next moved.sent told.first) }
+    ensures moves { IfOk result (λ moved. IsMove moved.next moved.sent moving.first) }
     ensures within { IfOk result (λ moved. IsWithin moved.sent) }
 {
     Ok(sends(batch(alloc, "BEGIN TRANSACTION")?, Sent::Begin))
@@ -102,7 +102,7 @@ fn begins(alloc: Global) -> Result<Moved, AllocError>
 
 fn commits(alloc: Global, all: u64) -> Result<Moved, AllocError>
     ensures moves { IfOk result
-        (λ moved. IsMove moved.next moved.sent (told.Sends commits (Sent.Commit all))) }
+        (λ moved. IsMove moved.next moved.sent (moving.Sends commits (Sent.Commit all))) }
     ensures within { IfOk result (λ moved. IsWithin moved.sent) }
 {
     Ok(sends(batch(alloc, "COMMIT")?, Sent::Commit(all)))
@@ -110,14 +110,14 @@ fn commits(alloc: Global, all: u64) -> Result<Moved, AllocError>
 
 /// The transaction is rolled back for a fault.
 fn back(alloc: Global, fault: Fault) -> Result<Moved, AllocError>
-    ensures moves { IfOk result (λ moved. IsMove moved.next moved.sent (told.back fault)) }
+    ensures moves { IfOk result (λ moved. IsMove moved.next moved.sent (moving.back fault)) }
     ensures within { IfOk result (λ moved. IsWithin moved.sent) }
 {
     Ok(sends(batch(alloc, "ROLLBACK")?, Sent::RollBack(fault)))
 }
 
 fn finishes(count: u64) -> Moved
-    ensures moves { IsMove result.next result.sent (told.Finishes count) }
+    ensures moves { IsMove result.next result.sent (moving.Finishes count) }
     ensures within { IsWithin result.sent }
 {
     Moved {
@@ -127,7 +127,7 @@ fn finishes(count: u64) -> Moved
 }
 
 fn fails(fault: Fault) -> Moved
-    ensures moves { IsMove result.next result.sent (told.Fails fault) }
+    ensures moves { IsMove result.next result.sent (moving.Fails fault) }
     ensures within { IsWithin result.sent }
 {
     Moved {
@@ -140,7 +140,7 @@ fn fails(fault: Fault) -> Moved
 fn reads(alloc: Global, table: &Name, sent: Sent) -> Result<Moved, AllocError>
     requires { IsWithin sent }
     ensures moves { IfOk result
-        (λ moved. IsMove moved.next moved.sent (told.Sends (reads_all table.now) sent)) }
+        (λ moved. IsMove moved.next moved.sent (moving.Sends (reads_all table.now) sent)) }
     ensures within { IfOk result (λ moved. IsWithin moved.sent) }
 {
     let text = reading_text(alloc, table.as_str())?;
@@ -151,14 +151,14 @@ fn reads(alloc: Global, table: &Name, sent: Sent) -> Result<Moved, AllocError>
 fn replaces(alloc: Global, old: &Name, new: &Name, all: u64) -> Result<Moved, AllocError>
     ensures moves { IfOk result
         (λ moved. IsMove moved.next moved.sent
-        (told.Sends (replaces old.now new.now) (Sent.Replace all))) }
+        (moving.Sends (replaces old.now new.now) (Sent.Replace all))) }
     ensures within { IfOk result (λ moved. IsWithin moved.sent) }
 {
     let text = replace_text(alloc, old.as_str(), new.as_str())?;
     Ok(sends(batch_alone(alloc, text), Sent::Replace(all)))
 }
 
-/// The batch that puts the next row into a table, where one is left.
+/// The batch that inserts the next row into a table, if one is left.
 fn first_put(
     alloc: Global,
     table: &Name,
@@ -178,7 +178,7 @@ fn first_put(
     }
 }
 
-/// The next row is put, or where none is left the table is replaced.
+/// The next row is inserted, or if none is left the table is replaced.
 fn puts(
     alloc: Global,
     old: &Name,
@@ -190,7 +190,7 @@ fn puts(
     requires { length columns ≤ 64 }
     ensures moves { IfOk result
         (λ moved. IsMove moved.next moved.sent
-        (told.putting old.now new.now columns all left)) }
+        (moving.putting old.now new.now columns all left)) }
     ensures within { IfOk result (λ moved. IsWithin moved.sent) }
 {
     match first_put(alloc, new, &columns, &left)? {
@@ -218,7 +218,7 @@ fn compares(
 ) -> Result<Moved, AllocError>
     ensures moves { IfOk result
         (λ moved. IsMove moved.next moved.sent
-        (told.compared old.now new.now news empty olds rows)) }
+        (moving.compared old.now new.now news empty olds rows)) }
     ensures within { IfOk result (λ moved. IsWithin moved.sent) }
 {
     if !are_alike(&olds, &news) {
@@ -248,7 +248,7 @@ fn accepted(
     requires { IsWithin sent }
     ensures moves { IfOk result
         (λ moved. IsMove moved.next moved.sent
-        (told.accepted_move old.now new.now sent columns rows)) }
+        (moving.accepted_move old.now new.now sent columns rows)) }
     ensures within { IfOk result (λ moved. IsWithin moved.sent) }
 {
     match sent {
@@ -276,7 +276,7 @@ fn accepted(
 /// What comes after a batch that was refused.
 fn refused(alloc: Global, sent: Sent, fault: Fault) -> Result<Moved, AllocError>
     ensures moves { IfOk result
-        (λ moved. IsMove moved.next moved.sent (told.refused_move sent fault)) }
+        (λ moved. IsMove moved.next moved.sent (moving.refused_move sent fault)) }
     ensures within { IfOk result (λ moved. IsWithin moved.sent) }
 {
     match sent {
@@ -303,7 +303,7 @@ fn answered(
     requires { IsWithin sent }
     ensures moves { IfOk result
         (λ moved. IsMove moved.next moved.sent
-        (told.move_of old.now new.now sent columns outcome)) }
+        (moving.move_of old.now new.now sent columns outcome)) }
     ensures within { IfOk result (λ moved. IsWithin moved.sent) }
 {
     match outcome {
@@ -340,8 +340,8 @@ impl Rotation {
     }
 
     /// What comes next. The outcome is that of the batch that was sent last, which the driver ran
-    /// in the rotation's session; none stands in the first call alone. There is no call after
-    /// `Finished`, `Failed` or want of memory.
+    /// in the rotation's session; it is absent in the first call alone. There is no call after
+    /// `Finished`, `Failed` or out of memory.
     pub fn next(
         &mut self,
         alloc: Global,
@@ -349,7 +349,7 @@ impl Rotation {
         outcome: Option<Outcome>,
     ) -> Result<Next, AllocError>
         ensures next { IfOk result (λ next. IsMove next self.new.sent
-            (told.move self.old.from self.old.into self.old.sent
+            (moving.move self.old.from self.old.into self.old.sent
             (columns_of driver.now self.old.session) outcome)) }
         ensures session { self.new.session ≡ self.old.session }
         ensures from { self.new.from ≡ self.old.from }

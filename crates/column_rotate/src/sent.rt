@@ -8,7 +8,7 @@ use ae_base::values::Value;
 use driver::{Columns, Fault};
 use std::marker::Model;
 
-/// Rows that are taken one after another, which contracts see as those that are left.
+/// Rows that are taken one after another. Contracts see the rows that are left.
 pub struct RowsLeft {
     rows: Seq<Seq<Value>>,
     taken: usize,
@@ -49,7 +49,7 @@ impl RowsLeft {
         }
     }
 
-    /// The rows behind the next one.
+    /// The rows after the next one.
     pub fn behind(self) -> RowsLeft
         ensures { result ≡ drop 1 self }
     {
@@ -79,14 +79,14 @@ pub enum Sent {
         /// Whether the new table has no row.
         empty: bool,
     },
-    /// A row is put into the new table, the columns being those of the old one.
+    /// A row is inserted into the new table, the columns being those of the old one.
     Put {
         columns: Columns,
         /// How many rows the old table has.
         all: u64,
         left: RowsLeft,
     },
-    /// The new table takes the place of the old one, with so many rows.
+    /// The new table replaces the old one, with this many rows.
     Replace(u64),
     Commit(u64),
     /// For this fault.

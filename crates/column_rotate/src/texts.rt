@@ -8,7 +8,7 @@ use driver::AcceptedColumn;
 use std::alloc::{AllocError, Global};
 use std::fmt::Write;
 
-/// Puts a character of a name in brackets.
+/// Writes a character of a name in brackets.
 fn push_bracketed(text: &mut String, c: char) -> Result<(), AllocError>
     ensures { OnOk result (string_bytes text.new
         ≡ string_bytes text.old ++ encode_utf8_all (spelled.bracketed_char c)) }
@@ -19,7 +19,7 @@ fn push_bracketed(text: &mut String, c: char) -> Result<(), AllocError>
     text.push(c)
 }
 
-/// Puts a name in brackets.
+/// Writes a name in brackets.
 fn push_name(text: &mut String, name: &str) -> Result<(), AllocError>
     ensures { OnOk result (string_bytes text.new
         ≡ string_bytes text.old ++ encode_utf8_all (spelled.in_brackets (chars name.now))) }
@@ -32,7 +32,7 @@ fn push_name(text: &mut String, name: &str) -> Result<(), AllocError>
     Ok(())
 }
 
-/// Puts names in brackets, each behind a comma.
+/// Writes names in brackets, each after a comma.
 fn push_more_names(text: &mut String, columns: &[AcceptedColumn]) -> Result<(), AllocError>
     ensures { OnOk result (string_bytes text.new
         ≡ string_bytes text.old ++ encode_utf8_all (spelled.more_names columns.now)) }
@@ -48,7 +48,7 @@ fn push_more_names(text: &mut String, columns: &[AcceptedColumn]) -> Result<(), 
     }
 }
 
-/// Puts the names of columns, in brackets and with commas between.
+/// Writes the names of columns, in brackets and with commas between.
 fn push_names(text: &mut String, columns: &[AcceptedColumn]) -> Result<(), AllocError>
     ensures { OnOk result (string_bytes text.new
         ≡ string_bytes text.old ++ encode_utf8_all (spelled.names columns.now)) }
@@ -63,7 +63,7 @@ fn push_names(text: &mut String, columns: &[AcceptedColumn]) -> Result<(), Alloc
     }
 }
 
-/// Puts the parameters of columns from a number on, each behind a comma.
+/// Writes the parameters of columns from a number on, each after a comma.
 fn push_more_placeholders(
     text: &mut String,
     number: usize,
@@ -83,7 +83,7 @@ fn push_more_placeholders(
     }
 }
 
-/// Puts the parameters of columns, with commas between.
+/// Writes the parameters of columns, with commas between.
 fn push_placeholders(text: &mut String, columns: &[AcceptedColumn]) -> Result<(), AllocError>
     requires { length columns.now ≤ 64 }
     ensures { OnOk result (string_bytes text.new
@@ -109,7 +109,7 @@ pub fn reading_text(alloc: Global, table: &str) -> Result<String, AllocError>
     Ok(text)
 }
 
-/// The text that puts a row into a table.
+/// The text that inserts a row into a table.
 pub fn insert_text(
     alloc: Global,
     table: &str,
@@ -129,7 +129,7 @@ pub fn insert_text(
     Ok(text)
 }
 
-/// The text that puts a table in the place of another.
+/// The text that replaces a table by another.
 pub fn replace_text(alloc: Global, old: &str, new: &str) -> Result<String, AllocError>
     ensures { IfOk result (λ text. string_bytes text
         ≡ encode_utf8_all (spelled.replaces (chars old.now) (chars new.now)).text) }

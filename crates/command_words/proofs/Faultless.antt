@@ -303,14 +303,14 @@ module _ (s : Shape) (names : Names) where
   word_ok true waiting word h e = refl
   word_ok false waiting word h e = other_ok (subcommand_met names waiting word) word h e
 
-  stray_by : (leaf : Bool) (position : ℕ) (h : Held) (k j : ErrorKind)
+  unexpected_by : (leaf : Bool) (position : ℕ) (h : Held) (k j : ErrorKind)
       → option_map_or (λ a. positional_fault s.rules s.args_override_self a h) (arg_by_index s.rules position) (if leaf then k ∷ [] else k ∷ j ∷ []) ≡ []
       → option_map_or (λ a. positional_passes s.rules s.args_override_self a h) (arg_by_index s.rules position) false ≡ true
-  stray_by true position h k j e = at_position s.rules s.args_override_self (arg_by_index s.rules position) h k [] e
-  stray_by false position h k j e = at_position s.rules s.args_override_self (arg_by_index s.rules position) h k (j ∷ []) e
+  unexpected_by true position h k j e = at_position s.rules s.args_override_self (arg_by_index s.rules position) h k [] e
+  unexpected_by false position h k j e = at_position s.rules s.args_override_self (arg_by_index s.rules position) h k (j ∷ []) e
 
   step_ok : (position : ℕ) (h : Held) (step : Step) → step_fault s position h step ≡ [] → step_passes s position h step ≡ true
-  step_ok position h walking.value e = stray_by s.is_leaf position h _ _ e
+  step_ok position h walking.value e = unexpected_by s.is_leaf position h _ _ e
   step_ok position h (walking.next w) e = refl
   step_ok position h (walking.trailing n) e = refl
   step_ok position h (walking.subcommand name) e = refl

@@ -159,7 +159,7 @@ module _ (s : Shape) (names : Names) (on : s.disable_help_subcommand ≡ false) 
 
 -- ---- subcommands
 
--- a subcommand that isn't `help` is a command, where it takes the words behind its name
+-- a subcommand that isn't `help` is a command, where it takes the words after its name
 abbrev IsNamed : Shape → Type 0
 IsNamed s = (name : Text) (words : List Text) → answers_to name (label_of s) ≡ true → bytes_eq name (codes "help") ≡ false → level_passes s [] nothing_held words false ≡ true
     → is_some (named (rows_at s words)) ≡ true

@@ -1,4 +1,4 @@
--- What `clap` is told.
+-- The arguments that `clap` gets.
 use Rattle.std.specs.Prelude.{◌≡◌, [], false}
 use Rattle.clap.specs.Words.{App, Rule, Shape, app_of, rule_of}
 use Rattle.clap.specs.declared.builder.arg.Arg.{Arg}

@@ -1,4 +1,4 @@
--- The words of the command line: what `clap` is told of them, and which command it then finds in them.
+-- The words of the command line: the arguments that `clap` gets, and which command it then finds in the words.
 use Rattle.std.specs.Prelude.{
   ◌≡◌,
   ◌++◌,
@@ -52,7 +52,7 @@ text name = record (new_rule name) { required = true }
 abbrev pub size : Text → Rule
 size name = record (new_rule name) { required = true; parser = Some (Signed (pos 1) (pos 20000)) }
 
--- a number behind its name that can only be 2, and may be left out
+-- a number after its name that can only be 2, and may be left out
 abbrev pub frames : Rule
 frames = record (new_rule (codes "frames")) { long = Some (codes "frames"); parser = Some (Signed (pos 2) (pos 2)) }
 

@@ -34,7 +34,7 @@ pub enum Command {
     Check,
     /// Wrap a key under the master key at this path.
     Wrap(Txt),
-    /// Write a script of so many rows.
+    /// Write a script of this many rows.
     Gen(u32),
 }
 

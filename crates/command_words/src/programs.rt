@@ -34,7 +34,7 @@ fn size<'a>(alloc: Global, name: &'a str, help: &'a str) -> Arg<'a>
         .help(help)
 }
 
-/// The version of frames: a number behind its name that can only be 2, and may be left out.
+/// The version of frames: a number after its name that can only be 2, and may be left out.
 fn frames<'a>(alloc: Global) -> Arg<'a>
     ensures { IsArgument words.frames result }
 {

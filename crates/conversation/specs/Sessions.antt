@@ -115,7 +115,7 @@ abbrev pub described_as : Batch → Description → Option (List (Option Enc)) �
 described_as batch description (Some encs) = Some (readied batch description encs (first_open batch.forced batch.params encs))
 described_as batch description None = None
 
--- after Describe a Refused is awaited, or a Described of declared parameters; None stands for a reply that isn't, which leaves the session
+-- after Describe a Refused is expected, or a Described of declared parameters; None stands for a reply that isn't, which leaves the session
 abbrev pub described : Session → Reply → Option (Turn DescribeAnswer)
 described (Begun batch) (reply.Described description) = described_as batch description (encs_of batch.params description.params)
 described (Begun batch) (reply.Refused f) = Some (record { answer = Refused f; after = Idle })
@@ -130,25 +130,25 @@ described (Skipping columns count) r = None
 
 -- ---- the first reply to its execution
 
--- a reply tells an outcome, after which the session is idle; or it shows columns, whose keys are opened first; or it isn't awaited
-pub data Told : Type 0 where
-  Tells : (comes : Outcome) → Told
-  Shows : (header : Header) → Told
-  Stray : Told
+-- a reply says an outcome, after which the session is idle; or it shows columns, whose keys are opened first; or it isn't expected
+pub data Received : Type 0 where
+  Gives : (comes : Outcome) → Received
+  Shows : (header : Header) → Received
+  Unexpected : Received
 
-abbrev pub sent_ended : Done → Told
-sent_ended done.Defined = Tells outcome.Defined
-sent_ended (done.Changed count) = Tells (outcome.Changed count)
-sent_ended (done.Answered count) = Stray
+abbrev pub sent_ended : Done → Received
+sent_ended done.Defined = Gives outcome.Defined
+sent_ended (done.Changed count) = Gives (outcome.Changed count)
+sent_ended (done.Answered count) = Unexpected
 
--- after Execute a Refused, the end of a definition or a change, or Columns is awaited
-abbrev pub answered : Session → Reply → Told
+-- after Execute a Refused, the end of a definition or a change, or Columns is expected
+abbrev pub answered : Session → Reply → Received
 answered Sent (reply.Columns header) = Shows header
 answered Sent (reply.Ended d) = sent_ended d
-answered Sent (reply.Refused f) = Tells (outcome.Refused f)
-answered Sent (reply.Row atoms) = Stray
-answered Sent (reply.Described description) = Stray
-answered other r = Stray
+answered Sent (reply.Refused f) = Gives (outcome.Refused f)
+answered Sent (reply.Row atoms) = Unexpected
+answered Sent (reply.Described description) = Unexpected
+answered other r = Unexpected
 
 -- ---- its rows
 
@@ -162,7 +162,7 @@ abbrev pub row_read : List ColumnType → List (Option Keys) → ℕ → Result 
 row_read columns keys count (Ok values) = record { answer = answer.Row values; after = Reading columns keys count }
 row_read columns keys count (Err f) = record { answer = answer.Failed f; after = Skipping columns count }
 
--- after Columns a Row with one atom for each column is awaited, or the end with the number of rows that came; None stands for a reply that isn't
+-- after Columns a Row with one atom for each column is expected, or the end with the number of rows that came; None stands for a reply that isn't
 abbrev pub next_row : Session → Reply → Option (Turn RowAnswer)
 next_row (Reading columns keys count) (reply.Row atoms) =
     if is_row_of columns atoms then Some (row_read columns keys (count + 1) (read_atoms (count + 1) 1 columns keys atoms)) else None

@@ -1,4 +1,4 @@
--- The turns of a session: a whole batch, half a batch, and the execution of what is pending.
+-- The turns of a session: a whole batch, half a batch, and the execution of a pending batch.
 use Rattle.std.specs.Prelude.{ℕ, List, [], ◌∷◌, Option, Some, None, Result, Ok, Err, Bool, true, false}
 use Rattle.ae_base.specs.Atoms.{plain_atom}
 use Rattle.ae_base.specs.declared.atoms.AtomOf.{AtomOf}
@@ -44,7 +44,7 @@ each_on one (x ∷ xs) k fails = one x (λ y. each_on one xs (λ ys. k (y ∷ ys
 
 -- a key is opened, by those of its values whose path is trusted
 abbrev pub opening_by : List (List ℕ) → KeyMeta → (Result Keys DriverFault → Talk) → Talk
-opening_by trusted meta rest = on_result (λ told. Opens told rest) (λ f. rest (Err f)) (trusted_meta trusted meta)
+opening_by trusted meta rest = on_result (λ known. Opens known rest) (λ f. rest (Err f)) (trusted_meta trusted meta)
 
 abbrev pub opening_one : List (List ℕ) → List KeyMeta → Enc → (Option Keys → Talk) → (DriverFault → Talk) → Talk
 opening_one trusted metas enc.Plain k fails = k None

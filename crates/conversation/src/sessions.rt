@@ -3,7 +3,7 @@
 ghost use Rattle.std.specs.Prelude.{◌≡◌, ◌≤◌, IfOk, MatchOption, None, Some, length, encode_utf8_all};
 ghost use Rattle.ae_base.specs.Batches.{first_unfit};
 ghost use Rattle.conversation.specs.Batches.{fit_batch, why_unfit};
-ghost use Rattle.conversation.specs.Pending as told;
+ghost use Rattle.conversation.specs.Pending as pendings;
 
 use crate::faults::DriverFault;
 use ae_base::batches::{Batch, Param};
@@ -92,9 +92,9 @@ pub struct Pending {
 }
 
 impl Model for Pending {
-    ghost use Rattle.conversation.specs.Pending as told;
+    ghost use Rattle.conversation.specs.Pending as pendings;
 
-    ghost Value = { told.Pending };
+    ghost Value = { pendings.Pending };
 
     ghost view = { λ p. record {
       batch = p.batch;
@@ -103,14 +103,14 @@ impl Model for Pending {
       encs = p.encs;
     } };
 
-    ghost invariant = { λ p. told.IsPending
+    ghost invariant = { λ p. pendings.IsPending
         (record { batch = p.batch; version = p.version; keys = p.keys; encs = p.encs }) };
 }
 
 impl Pending {
     /// The batch as it is described.
     pub fn new(batch: FitBatch, version: u64, keys: Seq<KeyMeta>, encs: Seq<Option<Enc>>) -> Pending
-        requires { told.IsPending
+        requires { pendings.IsPending
             (record { batch = batch; version = version; keys = keys; encs = encs }) }
         ensures { result ≡ record { batch = batch; version = version; keys = keys; encs = encs } }
     {
@@ -125,7 +125,7 @@ impl Pending {
     /// The declared parameters.
     pub fn params(&self) -> &[Param]
         ensures params { result.now ≡ self.now.batch.params }
-        ensures pending { told.IsPending self.now }
+        ensures pending { pendings.IsPending self.now }
     {
         self.batch.as_batch().params.as_slice()
     }
@@ -171,19 +171,19 @@ pub struct ColumnType {
 pub enum Session {
     /// Nothing.
     Idle,
-    /// A batch whose description is awaited.
+    /// A batch whose description is expected.
     Begun(FitBatch),
     /// A described batch.
     Pending(Pending),
-    /// A batch that is executed, whose answer is awaited.
+    /// A batch that is executed, whose answer is expected.
     Sent,
-    /// An answer whose rows are read, so many so far, with the keys of its columns.
+    /// An answer whose rows are read, with the number of rows so far, and the keys of its columns.
     Reading {
         columns: Seq<ColumnType>,
         keys: Seq<Option<CellKeys>>,
         count: u64,
     },
-    /// An answer whose rows are skipped, so many so far.
+    /// An answer whose rows are skipped, with the number of rows so far.
     Skipping {
         columns: Seq<ColumnType>,
         count: u64,

@@ -180,7 +180,7 @@ fn refuses_and_misses(rt: HostRuntime) -> Result<(), Fail> {
     Ok(())
 }
 
-// Whether the key of the vector opens by its second value, where its first one's path isn't there.
+// Whether the key of the vector opens by its second value, where its first one's path doesn't exist.
 fn opens_by_the_second(client: &mut Client, alloc: Global) -> bool {
     match meta_of_two(alloc, ("gone", &WRAPPED), ("main", &WRAPPED)) {
         Some(meta) => is_key(client.enc_key(&meta), &ENC_KEY),

@@ -14,11 +14,11 @@ get_or_left (x ∷ xs) ys zero less = refl
 get_or_left (x ∷ xs) ys (suc i) less = get_or_left xs ys i (omega arith)
 
 module _ (file bytes : List ℕ) (at : ℕ) (inside : at ≤ length file) where
-  front : length (take at file) ≡ at
-  front = length-take-le at file inside
+  prefix : length (take at file) ≡ at
+  prefix = length-take-le at file inside
 
   middle : length (take at file ++ bytes) ≡ at + length bytes
-  middle = length-append (take at file) bytes ∙ ap (λ n. n + length bytes) front
+  middle = length-append (take at file) bytes ∙ ap (λ n. n + length bytes) prefix
 
   pub length-written : length (written file at bytes) ≡ max (length file) (at + length bytes)
   length-written = omega (arith, length-append (take at file ++ bytes) (drop (at + length bytes) file), length-drop (at + length bytes) file, middle)
@@ -26,7 +26,7 @@ module _ (file bytes : List ℕ) (at : ℕ) (inside : at ≤ length file) where
   before_written : (i : ℕ) → i < at → get_or (written file at bytes) i 0 ≡ get_or file i 0
   before_written i less =
       get_or_left (take at file ++ bytes) (drop (at + length bytes) file) i (omega (arith, middle))
-      ∙ get_or_left (take at file) bytes i (omega (arith, front))
+      ∙ get_or_left (take at file) bytes i (omega (arith, prefix))
       ∙ get_or-take at file i 0 less
 
   behind_written : (i : ℕ) → at + length bytes ≤ i → get_or (written file at bytes) i 0 ≡ get_or file i 0

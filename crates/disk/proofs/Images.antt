@@ -31,7 +31,7 @@ torn_before file at count image inside torn =
     ∙ torn.kept k (omega arith) (All-cons (IsSpared k) (Range at count) [] (inl k_less) (All-nil (IsSpared k)))
     ∙ sym (get_or-take at file k 0 k_less))
 
--- and behind one that lies inside the file too
+-- and after one that lies inside the file too
 pub torn_behind : (file : List ℕ) (at count : ℕ) (image : List ℕ) → at + count ≤ length file → Torn file (Range at count) image → drop (at + count) image ≡ drop (at + count) file
 torn_behind file at count image inside torn =
     let same : length image ≡ length file = omega (arith, torn.no_shorter, torn.no_longer) in
@@ -45,7 +45,7 @@ torn_behind file at count image inside torn =
 pub torn_length : (file : List ℕ) (at count : ℕ) (image : List ℕ) → at + count ≤ length file → Torn file (Range at count) image → length image ≡ length file
 torn_length file at count image inside torn = omega (arith, torn.no_shorter, torn.no_longer)
 
--- before the place of a cut stands what stood there
+-- before the offset of a cut stands what stood there
 pub cut_before : (file : List ℕ) (len : ℕ) (image : List ℕ) → len ≤ length file → Torn file (Length len) image → take len image ≡ take len file
 cut_before file len image inside torn =
     let here : length (take len image) ≡ len = length-take-le len image (omega (arith, torn.no_shorter)) in

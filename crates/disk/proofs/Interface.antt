@@ -1,7 +1,7 @@
 -- What crates above may cite of the proofs of this one. The rest is free to change.
 
 -- Where contents are told and something is known of them before.
-pub use Rattle.disk.proofs.Told.{told_after, told_from, told_from_then}
+pub use Rattle.disk.proofs.Exposed.{exposed_after, exposed_from, exposed_from_then}
 -- What a crash leaves of a file, as equations of lists.
 pub use Rattle.disk.proofs.Images.{cut_before, kept_only, torn_before, torn_behind}
 pub use Rattle.disk.proofs.Images.{torn_length, torn_same}

@@ -5,4 +5,4 @@ mod MadeCalls
 mod Moments
 mod Noting
 mod Syncing
-mod Told
+mod Exposed

@@ -13,7 +13,7 @@ use Rattle.disk.specs.declared.mem_disk.Noted.TheVariants as noted
 use Rattle.disk.proofs.Images.{kept_image}
 use Rattle.disk.proofs.DiskImages.{image_written, image_cut, image_asked, moments_more, passes}
 
--- what is asked of the place of a call
+-- what is asked of the offset of a call
 abbrev pub IsInside : DiskCall → Stand → Type 0
 IsInside Size stand = Unit {0}
 IsInside (Read at max) stand = Unit {0}
@@ -69,8 +69,8 @@ module _ (first : List ℕ) (log later : LogState) (call : DiskCall) (bytes : Li
         subst (λ (m : Moments). (m.now.seen ≡ bytes) × IsImage m.now bytes) (sym failed_is)
         (tried_seen call before ∙ order.0, subst (λ (w : List ℕ). IsImage (tried call before) w) order.0 (tried_image call before (seen_image first log.made bytes order)))
 
-    pub passes_failed : (P : Stand → Stand → Type 0) (told : Moments) → told ≡ moments_of first log.made → P before (tried call before) → Passes P told (moments_of first later.made)
-    passes_failed P told t p =
+    pub passes_failed : (P : Stand → Stand → Type 0) (exposed : Moments) → exposed ≡ moments_of first log.made → P before (tried call before) → Passes P exposed (moments_of first later.made)
+    passes_failed P exposed t p =
         let was = seen_image first log.made bytes order in
         let is : IsImage (tried call before) (tried call before).seen = subst (λ (w : List ℕ). IsImage (tried call before) w) (sym (tried_seen call before)) (tried_image call before was) in
         rw (t, failed_is) (passes P (moments_of first log.made) (tried call before) p was is)
@@ -85,8 +85,8 @@ module _ (first : List ℕ) (log later : LogState) (call : DiskCall) (bytes : Li
         subst (λ (m : Moments). (m.now.seen ≡ next) × IsImage m.now next) (sym done_is)
         (is, subst (λ (w : List ℕ). IsImage (done call before) w) is (done_image call before inside (seen_image first log.made bytes order)))
 
-    pub passes_done : (P : Stand → Stand → Type 0) (told : Moments) → told ≡ moments_of first log.made → P before (done call before) → Passes P told (moments_of first later.made)
-    passes_done P told t p =
+    pub passes_done : (P : Stand → Stand → Type 0) (exposed : Moments) → exposed ≡ moments_of first log.made → P before (done call before) → Passes P exposed (moments_of first later.made)
+    passes_done P exposed t p =
         let was = seen_image first log.made bytes order in
         rw (t, done_is) (passes P (moments_of first log.made) (done call before) p was (done_image call before inside was))
 
@@ -95,8 +95,8 @@ module _ (first : List ℕ) (log later : LogState) (call : DiskCall) (bytes : Li
     pub order_unnoted : IsInOrder first later.made bytes
     order_unnoted = subst (λ (m : List MadeCall). IsInOrder first m bytes) (sym (ap (λ (l : LogState). l.made) n)) order
 
-    pub unnoted : (told : Moments) → told ≡ moments_of first log.made → moments_of first later.made ≡ told
-    unnoted told t = ap (λ (l : LogState). moments_of first l.made) n ∙ sym t
+    pub unnoted : (exposed : Moments) → exposed ≡ moments_of first log.made → moments_of first later.made ≡ exposed
+    unnoted exposed t = ap (λ (l : LogState). moments_of first l.made) n ∙ sym t
 
   -- a call that leaves what reads give, whatever came of it
   pub order_noted : (result : Noted) → Notes result call log later → IsInside call before → (done call before).seen ≡ before.seen → IsInOrder first later.made bytes

@@ -6,7 +6,7 @@ use Rattle.disk.specs.declared.mem_disk.Noted.TheVariants as noted
 
 -- the disk, by the file that it had at first and its log
 abbrev pub disk_of : List ℕ → LogState → DiskState
-disk_of first log = record { first = first; made = log.made; told = moments_of first log.made; calls = log.calls }
+disk_of first log = record { first = first; made = log.made; exposed = moments_of first log.made; calls = log.calls }
 
 module _ (first : List ℕ) (log later : LogState) (call : DiskCall) (old : DiskState) (is : disk_of first log ≡ old) where
   pub has_made : Notes noted.Succeeds call log later → HasMade call old (disk_of first later)

@@ -9,7 +9,7 @@ use Rattle.disk.specs.Durable.{IsKept, Torn, WritesThrough, CutsThrough, StaysKe
 use Rattle.disk.specs.declared.disks.Given.TheVariants as given
 use Rattle.disk.specs.declared.disks.Stored.{Stored}
 use Rattle.disk.specs.declared.disks.Stored.TheVariants as stored
-use Rattle.disk.proofs.Told.{told_from, told_from_then}
+use Rattle.disk.proofs.Exposed.{exposed_from, exposed_from_then}
 use Rattle.disk.proofs.Images.{kept_only, torn_same}
 use Rattle.disk.proofs.Moments.{leaves_none, leaves_pass, syncs_pass}
 
@@ -80,16 +80,17 @@ write_synced stored.Done at bytes a b c k w y = record { moments = write_moments
 write_synced stored.Failed at bytes a b c k w y = write_moments stored.Failed at bytes a b c k w y
 write_synced stored.OutOfMemory at bytes a b c k w y = write_moments stored.OutOfMemory at bytes a b c k w y
 
-pub write_failed_told : (at : ℕ) (bytes : List ℕ) (a b : Option Moments) → IfSome a IsKept → WhereExposed (Writes stored.Failed at bytes) a b → WhereExposed (WritesThrough stored.Failed at bytes) a b
-write_failed_told at bytes = told_from IsKept (Writes stored.Failed at bytes) (WritesThrough stored.Failed at bytes) (write_failed at bytes)
+pub write_failed_exposed : (at : ℕ) (bytes : List ℕ) (a b : Option Moments) → IfSome a IsKept → WhereExposed (Writes stored.Failed at bytes) a b
+    → WhereExposed (WritesThrough stored.Failed at bytes) a b
+write_failed_exposed at bytes = exposed_from IsKept (Writes stored.Failed at bytes) (WritesThrough stored.Failed at bytes) (write_failed at bytes)
 
-pub write_unasked_told : (at : ℕ) (bytes : List ℕ) (a b : Option Moments) → IfSome a IsKept
+pub write_unasked_exposed : (at : ℕ) (bytes : List ℕ) (a b : Option Moments) → IfSome a IsKept
     → WhereExposed (Writes stored.OutOfMemory at bytes) a b → WhereExposed (WritesThrough stored.OutOfMemory at bytes) a b
-write_unasked_told at bytes = told_from IsKept (Writes stored.OutOfMemory at bytes) (WritesThrough stored.OutOfMemory at bytes) (write_unasked at bytes)
+write_unasked_exposed at bytes = exposed_from IsKept (Writes stored.OutOfMemory at bytes) (WritesThrough stored.OutOfMemory at bytes) (write_unasked at bytes)
 
-pub write_synced_told : (result : Stored) (at : ℕ) (bytes : List ℕ) (a b c : Option Moments) → IfSome a IsKept
+pub write_synced_exposed : (result : Stored) (at : ℕ) (bytes : List ℕ) (a b c : Option Moments) → IfSome a IsKept
     → WhereExposed (Writes stored.Done at bytes) a b → WhereExposed (Syncs result) b c → WhereExposed (WritesThrough result at bytes) a c
-write_synced_told result at bytes = told_from_then IsKept (Writes stored.Done at bytes) (Syncs result) (WritesThrough result at bytes) (write_synced result at bytes)
+write_synced_exposed result at bytes = exposed_from_then IsKept (Writes stored.Done at bytes) (Syncs result) (WritesThrough result at bytes) (write_synced result at bytes)
 
 -- ---- a cut
 
@@ -111,15 +112,15 @@ cut_synced stored.Done len a b c k w y = record { moments = cut_moments stored.D
 cut_synced stored.Failed len a b c k w y = cut_moments stored.Failed len a b c k w y
 cut_synced stored.OutOfMemory len a b c k w y = cut_moments stored.OutOfMemory len a b c k w y
 
-pub cut_failed_told : (len : ℕ) (a b : Option Moments) → IfSome a IsKept → WhereExposed (Cuts stored.Failed len) a b → WhereExposed (CutsThrough stored.Failed len) a b
-cut_failed_told len = told_from IsKept (Cuts stored.Failed len) (CutsThrough stored.Failed len) (cut_failed len)
+pub cut_failed_exposed : (len : ℕ) (a b : Option Moments) → IfSome a IsKept → WhereExposed (Cuts stored.Failed len) a b → WhereExposed (CutsThrough stored.Failed len) a b
+cut_failed_exposed len = exposed_from IsKept (Cuts stored.Failed len) (CutsThrough stored.Failed len) (cut_failed len)
 
-pub cut_unasked_told : (len : ℕ) (a b : Option Moments) → IfSome a IsKept → WhereExposed (Cuts stored.OutOfMemory len) a b → WhereExposed (CutsThrough stored.OutOfMemory len) a b
-cut_unasked_told len = told_from IsKept (Cuts stored.OutOfMemory len) (CutsThrough stored.OutOfMemory len) (cut_unasked len)
+pub cut_unasked_exposed : (len : ℕ) (a b : Option Moments) → IfSome a IsKept → WhereExposed (Cuts stored.OutOfMemory len) a b → WhereExposed (CutsThrough stored.OutOfMemory len) a b
+cut_unasked_exposed len = exposed_from IsKept (Cuts stored.OutOfMemory len) (CutsThrough stored.OutOfMemory len) (cut_unasked len)
 
-pub cut_synced_told : (result : Stored) (len : ℕ) (a b c : Option Moments) → IfSome a IsKept
+pub cut_synced_exposed : (result : Stored) (len : ℕ) (a b c : Option Moments) → IfSome a IsKept
     → WhereExposed (Cuts stored.Done len) a b → WhereExposed (Syncs result) b c → WhereExposed (CutsThrough result len) a c
-cut_synced_told result len = told_from_then IsKept (Cuts stored.Done len) (Syncs result) (CutsThrough result len) (cut_synced result len)
+cut_synced_exposed result len = exposed_from_then IsKept (Cuts stored.Done len) (Syncs result) (CutsThrough result len) (cut_synced result len)
 
 -- ---- a sync alone
 

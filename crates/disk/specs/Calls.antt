@@ -1,4 +1,4 @@
--- What each call on a disk answers, and how the disk stands after it.
+-- What each call on a disk answers, and the state of the disk after it.
 use Rattle.std.specs.Prelude.{◌≡◌, ℕ, ◌+◌, ◌<◌, ◌≤◌, List, ◌∷◌, ◌++◌, length, take, drop}
 use Rattle.ae_edge.specs.Devices.{Rose, Stays}
 use Rattle.disk.specs.Crashes.{Asked, Range, Length, Stand, kept}
@@ -27,7 +27,7 @@ Measures measured.OutOfMemory old new = new ≡ old
 
 -- ---- a read
 
--- the next bytes from a place on: at least one inside the file, and none past it
+-- the next bytes from an offset on: at least one inside the file, and none past it
 pub record IsPart (at : ℕ) (bytes file : List ℕ) : Type 0 where
   pub is : bytes ≡ take (length bytes) (drop at file)
   pub some : at < length file → 0 < length bytes
@@ -45,7 +45,7 @@ IsWithin max given.OutOfMemory = Unit {0}
 
 -- ---- a write
 
--- a file with these bytes at a place
+-- a file with these bytes at an offset
 abbrev pub written : List ℕ → ℕ → List ℕ → List ℕ
 written file at bytes = take at file ++ bytes ++ drop (at + length bytes) file
 

@@ -1,8 +1,8 @@
--- How a disk with one file stands, and what a crash may leave of the file.
+-- The state of a disk with one file, and what a crash may leave of the file.
 use Rattle.std.specs.Prelude.{◌≡◌, ◌⊎◌, ℕ, ◌+◌, ◌<◌, ◌≤◌, max, min, List, [], ◌∷◌, length, get_or}
 use Rattle.std.specs.List.{All}
 
--- what was asked of a disk since its last sync: a write of so many bytes at a place, or a cut to a length
+-- what was asked of a disk since its last sync: a write of so many bytes at an offset, or a cut to a length
 pub data Asked : Type 0 where
   Range : (at count : ℕ) → Asked
   Length : (len : ℕ) → Asked
@@ -14,7 +14,7 @@ pub record Stand : Type 0 where
   pub synced : List ℕ
   pub asked : List Asked
 
--- the place lies outside of the range; a cut has none
+-- the offset lies outside of the range; a cut has none
 abbrev pub IsSpared : ℕ → Asked → Type 0
 IsSpared i (Range at count) = (i < at) ⊎ (at + count ≤ i)
 IsSpared i (Length len) = Unit {0}
@@ -32,7 +32,7 @@ most_length len (Range at count ∷ asked) = max (at + count) (most_length len a
 most_length len (Length cut ∷ asked) = most_length len asked
 
 -- What a crash may leave. Each range that was asked for may hold any bytes. Of what is past the old end, or was cut away, any
--- part from its front may be there, with any bytes in it. All other bytes stay.
+-- part from its start may be there, with any bytes in it. All other bytes stay.
 pub record IsImage (stand : Stand) (image : List ℕ) : Type 0 where
   pub no_shorter : least_length (length stand.synced) stand.asked ≤ length image
   pub no_longer : length image ≤ most_length (length stand.synced) stand.asked

@@ -54,7 +54,7 @@ pub record LogState : Type 0 where
   pub made : List MadeCall
   pub calls : CallState
 
--- a call was noted, and fails exactly where it is a listed one; without memory it is none
+-- a call was noted, and fails exactly where it is a listed one; out of memory it is none
 abbrev pub Notes : Noted → DiskCall → LogState → LogState → Type 0
 Notes noted.Succeeds call old new =
     (¬ IsListed old.calls) × (new ≡ record { made = old.made ++ record { call = call; failed = false } ∷ []; calls = after_call old.calls false })
@@ -66,18 +66,18 @@ Notes noted.OutOfMemory call old new = new ≡ record { made = old.made; calls =
 pub record DiskState : Type 0 where
   pub first : List ℕ
   pub made : List MadeCall
-  pub told : Moments
+  pub exposed : Moments
   pub calls : CallState
 
 abbrev pub fresh_disk : List ℕ → List ℕ → DiskState
-fresh_disk file failing = record { first = file; made = []; told = record { past = []; now = kept file }; calls = fresh failing }
+fresh_disk file failing = record { first = file; made = []; exposed = record { past = []; now = kept file }; calls = fresh failing }
 
 -- one call more was made
 abbrev pub after_making : DiskCall → Bool → DiskState → DiskState
 after_making call failed disk = record {
   first = disk.first;
   made = disk.made ++ record { call = call; failed = failed } ∷ [];
-  told = moments_of disk.first (disk.made ++ record { call = call; failed = failed } ∷ []);
+  exposed = moments_of disk.first (disk.made ++ record { call = call; failed = failed } ∷ []);
   calls = after_call disk.calls failed;
 }
 
@@ -89,7 +89,7 @@ HasMade call old new = (¬ IsListed old.calls) × (new ≡ after_making call fal
 abbrev pub HasFailed : DiskCall → DiskState → DiskState → Type 0
 HasFailed call old new = IsListed old.calls × (new ≡ after_making call true old)
 
--- without memory no call was made; at most its number was used up
+-- out of memory no call was made; at most its number was used up
 abbrev pub IsUnmade : DiskState → DiskState → Type 0
 IsUnmade old new = (new ≡ old) ⊎ (new ≡ record old { calls = after_call old.calls false })
 

@@ -28,7 +28,7 @@ pub enum Given {
     OutOfMemory,
 }
 
-/// What a call that changes the file answers, or one that syncs.
+/// The result of a call that changes the file, or of one that syncs.
 #[derive(Clone, Copy, PartialEq, Eq, Debug)]
 pub enum Stored {
     Done,
@@ -40,8 +40,8 @@ pub enum Stored {
 /// A disk with one file. A call that answers `OutOfMemory` has done nothing. After `Failed` reads
 /// may give any of the images that a crash may leave.
 pub trait Disk {
-    /// What is seen of it. Its content is how it has stood at each moment, and how it stands now.
-    /// Each call that has its memory is one moment more.
+    /// What contracts see of it. Its content is how it was at each moment, and how it is now. Each
+    /// call that has its memory is one moment more.
     ghost seen: { Self → Device Moments };
 
     /// The length of the file in bytes.
@@ -49,22 +49,22 @@ pub trait Disk {
         ensures { Calls (WhereExposed (Measures result)) (CountsMeasured result)
             (seen self.old) (seen self.new) };
 
-    /// The bytes from a place on, at most `max`: none only at the end of the file or past it.
+    /// The bytes from an offset on, at most `max`: none only at the end of the file or past it.
     fn read(&mut self, alloc: Global, at: u64, max: usize) -> Given
         requires { 1 ≤ max }
         ensures piece { IsWithin max result }
         ensures call { Calls (WhereExposed (Gives at result)) (CountsGiven result)
             (seen self.old) (seen self.new) };
 
-    /// Puts bytes at a place, which is at most the end of the file. Until a sync a crash may leave
-    /// any bytes there.
+    /// Puts bytes at an offset, which is at most the end of the file. Until a sync a crash may
+    /// leave any bytes there.
     fn write(&mut self, at: u64, bytes: &[u8]) -> Stored
         requires inside { IfSome (seen self.old).content (λ disk. at ≤ length disk.now.seen) }
         requires end { at + length bytes.now < 2 ^ 64 }
         ensures { Calls (WhereExposed (Writes result at bytes.now)) (CountsStored result)
             (seen self.old) (seen self.new) };
 
-    /// Cuts the file to a length. Until a sync a crash may leave any part of what was cut away.
+    /// Cuts the file to a length. Until a sync a crash may leave any part of the bytes cut away.
     fn cut(&mut self, len: u64) -> Stored
         requires inside { IfSome (seen self.old).content (λ disk. len ≤ length disk.now.seen) }
         ensures { Calls (WhereExposed (Cuts result len)) (CountsStored result)
@@ -76,7 +76,7 @@ pub trait Disk {
             (seen self.old) (seen self.new) };
 }
 
-/// One that is lent.
+/// A borrowed disk.
 impl<D: Disk> Disk for &mut D {
     ghost seen = { λ d. lent (D.seen d.now) d.ghost_name };
 

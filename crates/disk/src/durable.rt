@@ -7,7 +7,7 @@ ghost use Rattle.disk.specs.Durable.{CutsThrough, IsKept, WritesThrough};
 
 use crate::disks::{Disk, Stored};
 
-/// Puts bytes at a place of a file that is on the disk, and syncs.
+/// Puts bytes at an offset of a file that is on the disk, and syncs.
 pub fn write_through<D: Disk>(disk: &mut D, at: u64, bytes: &[u8]) -> Stored
     requires kept { IfSome (D.seen disk.old).content IsKept }
     requires inside { IfSome (D.seen disk.old).content (λ d. at ≤ length d.now.seen) }

@@ -17,10 +17,10 @@ use std::io::{ErrorKind, Read, Seek, SeekFrom, Write};
 use std::os::unix::fs::MetadataExt;
 use std::path::Path;
 
-/// A file of std as a disk. It is opened at the first call, and made where it isn't there; a link
-/// to a file that isn't there is refused. From then on it is held, and a file that is held
-/// elsewhere isn't opened, nor one whose name was given to another file meanwhile. It doesn't tell
-/// what it holds: that such a file is a disk is trusted.
+/// A file of std as a disk. It is opened at the first call, and made if it doesn't exist; a link to
+/// a file that doesn't exist is refused. From then on it is locked, and a file that is locked
+/// elsewhere isn't opened, nor one whose name was given to another file meanwhile. It doesn't
+/// expose its content: that such a file is a disk is trusted.
 #[derive(Drop)]
 pub struct FileDisk<'a, R: LockedFiles> {
     files: R,
@@ -37,7 +37,7 @@ fn folder_of(path: &str) -> &str {
     }
 }
 
-/// Opens a file for reads and writes, and makes it where its name isn't there.
+/// Opens a file for reads and writes, and makes it if it doesn't exist.
 fn opened_or_made<R: LockedFiles>(files: &R, path: &str) -> io::Result<R::File> {
     let mut options = OpenOptions::new();
     options.read(true).write(true);
@@ -69,7 +69,7 @@ fn opened<R: LockedFiles>(files: &R, path: &str) -> io::Result<R::File> {
     Ok(file)
 }
 
-/// Goes to a place, and says whether it lies inside the file.
+/// Goes to an offset, and says whether it lies inside the file.
 fn seek_inside<F: Seek>(file: &mut F, at: u64) -> io::Result<bool> {
     if at >= file.seek(SeekFrom::End(0))? {
         return Ok(false);
@@ -78,7 +78,7 @@ fn seek_inside<F: Seek>(file: &mut F, at: u64) -> io::Result<bool> {
     Ok(true)
 }
 
-/// Reads once from a place on. Where nothing comes inside the file, the call has failed.
+/// Reads once from an offset on. Where nothing comes inside the file, the call has failed.
 fn read_at<F: Read + Seek + Drop>(file: &mut F, alloc: Global, at: u64, max: usize) -> Taken
     requires { 1 ≤ max }
     ensures { IsPiece max result }
@@ -94,7 +94,7 @@ fn read_at<F: Read + Seek + Drop>(file: &mut F, alloc: Global, at: u64, max: usi
     }
 }
 
-/// Writes all of some bytes at a place.
+/// Writes all of some bytes at an offset.
 fn write_at<F: Write + Seek>(file: &mut F, at: u64, bytes: &[u8]) -> io::Result<()> {
     file.seek(SeekFrom::Start(at))?;
     file.write_all(bytes)

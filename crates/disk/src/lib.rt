@@ -1,5 +1,5 @@
 //! A disk with one file: what each call does, and what a crash at any moment may leave. In memory,
-//! where that is told, and over a file of std, where it isn't.
+//! where its content is exposed, and over a file of std, where it isn't.
 #![tactic(auto)]
 
 pub mod disks;

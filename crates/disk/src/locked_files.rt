@@ -1,10 +1,10 @@
-//! Files, each of which one program at a time holds.
+//! Files that one program at a time has locked.
 
 use std::fs::File;
 use std::io;
 use std::rt::{Files, HostRuntime};
 
-/// Files, each of which one program at a time holds.
+/// Files that one program at a time has locked.
 pub trait LockedFiles: Files {
     /// Holds an open file for as long as it is open: any end of the program lets go of it. Fails if
     /// the file is open elsewhere and held there.

@@ -1,7 +1,7 @@
-//! A disk in memory, which tells what it holds.
+//! A disk in memory, which exposes its content.
 
 ghost use Rattle.std.specs.Prelude.{◌≡◌, ◌≤◌, ◌<◌, ◌+◌, ◌^◌, [], length, IfOk};
-ghost use Rattle.ae_edge.specs.Devices.{telling};
+ghost use Rattle.ae_edge.specs.Devices.{exposing};
 ghost use Rattle.ae_edge.specs.Memory.{IsListed, fresh};
 ghost use Rattle.disk.specs.Calls.{CountsGiven, CountsMeasured, CountsStored, Cuts, Gives, IsWithin, Measures, Syncs, Writes, written};
 ghost use Rattle.disk.specs.DiskCalls.{MemGives, MemMeasures, MemStores, Notes, fresh_disk};
@@ -18,9 +18,9 @@ use std::marker::Model;
 #[derive(Drop)]
 pub enum DiskCall {
     Size,
-    /// Bytes from a place on, at most so many.
+    /// Bytes from an offset on, at most this many.
     Read(u64, usize),
-    /// Bytes at a place.
+    /// Bytes at an offset.
     Write(u64, Blob),
     /// A cut to a length.
     Cut(u64),
@@ -121,7 +121,7 @@ impl Model for MemDisk {
     ghost view = { λ d. record {
       first = d.first.items;
       made = d.log.made;
-      told = moments_of d.first.items d.log.made;
+      exposed = moments_of d.first.items d.log.made;
       calls = d.log.calls;
     } };
 
@@ -144,7 +144,7 @@ impl MemDisk {
 
     /// What reads give.
     pub fn bytes(&self) -> &[u8]
-        ensures { result.now ≡ self.now.told.now.seen }
+        ensures { result.now ≡ self.now.exposed.now.seen }
     {
         self.bytes.as_slice()
     }
@@ -157,7 +157,7 @@ impl MemDisk {
     }
 }
 
-/// A file with these bytes at a place.
+/// A file with these bytes at an offset.
 fn with_bytes(alloc: Global, file: &[u8], at: usize, bytes: &[u8]) -> Result<Vec<u8>, AllocError>
     requires { at ≤ length file.now }
     ensures { IfOk result (λ all. all.items ≡ written file.now at bytes.now) }
@@ -171,10 +171,10 @@ fn with_bytes(alloc: Global, file: &[u8], at: usize, bytes: &[u8]) -> Result<Vec
 }
 
 impl Disk for MemDisk {
-    ghost seen = { λ d. telling d.told d.calls.faults };
+    ghost seen = { λ d. exposing d.exposed d.calls.faults };
 
     fn size(&mut self) -> Measured
-        ensures content { Measures result self.old.told self.new.told }
+        ensures content { Measures result self.old.exposed self.new.exposed }
         ensures count { self.old.calls.faults ≤ self.new.calls.faults }
         ensures counts { CountsMeasured result self.old.calls.faults self.new.calls.faults }
         ensures listed { result ≡ Measured.Failed → IsListed self.old.calls }
@@ -190,7 +190,7 @@ impl Disk for MemDisk {
     fn read(&mut self, alloc: Global, at: u64, max: usize) -> Given
         requires { 1 ≤ max }
         ensures piece { IsWithin max result }
-        ensures content { Gives at result self.old.told self.new.told }
+        ensures content { Gives at result self.old.exposed self.new.exposed }
         ensures count { self.old.calls.faults ≤ self.new.calls.faults }
         ensures counts { CountsGiven result self.old.calls.faults self.new.calls.faults }
         ensures listed { result ≡ Given.Failed → IsListed self.old.calls }
@@ -209,9 +209,9 @@ impl Disk for MemDisk {
     }
 
     fn write(&mut self, at: u64, bytes: &[u8]) -> Stored
-        requires inside { at ≤ length self.old.told.now.seen }
+        requires inside { at ≤ length self.old.exposed.now.seen }
         requires end { at + length bytes.now < 2 ^ 64 }
-        ensures content { Writes result at bytes.now self.old.told self.new.told }
+        ensures content { Writes result at bytes.now self.old.exposed self.new.exposed }
         ensures count { self.old.calls.faults ≤ self.new.calls.faults }
         ensures counts { CountsStored result self.old.calls.faults self.new.calls.faults }
         ensures listed { result ≡ Stored.Failed → IsListed self.old.calls }
@@ -235,8 +235,8 @@ impl Disk for MemDisk {
     }
 
     fn cut(&mut self, len: u64) -> Stored
-        requires inside { len ≤ length self.old.told.now.seen }
-        ensures content { Cuts result len self.old.told self.new.told }
+        requires inside { len ≤ length self.old.exposed.now.seen }
+        ensures content { Cuts result len self.old.exposed self.new.exposed }
         ensures count { self.old.calls.faults ≤ self.new.calls.faults }
         ensures counts { CountsStored result self.old.calls.faults self.new.calls.faults }
         ensures listed { result ≡ Stored.Failed → IsListed self.old.calls }
@@ -254,7 +254,7 @@ impl Disk for MemDisk {
     }
 
     fn sync(&mut self) -> Stored
-        ensures content { Syncs result self.old.told self.new.told }
+        ensures content { Syncs result self.old.exposed self.new.exposed }
         ensures count { self.old.calls.faults ≤ self.new.calls.faults }
         ensures counts { CountsStored result self.old.calls.faults self.new.calls.faults }
         ensures listed { result ≡ Stored.Failed → IsListed self.old.calls }

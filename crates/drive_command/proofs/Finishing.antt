@@ -8,8 +8,8 @@ use Rattle.wire_encoding.specs.Packing.{SpellsPayload}
 use Rattle.wire_frames.specs.Frames.{IsNotYet, is_reply_head}
 use Rattle.wire_frames.specs.Laws.{IsReadOnce}
 use Rattle.script_run.specs.Shares.{IsNext, coming_behind}
-use Rattle.script_run.specs.Ways.{HoldsNothing, IsLeft, IsPast, most_stream_bytes}
-use Rattle.drive_command.specs.Holding.{Holding, came, held_more}
+use Rattle.script_run.specs.Progress.{HoldsNothing, IsLeft, IsPast, most_stream_bytes}
+use Rattle.drive_command.specs.Holding.{Holding, total_bytes, held_more}
 use Rattle.script_run.specs.declared.connection.ReplyFault.{ReplyFault}
 use Rattle.script_run.specs.declared.connection.ReplyFault.TheVariants as fault
 use Rattle.drive_command.specs.Reading.{Ends, FinishesReplies, HoldsWithin, Moved, Moves, Pieces, PiecesPast, ReadsMore}
@@ -49,13 +49,13 @@ left_none None (Some y) e = absurd e
 -- ---- a piece
 
 -- it makes the measure smaller
-pub smaller : (b k c : Holding) (l m : Option (List ℕ)) → k ≡ b → Pieces k c l m → 1073741825 - came c < 1073741825 - came b
+pub smaller : (b k c : Holding) (l m : Option (List ℕ)) → k ≡ b → Pieces k c l m → 1073741825 - total_bytes c < 1073741825 - total_bytes b
 smaller b k c l m e p =
     let n = length-append k.held p.1.0 in
-    let long : came c ≡ came k + length p.1.0 = ap came p.1.2.held ∙ omega (arith, n) in
+    let long : total_bytes c ≡ total_bytes k + length p.1.0 = ap total_bytes p.1.2.held ∙ omega (arith, n) in
     let some = p.1.1 in
     let most = p.0 in
-    let same : came k ≡ came b = ap came e in
+    let same : total_bytes k ≡ total_bytes b = ap total_bytes e in
     omega (arith, long, some, most, same)
 
 pub piece_moved : (a b k c : Holding) (l m n : Device (List ℕ)) → k ≡ b → Calls (Moved a b) Stays l m → Calls (Pieces k c) Stays m n → Calls (Moved a c) Stays l n
@@ -66,7 +66,7 @@ piece_moved a b k c l m n e p q =
 pub piece_within : (a k c : Holding) (m n : Device (List ℕ)) → Calls (Pieces k c) Stays m n → HoldsWithin a c
 piece_within a k c m n q = λ w. q.content.0
 
--- ---- the end, where a reply is awaited
+-- ---- the end, where a reply is expected
 
 none_left : (version : FrameVersion) (skipped : ℕ) (held : List ℕ) (left after : Option (List ℕ)) → Ends left after → IsNext version None skipped held
     → IfSome (coming_behind held after) (IsNext version None skipped)

@@ -1,7 +1,7 @@
 -- The columns that a session accepted since its last accepted batch began.
 use Rattle.std.specs.Prelude.{◌≡◌, ℕ, ◌-◌, List, replicate, slice_index_or, slice_set, Some, None, Result, Ok, Err}
 use Rattle.conversation.specs.declared.faults.DriverFault.{DriverFault}
-use Rattle.conversation.specs.Sessions.{Told, Tells, Shows, Stray}
+use Rattle.conversation.specs.Sessions.{Received, Gives, Shows, Unexpected}
 use Rattle.conversation.specs.Turns.{Accepted}
 
 abbrev pub none_accepted : List Accepted
@@ -24,12 +24,12 @@ accepted_begun (Ok (Ok request)) old = None
 accepted_begun (Ok (Err f)) old = old
 accepted_begun (Err e) old = old
 
-abbrev pub accepted_told : Told → Accepted → Accepted
-accepted_told (Shows header) old = Some header.columns
-accepted_told (Tells comes) old = old
-accepted_told Stray old = old
+abbrev pub accepted_received : Received → Accepted → Accepted
+accepted_received (Shows header) old = Some header.columns
+accepted_received (Gives comes) old = old
+accepted_received Unexpected old = old
 
 -- columns are accepted also where their keys can't be opened; what halts leaves what was accepted
-abbrev pub accepted_answered : {A E : Type 0} → Result A E → Told → Accepted → Accepted
-accepted_answered (Ok says) told old = accepted_told told old
-accepted_answered (Err halt) told old = old
+abbrev pub accepted_answered : {A E : Type 0} → Result A E → Received → Accepted → Accepted
+accepted_answered (Ok says) known old = accepted_received known old
+accepted_answered (Err halt) known old = old

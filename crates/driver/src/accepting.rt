@@ -14,7 +14,7 @@ use std::mem;
 use wire_messages::columns::SentColumn;
 use wire_messages::requests::Request;
 
-/// A column that a session accepted, which contracts see as the one that was sent.
+/// A column that a session accepted. Contracts see the column as it was sent.
 pub struct AcceptedColumn {
     title: Title,
     ty: Ty,

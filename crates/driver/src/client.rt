@@ -140,7 +140,7 @@ impl Driver {
         turn.answer
     }
 
-    /// Takes the reply to a session's request to describe a batch. A reply that isn't awaited
+    /// Takes the reply to a session's request to describe a batch. A reply that isn't expected
     /// leaves the driver as it was, as it is left out of memory.
     pub fn described(
         &mut self,
@@ -201,9 +201,9 @@ impl Driver {
         turn.answer
     }
 
-    /// Takes the first reply to a session's request to execute a batch. A reply that isn't awaited
+    /// Takes the first reply to a session's request to execute a batch. A reply that isn't expected
     /// leaves the driver as it was. A vault that fails and out of memory leave the session as it
-    /// was. What is kept of keys changes only where columns are shown, whose keys are opened.
+    /// was. The keys that are kept change only if columns are shown, whose keys are opened.
     pub fn answered<V: Vault>(
         &mut self,
         alloc: Global,
@@ -242,7 +242,7 @@ impl Driver {
         turn.answer
     }
 
-    /// Takes the next reply to a session that reads or skips rows. A reply that isn't awaited
+    /// Takes the next reply to a session that reads or skips rows. A reply that isn't expected
     /// leaves the driver as it was, as it is left out of memory.
     pub fn next_row(
         &mut self,

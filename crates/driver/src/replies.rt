@@ -225,7 +225,7 @@ fn sent_answered<V: Vault>(
 }
 
 /// Takes the first reply to a session's request to execute a batch. No key is opened but at its
-/// columns; with any other reply, awaited or not, the store stays as it is.
+/// columns; with any other reply, expected or not, the store stays as it is.
 pub fn answered<V: Vault>(
     alloc: Global,
     store: &mut KeyStore,
@@ -269,7 +269,7 @@ pub fn answered<V: Vault>(
 }
 
 /// What a row that was read says, and the session after it.
-fn row_told(columns: Seq<ColumnType>, keys: Seq<Option<CellKeys>>, read: RowRead) -> Turn<RowAnswer>
+fn row_turn(columns: Seq<ColumnType>, keys: Seq<Option<CellKeys>>, read: RowRead) -> Turn<RowAnswer>
     ensures { result ≡ held.row_read columns keys read.number read.values }
 {
     let RowRead { number, values } = read;
@@ -308,7 +308,7 @@ fn read_next(
 {
     match next_row(alloc, columns.as_slice(), keys.as_slice(), count, row) {
         Ok(read) => {
-            let turn = row_told(columns, keys, read);
+            let turn = row_turn(columns, keys, read);
             Turn {
                 answer: Ok(turn.answer),
                 after: turn.after,

@@ -174,7 +174,7 @@ fn open_name(batch: &FitBatch, encs: &[Option<Enc>]) -> Result<Option<ParamName>
     }
 }
 
-/// The description is awaited still.
+/// The description is still expected.
 fn waiting(halt: Halt, batch: FitBatch) -> Turn<Result<DescribeAnswer, Halt>>
     ensures { result ≡ record { answer = Err halt; after = Session.Begun batch } }
 {

@@ -4,7 +4,7 @@ ghost use Rattle.std.specs.Prelude.{◌≡◌, IfOk, MatchOption, None, Some, tr
 ghost use Rattle.std.specs.List.{list_any};
 ghost use Rattle.std.specs.Str.{bytes_eq};
 ghost use Rattle.conversation.specs.Keys as held;
-ghost use Rattle.conversation.specs.Sessions as told;
+ghost use Rattle.conversation.specs.Sessions as sessions;
 
 use ae_base::batches::Param;
 use ae_base::key_values::KeyValue;
@@ -16,7 +16,7 @@ use ae_base::types::Enc;
 use conversation::faults::DriverFault;
 use std::alloc::AllocError;
 
-/// Whether a path is among those that are named.
+/// Whether a path is among the named ones.
 fn is_named(named: &[KeyPath], path: &KeyPath) -> bool
     ensures { result ≡ list_any (bytes_eq path.now) named.now }
 {
@@ -40,7 +40,7 @@ fn is_trusted(named: &[KeyPath], path: &KeyPath) -> bool
 
 /// A key with one of its values.
 fn with_value(meta: &KeyMeta, value: &KeyValue) -> Result<KeyMeta, AllocError>
-    ensures { IfOk result (λ told. told
+    ensures { IfOk result (λ known. known
         ≡ record {
           id = meta.now.id;
           name = meta.now.name;
@@ -63,7 +63,7 @@ fn second_alone(
     meta: &KeyMeta,
 ) -> Result<Result<KeyMeta, DriverFault>, AllocError>
     requires { held.is_trusted named.now meta.now.values.first.path ≡ false }
-    ensures { IfOk result (λ told. told ≡ held.trusted_meta named.now meta.now) }
+    ensures { IfOk result (λ known. known ≡ held.trusted_meta named.now meta.now) }
 {
     if let Some(second) = &meta.values.second {
         if is_trusted(named, &second.path) {
@@ -76,7 +76,7 @@ fn second_alone(
 /// A key whose first value is trusted, with its second where that one is too.
 fn first_kept(named: &[KeyPath], meta: &KeyMeta) -> Result<Result<KeyMeta, DriverFault>, AllocError>
     requires { held.is_trusted named.now meta.now.values.first.path ≡ true }
-    ensures { IfOk result (λ told. told ≡ held.trusted_meta named.now meta.now) }
+    ensures { IfOk result (λ known. known ≡ held.trusted_meta named.now meta.now) }
 {
     if let Some(second) = &meta.values.second {
         if is_trusted(named, &second.path) {
@@ -91,7 +91,7 @@ pub(crate) fn trusted_meta(
     named: &[KeyPath],
     meta: &KeyMeta,
 ) -> Result<Result<KeyMeta, DriverFault>, AllocError>
-    ensures { IfOk result (λ told. told ≡ held.trusted_meta named.now meta.now) }
+    ensures { IfOk result (λ known. known ≡ held.trusted_meta named.now meta.now) }
 {
     if is_trusted(named, &meta.values.first.path) {
         first_kept(named, meta)
@@ -102,7 +102,7 @@ pub(crate) fn trusted_meta(
 
 /// Whether a parameter is forced.
 fn is_forced(forced: &[ParamName], param: &Param) -> bool
-    ensures { result ≡ told.is_forced forced.now param.now }
+    ensures { result ≡ sessions.is_forced forced.now param.now }
 {
     for name in forced {
         if param.declaration.name == *name {
@@ -112,9 +112,9 @@ fn is_forced(forced: &[ParamName], param: &Param) -> bool
     false
 }
 
-/// Whether a parameter that is told so is sent as a cell.
+/// Whether a parameter of this description is sent as a cell.
 fn is_sealed(enc: &Option<Enc>) -> bool
-    ensures { result ≡ told.is_sealed enc.now }
+    ensures { result ≡ sessions.is_sealed enc.now }
 {
     match enc {
         None => false,
@@ -126,7 +126,8 @@ fn is_sealed(enc: &Option<Enc>) -> bool
 
 /// Whether a parameter is forced, and would not be sent as a cell.
 fn is_open(forced: &[ParamName], param: &Param, enc: &Option<Enc>) -> bool
-    ensures { result ≡ (told.is_forced forced.now param.now && not (told.is_sealed enc.now)) }
+    ensures { result ≡ (sessions.is_forced forced.now param.now
+        && not (sessions.is_sealed enc.now)) }
 {
     is_forced(forced, param) && !is_sealed(enc)
 }
@@ -138,8 +139,8 @@ pub(crate) fn first_open<'a>(
     encs: &[Option<Enc>],
 ) -> Option<&'a ParamName>
     requires { length encs.now ≡ length params.now }
-    ensures { MatchOption result (told.first_open forced.now params.now encs.now ≡ None)
-        (λ name. told.first_open forced.now params.now encs.now ≡ Some name.now) }
+    ensures { MatchOption result (sessions.first_open forced.now params.now encs.now ≡ None)
+        (λ name. sessions.first_open forced.now params.now encs.now ≡ Some name.now) }
 {
     for i in 0..params.len() {
         if is_open(forced, &params[i], &encs[i]) {

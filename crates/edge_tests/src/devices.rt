@@ -1,6 +1,6 @@
 //! The devices in memory, and their failing calls.
 
-// Devices in memory, and devices that are lent.
+// Devices in memory, and devices that are borrowed.
 
 use ae_base::blobs::Blob;
 use ae_base::texts::Txt;

@@ -12,20 +12,20 @@ use Rattle.enc_types.specs.Clash.{IsFirstClash}
 use Rattle.enc_types.specs.declared.rules.Rule.{Rule}
 use Rattle.enc_types.proofs.Merging.{and_left, and_right, has_typing-Decides}
 
-all_front : (p : Rule → Bool) (xs ys : List Rule) → list_all p (xs ++ ys) ≡ true → list_all p xs ≡ true
-all_front p [] ys h = refl
-all_front p (x ∷ xs) ys h = and_from _ _ (and_left _ _ h) (all_front p xs ys (and_right _ _ h))
+all_prefix : (p : Rule → Bool) (xs ys : List Rule) → list_all p (xs ++ ys) ≡ true → list_all p xs ≡ true
+all_prefix p [] ys h = refl
+all_prefix p (x ∷ xs) ys h = and_from _ _ (and_left _ _ h) (all_prefix p xs ys (and_right _ _ h))
 
 module _ (params : List Ty) (columns : List ColumnSite) where
   abbrev typed : List Rule → Bool
   typed = has_typing params columns
 
   -- a typing of more rules is one of fewer
-  pub front_typing : (xs ys : List Rule) → HasTyping params columns (xs ++ ys) → HasTyping params columns xs
-  front_typing xs ys h = (h.0, record { agrees = h.1.agrees; holding = all_front _ xs ys h.1.holding })
+  pub prefix_typing : (xs ys : List Rule) → HasTyping params columns (xs ++ ys) → HasTyping params columns xs
+  prefix_typing xs ys h = (h.0, record { agrees = h.1.agrees; holding = all_prefix _ xs ys h.1.holding })
 
-  pub front_typed : (xs ys : List Rule) → typed (xs ++ ys) ≡ true → typed xs ≡ true
-  front_typed xs ys h = (has_typing-Decides params columns xs).1 (front_typing xs ys ((has_typing-Decides params columns (xs ++ ys)).0 h))
+  pub prefix_typed : (xs ys : List Rule) → typed (xs ++ ys) ≡ true → typed xs ≡ true
+  prefix_typed xs ys h = (has_typing-Decides params columns xs).1 (prefix_typing xs ys ((has_typing-Decides params columns (xs ++ ys)).0 h))
 
   pub none_typed : typed [] ≡ true
   unfolding has_typing
@@ -54,21 +54,21 @@ module _ (params : List Ty) (columns : List ColumnSite) where
   typed_behind before [] h = nothing_left before
   typed_behind before (rule ∷ rules) h =
       let g : typed ((before ++ rule ∷ []) ++ rules) ≡ true = ap typed (push_append before rule rules) ∙ h in
-      step_typed before rule rules (front_typed (before ++ rule ∷ []) rules g) ∙ typed_behind (before ++ rule ∷ []) rules g
+      step_typed before rule rules (prefix_typed (before ++ rule ∷ []) rules g) ∙ typed_behind (before ++ rule ∷ []) rules g
 
   clash_there : (before middle : List Rule) (rule : Rule) (after : List Rule) → typed (before ++ middle) ≡ true → typed ((before ++ middle) ++ rule ∷ []) ≡ false
       → clash_behind params columns before (middle ++ rule ∷ after) ≡ Some (at_of rule)
   clash_there before [] rule after h k = step_untyped before rule after (ap (λ z. typed (z ++ rule ∷ [])) (sym (append-nil before)) ∙ k)
   clash_there before (x ∷ middle) rule after h k =
       let g : typed ((before ++ x ∷ []) ++ middle) ≡ true = ap typed (push_append before x middle) ∙ h in
-      step_typed before x (middle ++ rule ∷ after) (front_typed (before ++ x ∷ []) middle g)
+      step_typed before x (middle ++ rule ∷ after) (prefix_typed (before ++ x ∷ []) middle g)
       ∙ clash_there (before ++ x ∷ []) middle rule after g (ap (λ z. typed (z ++ rule ∷ [])) (push_append before x middle) ∙ k)
 
   -- rules with a typing don't clash
   pub no_clash : (rules : List Rule) → typed rules ≡ true → clash params columns rules ≡ None
   no_clash rules h = typed_behind [] rules h
 
-  -- rules clash behind the last that have a typing
+  -- rules clash after the last that have a typing
   pub clash_at : (before : List Rule) (rule : Rule) (after : List Rule) → typed before ≡ true → typed (before ++ rule ∷ []) ≡ false
       → clash params columns (before ++ rule ∷ after) ≡ Some (at_of rule)
   clash_at before rule after h k = clash_there [] before rule after h k

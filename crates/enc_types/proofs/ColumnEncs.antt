@@ -19,14 +19,14 @@ there-more : (site : ColumnSite) (columns : List ColumnSite) (enc : Enc) → IsO
 there-more site columns enc (inl e) = inl e
 there-more site columns enc (inr there) = inr (Contains-append_right (site.enc ∷ []) (map (λ site. site.enc) columns) enc there)
 
-enc_at-of : (columns : List ColumnSite) (place : ℕ) → IsOfColumn columns (enc_at columns place)
-enc_at-of [] place = inl refl
+enc_at-of : (columns : List ColumnSite) (ordinal : ℕ) → IsOfColumn columns (enc_at columns ordinal)
+enc_at-of [] ordinal = inl refl
 enc_at-of (site ∷ columns) zero = inr (Contains-append_left (site.enc ∷ []) (map (λ site. site.enc) columns) site.enc (Contains-push [] site.enc))
-enc_at-of (site ∷ columns) (suc place) = there-more site columns (enc_at columns place) (enc_at-of columns place)
+enc_at-of (site ∷ columns) (suc ordinal) = there-more site columns (enc_at columns ordinal) (enc_at-of columns ordinal)
 
 fixed-of : (columns : List ColumnSite) (site : Site) → IsOfColumn columns (unwrap_or (fixed columns site) Plain)
-fixed-of columns (Column place) = enc_at-of columns place
-fixed-of columns (Param place) = inl refl
+fixed-of columns (Column ordinal) = enc_at-of columns ordinal
+fixed-of columns (Param ordinal) = inl refl
 fixed-of columns (Null at) = inl refl
 fixed-of columns Fixed = inl refl
 
@@ -34,13 +34,13 @@ least-of : (columns : List ColumnSite) (rules : List Rule) (site : Site) → IsO
 unfolding least
 least-of columns rules site = fixed-of columns (classes_from (λ s. s) rules site)
 
-encs-length : (typing : Typing) (place : ℕ) (params : List Ty) → length (encs_from typing place params) ≡ length params
-encs-length typing place [] = refl
-encs-length typing place (ty ∷ params) = ap suc (encs-length typing (suc place) params)
+encs-length : (typing : Typing) (ordinal : ℕ) (params : List Ty) → length (encs_from typing ordinal params) ≡ length params
+encs-length typing ordinal [] = refl
+encs-length typing ordinal (ty ∷ params) = ap suc (encs-length typing (suc ordinal) params)
 
-encs-of : (P : Enc → Type 0) (typing : Typing) → ((site : Site) → P (typing site)) → (place : ℕ) (params : List Ty) → All P (encs_from typing place params)
-encs-of P typing one place [] = All-nil P
-encs-of P typing one place (ty ∷ params) = All-cons P (typing (Param place)) (encs_from typing (suc place) params) (one (Param place)) (encs-of P typing one (suc place) params)
+encs-of : (P : Enc → Type 0) (typing : Typing) → ((site : Site) → P (typing site)) → (ordinal : ℕ) (params : List Ty) → All P (encs_from typing ordinal params)
+encs-of P typing one ordinal [] = All-nil P
+encs-of P typing one ordinal (ty ∷ params) = All-cons P (typing (Param ordinal)) (encs_from typing (suc ordinal) params) (one (Param ordinal)) (encs-of P typing one (suc ordinal) params)
 
 pub typings_of_columns : TypingsAreOfColumns
 typings_of_columns b encs e =

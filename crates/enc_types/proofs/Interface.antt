@@ -9,7 +9,7 @@ pub use Rattle.enc_types.proofs.Merging.{has_typing-Decides, not_plain, one_leas
 -- The typings of renamed rules are those of the rules, renamed.
 pub use Rattle.enc_types.proofs.RenamedTypings.{KnownSite}
 -- The rules of a renamed statement are the statement's, renamed.
-pub use Rattle.enc_types.proofs.Renaming.{place_renamed, rules_renamed}
+pub use Rattle.enc_types.proofs.Renaming.{offset_renamed, rules_renamed}
 -- Under what is inferred of a statement its rules hold.
 pub use Rattle.enc_types.proofs.TypedLaws.{typed_as}
 -- What is inferred of a statement over the parameters that it uses alone.

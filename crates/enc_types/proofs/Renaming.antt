@@ -5,11 +5,11 @@ use Rattle.std.proofs.lemmas.List.{map-append}
 use Rattle.ae_base.specs.declared.types.Ty.{Ty}
 use Rattle.ae_base.specs.declared.values.Value.{Value}
 use Rattle.ae_base.specs.declared.values.Value.TheVariants as value
-use Rattle.sql_tree.specs.declared.bound.PlaceAt.{PlaceAt}
+use Rattle.sql_tree.specs.declared.bound.OrdinalAt.{OrdinalAt}
 use Rattle.sql_tree.specs.declared.bound.BoundOrderKey.{BoundOrderKey}
 use Rattle.sql_tree.specs.declared.conditions.Comparison.{Comparison}
 use Rattle.sql_tree.specs.declared.conditions.Comparison.TheVariants as comparison
-use Rattle.sql_tree.specs.Operands.{Operand, Terms, place_of}
+use Rattle.sql_tree.specs.Operands.{Operand, Terms, offset_of}
 use Rattle.sql_tree.specs.Operands as operands
 use Rattle.sql_tree.specs.Conditions.{Condition, Conditions}
 use Rattle.sql_tree.specs.Conditions as conditions
@@ -88,15 +88,15 @@ module _ (f : ℕ → ℕ) where
   site (operands.Sum first terms) = refl
 
   -- a renaming moves nothing in the text
-  pub place_renamed : (o : Operand ℕ ℕ) → place_of (renamed_operand f o) ≡ place_of o
-  place_renamed (operands.Literal at v) = refl
-  place_renamed (operands.Param at param) = refl
-  place_renamed (operands.Column at column) = refl
-  place_renamed (operands.Minus at operand) = refl
-  place_renamed (operands.Sum first terms) = place_renamed first
+  pub offset_renamed : (o : Operand ℕ ℕ) → offset_of (renamed_operand f o) ≡ offset_of o
+  offset_renamed (operands.Literal at v) = refl
+  offset_renamed (operands.Param at param) = refl
+  offset_renamed (operands.Column at column) = refl
+  offset_renamed (operands.Minus at operand) = refl
+  offset_renamed (operands.Sum first terms) = offset_renamed first
 
   operator : (o : Operand ℕ ℕ) (terms : Terms ℕ ℕ) → first_operator (renamed_operand f o) (renamed_terms f terms) ≡ first_operator o terms
-  operator o operands.NoMore = place_renamed o
+  operator o operands.NoMore = offset_renamed o
   operator o (operands.PlusThen at operand more) = refl
   operator o (operands.MinusThen at operand more) = refl
 
@@ -170,8 +170,8 @@ module _ (f : ℕ → ℕ) where
 
   value_one : (column : ℕ) (o : Operand ℕ ℕ) → value_rule column (renamed_operand f o) ≡ R (value_rule column o)
   value_one column o =
-      joined (operand_rules o) (Same (Column column) (site_of o) (place_of o) ∷ []) _ _ (operand o)
-      (ap (λ z. Same (Column column) z (place_of (renamed_operand f o)) ∷ []) (site o) ∙ ap (λ z. Same (Column column) (renamed_site f (site_of o)) z ∷ []) (place_renamed o))
+      joined (operand_rules o) (Same (Column column) (site_of o) (offset_of o) ∷ []) _ _ (operand o)
+      (ap (λ z. Same (Column column) z (offset_of (renamed_operand f o)) ∷ []) (site o) ∙ ap (λ z. Same (Column column) (renamed_site f (site_of o)) z ∷ []) (offset_renamed o))
 
   values : (named : List ℕ) (vs : List (Operand ℕ ℕ)) → value_rules named (map (renamed_operand f) vs) ≡ R (value_rules named vs)
   values [] vs = refl
@@ -179,7 +179,7 @@ module _ (f : ℕ → ℕ) where
   values (column ∷ named) (v ∷ vs) = joined (value_rule column v) (value_rules named vs) _ _ (value_one column v) (values named vs)
 
   assignment : (a : BoundAssignment) → assignment_rules (renamed_assignment f a) ≡ R (assignment_rules a)
-  assignment a = joined (Same (Column a.place) (site_of a.value) a.at ∷ []) (operand_rules a.value) _ _ (ap (λ z. Same (Column a.place) z a.at ∷ []) (site a.value)) (operand a.value)
+  assignment a = joined (Same (Column a.ordinal) (site_of a.value) a.at ∷ []) (operand_rules a.value) _ _ (ap (λ z. Same (Column a.ordinal) z a.at ∷ []) (site a.value)) (operand a.value)
 
   item_site : (v : BoundItemValue) → site_of_item (renamed_value f v) ≡ renamed_site f (site_of_item v)
   item_site (bound.Value o) = site o
@@ -196,7 +196,7 @@ module _ (f : ℕ → ℕ) where
       ap (λ z. NotRnd z at ∷ map (λ item. NotRnd (site_of_item item.value) at) (map (renamed_item f) items)) (item_site i.value)
       ∙ ap (λ z. NotRnd (renamed_site f (site_of_item i.value)) at ∷ z) (distinct (Some at) items)
 
-  keys : (ks : List PlaceAt) → map key_rule ks ≡ R (map key_rule ks)
+  keys : (ks : List OrdinalAt) → map key_rule ks ≡ R (map key_rule ks)
   keys [] = refl
   keys (k ∷ ks) = ap (λ z. key_rule k ∷ z) (keys ks)
 
@@ -219,7 +219,7 @@ module _ (f : ℕ → ℕ) where
 
   statement : (s : BoundStatement) → statement_rules (renamed_statement f s) ≡ R (statement_rules s)
   statement (bound.Definition d) = keys (keyed_in d)
-  statement (bound.Insert insert) = each (renamed_row f) (row_rules insert.named) (row_rules insert.named) (λ row. values insert.named row.values) insert.rows
+  statement (bound.Insert insert) = each (renamed_row f) (row_rules insert.columns) (row_rules insert.columns) (λ row. values insert.columns row.values) insert.rows
   statement (bound.Update update) = joined (flat_map assignment_rules update.assignments) (filter_rules update.filter)
       _ _ (each (renamed_assignment f) assignment_rules assignment_rules assignment update.assignments) (filter update.filter)
   statement (bound.Delete delete) = filter delete.filter

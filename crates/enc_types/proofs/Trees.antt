@@ -28,7 +28,7 @@ rules_of-Sum operand one two first terms items more e f g h k =
     ∙ ap (λ x. (operand_rules (operands.operand_of one) ++ first_rules (operands.operand_of two) (terms_listed x)) ++ terms_rules (terms_listed terms.items)) (sym h)
     ∙ ap (λ x. (operand_rules (operands.operand_of one) ++ first_rules (operands.operand_of two) (terms_listed items)) ++ terms_rules (terms_listed x)) (sym k)
 
--- a term, and those behind it
+-- a term, and those after it
 pub term_step : (term : code_term.Term ℕ ℕ) (terms : List (code_term.Term ℕ ℕ))
     → terms_rules (terms_listed (term ∷ terms)) ≡ terms_rules (terms_listed (term ∷ [])) ++ terms_rules (terms_listed terms)
 term_step (code_term.Plus at operand) terms =
@@ -46,7 +46,7 @@ pub rules_of-AnyOf : (condition : code_condition.Condition ℕ ℕ) (any : Vec (
 rules_of-AnyOf condition any items e f =
     ap (λ c. condition_rules (condition_of c)) e ∙ ap condition_rules (condition_of-AnyOf any) ∙ ap (λ z. conditions_rules (conditions_listed z)) (sym f)
 
--- a condition, and those behind it
+-- a condition, and those after it
 pub condition_step : (condition : code_condition.Condition ℕ ℕ) (all : List (code_condition.Condition ℕ ℕ))
     → conditions_rules (conditions_listed (condition ∷ all)) ≡ condition_rules (condition_of condition) ++ conditions_rules (conditions_listed all)
 condition_step condition all = refl

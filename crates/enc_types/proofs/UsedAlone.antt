@@ -6,7 +6,7 @@ use Rattle.enc_types.specs.Rules.{rules}
 use Rattle.enc_types.specs.Typing.{Typing}
 use Rattle.enc_types.specs.Least.{least, clash, encs_from, encs_or_clash, inferred_encs}
 use Rattle.enc_types.specs.Renamed.{KeepsUsed, IsInferredAlike}
-use Rattle.enc_types.specs.UsedAlone.{used_among, place_among, is_used, alone, InferredAlone}
+use Rattle.enc_types.specs.UsedAlone.{used_among, ordinal_among, is_used, alone, InferredAlone}
 use Rattle.enc_types.specs.declared.sites.Site.TheVariants.{Param}
 use Rattle.enc_types.proofs.TypedLaws.{none_of, typed_as}
 use Rattle.enc_types.proofs.UsedParams.{inferred_alike}
@@ -30,22 +30,22 @@ module _ (used : ℕ → Bool) where
   at_rank x rest xs m j false h = h
 
   -- what is used stands where it is told
-  pub found_among : {A : Type 0} (xs : List A) (first j : ℕ) → used (first + j) ≡ true → slice_get (used_among used first xs) (place_among used first j) ≡ slice_get xs j
+  pub found_among : {A : Type 0} (xs : List A) (first j : ℕ) → used (first + j) ≡ true → slice_get (used_among used first xs) (ordinal_among used first j) ≡ slice_get xs j
   found_among [] first j u = refl
   found_among (x ∷ xs) first zero u =
       let e : first + 0 ≡ first = omega arith in ap (λ b. slice_get (cond b (x ∷ used_among used (suc first) xs) (used_among used (suc first) xs)) 0) (ap used (sym e) ∙ u)
   found_among (x ∷ xs) first (suc j) u =
       let e : suc first + j ≡ first + suc j = omega arith in
-      at_rank x (used_among used (suc first) xs) xs (place_among used (suc first) j) j (used first) (found_among xs (suc first) j (ap used e ∙ u))
+      at_rank x (used_among used (suc first) xs) xs (ordinal_among used (suc first) j) j (used first) (found_among xs (suc first) j (ap used e ∙ u))
 
   -- typings that give the same to each used parameter give the same list
-  encs_among : (typing next : Typing) (tys : List Ty) (first count : ℕ) → ((j : ℕ) → used (first + j) ≡ true → next (Param (count + place_among used first j)) ≡ typing (Param (first + j)))
+  encs_among : (typing next : Typing) (tys : List Ty) (first count : ℕ) → ((j : ℕ) → used (first + j) ≡ true → next (Param (count + ordinal_among used first j)) ≡ typing (Param (first + j)))
       → encs_from next count (used_among used first tys) ≡ used_among used first (encs_from typing first tys)
   encs_among typing next [] first count same = refl
   encs_among typing next (ty ∷ tys) first count same = go (used first) refl (encs_among typing next tys (suc first))
     where
       go : (b : Bool) → used first ≡ b
-          → ((start : ℕ) → ((j : ℕ) → used (suc first + j) ≡ true → next (Param (start + place_among used (suc first) j)) ≡ typing (Param (suc first + j)))
+          → ((start : ℕ) → ((j : ℕ) → used (suc first + j) ≡ true → next (Param (start + ordinal_among used (suc first) j)) ≡ typing (Param (suc first + j)))
           → encs_from next start (used_among used (suc first) tys) ≡ used_among used (suc first) (encs_from typing (suc first) tys))
           → encs_from next count (cond b (ty ∷ used_among used (suc first) tys) (used_among used (suc first) tys))
           ≡ cond b (typing (Param first) ∷ used_among used (suc first) (encs_from typing (suc first) tys)) (used_among used (suc first) (encs_from typing (suc first) tys))
@@ -57,13 +57,13 @@ module _ (used : ℕ → Bool) where
           ∙ ap (λ z. typing (Param first) ∷ z)
           (more (suc count) (λ j v.
           let there : suc first + j ≡ first + suc j = omega arith in
-          let rank : suc count + place_among used (suc first) j ≡ count + suc (place_among used (suc first) j) = omega arith in
-          let step : suc (place_among used (suc first) j) ≡ place_among used first (suc j) = ap (λ b. cond b (suc (place_among used (suc first) j)) (place_among used (suc first) j)) (sym u) in
+          let rank : suc count + ordinal_among used (suc first) j ≡ count + suc (ordinal_among used (suc first) j) = omega arith in
+          let step : suc (ordinal_among used (suc first) j) ≡ ordinal_among used first (suc j) = ap (λ b. cond b (suc (ordinal_among used (suc first) j)) (ordinal_among used (suc first) j)) (sym u) in
           ap (λ z. next (Param z)) (rank ∙ ap (λ z. count + z) step) ∙ same (suc j) (ap used (sym there) ∙ v) ∙ ap (λ z. typing (Param z)) (sym there)))
       go false u more =
           more count (λ j v.
           let there : suc first + j ≡ first + suc j = omega arith in
-          let step : place_among used (suc first) j ≡ place_among used first (suc j) = ap (λ b. cond b (suc (place_among used (suc first) j)) (place_among used (suc first) j)) (sym u) in
+          let step : ordinal_among used (suc first) j ≡ ordinal_among used first (suc j) = ap (λ b. cond b (suc (ordinal_among used (suc first) j)) (ordinal_among used (suc first) j)) (sym u) in
           ap (λ z. next (Param (count + z))) step ∙ same (suc j) (ap used (sym there) ∙ v) ∙ ap (λ z. typing (Param z)) (sym there))
 
 from_start : (j : ℕ) → 0 + j ≡ j
@@ -73,7 +73,7 @@ pub inferred_alone : InferredAlone
 unfolding inferred_encs
 inferred_alone b encs placed e =
     let used : ℕ → Bool = is_used b in
-    let f : ℕ → ℕ = place_among used 0 in
+    let f : ℕ → ℕ = ordinal_among used 0 in
     let n : ℕ = length b.params in
     let params : List Ty = used_among used 0 b.params in
     let start : (p : ℕ) → used p ≡ true → used (0 + p) ≡ true = λ p u. ap used (from_start p) ∙ u in

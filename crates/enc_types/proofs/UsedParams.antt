@@ -6,11 +6,11 @@ use Rattle.std.proofs.lemmas.Bool.{or_left, or_right}
 use Rattle.ae_base.specs.declared.types.Ty.{Ty}
 use Rattle.ae_base.specs.declared.values.Value.{Value}
 use Rattle.ae_base.specs.declared.values.Value.TheVariants as value
-use Rattle.sql_tree.specs.declared.bound.PlaceAt.{PlaceAt}
+use Rattle.sql_tree.specs.declared.bound.OrdinalAt.{OrdinalAt}
 use Rattle.sql_tree.specs.declared.bound.BoundOrderKey.{BoundOrderKey}
 use Rattle.sql_tree.specs.declared.conditions.Comparison.{Comparison}
 use Rattle.sql_tree.specs.declared.conditions.Comparison.TheVariants as comparison
-use Rattle.sql_tree.specs.Operands.{Operand, Terms, place_of}
+use Rattle.sql_tree.specs.Operands.{Operand, Terms, offset_of}
 use Rattle.sql_tree.specs.Operands as operands
 use Rattle.sql_tree.specs.Conditions.{Condition, Conditions}
 use Rattle.sql_tree.specs.Conditions as conditions
@@ -168,7 +168,7 @@ module _ (K : ℕ → Type 0) where
   values (column ∷ named) (v ∷ vs) h =
       let a = left (λ p. uses_in p v) (λ p. list_any (uses_in p) vs) h in
       known_both K (value_rule column v) (value_rules named vs)
-      (known_both K (operand_rules v) (Same (Column column) (site_of v) (place_of v) ∷ []) (operand v a) ((tt, site v a), tt))
+      (known_both K (operand_rules v) (Same (Column column) (site_of v) (offset_of v) ∷ []) (operand v a) ((tt, site v a), tt))
       (values named vs (right (λ p. uses_in p v) (λ p. list_any (uses_in p) vs) h))
 
   item_site : (v : BoundItemValue) → Given (λ p. uses_in_value p v) → KnownSite K (site_of_item v)
@@ -185,7 +185,7 @@ module _ (K : ℕ → Type 0) where
   distinct (Some at) (i ∷ items) h =
       (item_site i.value (left (λ p. uses_in_item p i) (λ p. list_any (uses_in_item p) items) h), distinct (Some at) items (right (λ p. uses_in_item p i) (λ p. list_any (uses_in_item p) items) h))
 
-  keys : (ks : List PlaceAt) → AllKnown K (map key_rule ks)
+  keys : (ks : List OrdinalAt) → AllKnown K (map key_rule ks)
   keys [] = tt
   keys (k ∷ ks) = (tt, keys ks)
 
@@ -212,7 +212,7 @@ module _ (K : ℕ → Type 0) where
 
   statement : (s : BoundStatement) → Given (λ p. uses_in_statement p s) → AllKnown K (statement_rules s)
   statement (bound.Definition d) h = keys (keyed_in d)
-  statement (bound.Insert insert) h = each uses_in_row (row_rules insert.named) (λ row g. values insert.named row.values g) insert.rows h
+  statement (bound.Insert insert) h = each uses_in_row (row_rules insert.columns) (λ row g. values insert.columns row.values g) insert.rows h
   statement (bound.Update update) h =
       let a = left (λ p. list_any (uses_in_assignment p) update.assignments) (λ p. uses_in_filter p update.filter) h in
       let b = right (λ p. list_any (uses_in_assignment p) update.assignments) (λ p. uses_in_filter p update.filter) h in

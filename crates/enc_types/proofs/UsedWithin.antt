@@ -77,11 +77,11 @@ module _ (p n : ℕ) where
   statement : (columns : List ColumnSite) (s : BoundStatement) → IsPlacedStatement columns n s → uses_in_statement p s ≡ true → p < n
   statement columns (bound.Definition d) k h = absurd cc
   statement columns (bound.Insert insert) k h =
-      one_of (λ (row : BoundRow). (length row.values ≡ length insert.named) × All (IsPlaced 0 n) row.values) (uses_in_row p) (p < n)
+      one_of (λ (row : BoundRow). (length row.values ≡ length insert.columns) × All (IsPlaced 0 n) row.values) (uses_in_row p) (p < n)
       (λ row g u. one_of (IsPlaced 0 n) (uses_in p) (p < n) (operand 0) row.values g.1 u) insert.rows k.rows h
   statement columns (bound.Update update) k h =
       either (list_any (uses_in_assignment p) update.assignments) (uses_in_filter p update.filter) (p < n) h
-      (one_of (λ (a : BoundAssignment). (a.place < length columns) × IsPlaced (length columns) n a.value)
+      (one_of (λ (a : BoundAssignment). (a.ordinal < length columns) × IsPlaced (length columns) n a.value)
       (uses_in_assignment p) (p < n) (λ a g u. operand (length columns) a.value g.1 u) update.assignments k.0)
       (filter (length columns) update.filter k.1)
   statement columns (bound.Delete delete) k h = filter (length columns) delete.filter k h

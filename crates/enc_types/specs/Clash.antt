@@ -55,10 +55,10 @@ pub record IsChain (params : List Ty) (columns : List ColumnSite) (rules chain :
   pub at_start : fixed columns start ≡ Some enc
   pub leads : Leads params columns start enc chain
 
--- the place of the first clash, and a chain that shows it
+-- the offset of the first clash, and a chain that shows it
 pub record IsClash (params : List Ty) (columns : List ColumnSite) (rules : List Rule) (at : ℕ) (chain : List Rule) : Type 0 where
   pub before : List Rule
   pub rule : Rule
   pub first : IsFirstClash params columns rules before rule
-  pub place : at ≡ at_of rule
+  pub offset : at ≡ at_of rule
   pub chained : IsChain params columns (before ++ rule ∷ []) chain

@@ -1,4 +1,4 @@
--- What is inferred of some statements, computed. A key has the number 1, another the number 2; places are those of the texts.
+-- What is inferred of some statements, computed. A key has the number 1, another the number 2; offsets are those of the texts.
 use Rattle.std.specs.Prelude.{◌≡◌, ℕ, pos, List, [], ◌∷◌, codes, Some, None, Ok, Err, refl}
 use Rattle.ae_base.specs.declared.values.Value.TheVariants as value
 use Rattle.ae_base.specs.declared.values.Datum.TheVariants.{Num, Text}
@@ -85,7 +85,7 @@ pub null_value : inferred_encs (record {
   columns = u;
   statement = bound.Insert (record {
     table = codes "u";
-    named = 0 ∷ 1 ∷ [];
+    columns = 0 ∷ 1 ∷ [];
     rows = record { at = 29; values = operands.Literal 30 (value.Is (Num (pos 1))) ∷ operands.Literal 33 value.Null ∷ [] } ∷ [];
   });
 }) ≡ Ok []
@@ -146,7 +146,7 @@ pub grouped : inferred_encs (record {
     from = record { table = codes "u"; width = 2 };
     joins = [];
     filter = None;
-    group_by = record { at = 40; place = 1 } ∷ [];
+    group_by = record { at = 40; ordinal = 1 } ∷ [];
     order_by = [];
   });
 }) ≡ Ok []

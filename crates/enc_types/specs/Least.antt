@@ -46,7 +46,7 @@ least columns rules site = unwrap_or (fixed columns (classes_from (λ s. s) rule
 unfoldable pub has_typing : List Ty → List ColumnSite → List Rule → Bool
 has_typing params columns rules = list_all (holds params columns (least columns rules)) rules
 
--- the place of the first rule such that the rules up to and with it have no typing
+-- the offset of the first rule such that the rules up to and with it have no typing
 unfoldable pub clash_behind : List Ty → List ColumnSite → (before rules : List Rule) → Option ℕ
 clash_behind params columns before [] = None
 clash_behind params columns before (rule ∷ rules) =
@@ -57,8 +57,8 @@ clash params columns rules = clash_behind params columns [] rules
 
 -- what a typing gives to so many parameters from one on
 abbrev pub encs_from : Typing → ℕ → List Ty → List Enc
-encs_from typing place [] = []
-encs_from typing place (ty ∷ params) = typing (Param place) ∷ encs_from typing (suc place) params
+encs_from typing ordinal [] = []
+encs_from typing ordinal (ty ∷ params) = typing (Param ordinal) ∷ encs_from typing (suc ordinal) params
 
 abbrev pub encs_or_clash : List Enc → Option ℕ → Result (List Enc) ℕ
 encs_or_clash encs None = Ok encs

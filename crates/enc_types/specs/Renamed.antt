@@ -1,4 +1,4 @@
--- The rules of a statement whose parameters stand at other places.
+-- The rules of a statement whose parameters have other ordinals.
 use Rattle.std.specs.Prelude.{◌≡◌, ℕ, List, map, true}
 use Rattle.std.specs.List.{slice_get}
 use Rattle.ae_base.specs.declared.types.Ty.{Ty}
@@ -12,8 +12,8 @@ use Rattle.enc_types.specs.declared.rules.Rule.{Rule}
 use Rattle.enc_types.specs.declared.rules.Rule.TheVariants.{Same, NotRnd, PlainOnly}
 
 abbrev pub renamed_site : (ℕ → ℕ) → Site → Site
-renamed_site f (Column place) = Column place
-renamed_site f (Param place) = Param (f place)
+renamed_site f (Column ordinal) = Column ordinal
+renamed_site f (Param ordinal) = Param (f ordinal)
 renamed_site f (Null at) = Null at
 renamed_site f Fixed = Fixed
 
@@ -28,13 +28,13 @@ RulesRenamed = (f : ℕ → ℕ) (params : List Ty) (bound : Bound) → rules (r
 
 -- f keeps the used parameters apart, since g leads back, and keeps their types
 pub record KeepsUsed (f g : ℕ → ℕ) (params : List Ty) (bound : Bound) : Type 0 where
-  pub back : (place : ℕ) → uses place bound ≡ true → g (f place) ≡ place
-  pub types : (place : ℕ) → uses place bound ≡ true → slice_get params (f place) ≡ slice_get bound.params place
+  pub back : (ordinal : ℕ) → uses ordinal bound ≡ true → g (f ordinal) ≡ ordinal
+  pub types : (ordinal : ℕ) → uses ordinal bound ≡ true → slice_get params (f ordinal) ≡ slice_get bound.params ordinal
 
--- then the rules clash at the same place, and the least typing gives the same to each used parameter
+-- then the rules clash at the same offset, and the least typing gives the same to each used parameter
 pub record IsInferredAlike (f : ℕ → ℕ) (params : List Ty) (bound : Bound) : Type 0 where
   pub clashes : clash params bound.columns (rules (renamed f params bound)) ≡ clash bound.params bound.columns (rules bound)
-  pub encs : (place : ℕ) → uses place bound ≡ true → least bound.columns (rules (renamed f params bound)) (Param (f place)) ≡ least bound.columns (rules bound) (Param place)
+  pub encs : (ordinal : ℕ) → uses ordinal bound ≡ true → least bound.columns (rules (renamed f params bound)) (Param (f ordinal)) ≡ least bound.columns (rules bound) (Param ordinal)
 
 abbrev pub InferredRenamed : Type 0
 InferredRenamed = (f g : ℕ → ℕ) (params : List Ty) (bound : Bound) → KeepsUsed f g params bound → IsInferredAlike f params bound

@@ -1,11 +1,11 @@
 -- What the constructs of a statement ask of the encryptions of their sites.
 use Rattle.std.specs.Prelude.{ℕ, List, [], ◌∷◌, ◌++◌, map, Option, Some, None, nat_le, if◌then◌else◌}
 use Rattle.std.specs.List.{flat_map}
-use Rattle.sql_tree.specs.declared.bound.PlaceAt.{PlaceAt}
+use Rattle.sql_tree.specs.declared.bound.OrdinalAt.{OrdinalAt}
 use Rattle.sql_tree.specs.declared.bound.BoundOrderKey.{BoundOrderKey}
 use Rattle.sql_tree.specs.declared.conditions.Comparison.{Comparison}
 use Rattle.sql_tree.specs.declared.conditions.Comparison.TheVariants as comparison
-use Rattle.sql_tree.specs.Operands.{Operand, Terms, place_of}
+use Rattle.sql_tree.specs.Operands.{Operand, Terms, offset_of}
 use Rattle.sql_tree.specs.Operands as operands
 use Rattle.sql_tree.specs.Conditions.{Condition, Conditions}
 use Rattle.sql_tree.specs.Conditions as conditions
@@ -27,7 +27,7 @@ at_of (PlainOnly x at) = at
 
 -- the first term of a sum is asked for at the first operator; no text that is read has a sum without one
 abbrev pub first_operator : Operand ℕ ℕ → Terms ℕ ℕ → ℕ
-first_operator first operands.NoMore = place_of first
+first_operator first operands.NoMore = offset_of first
 first_operator first (operands.PlusThen at operand more) = at
 first_operator first (operands.MinusThen at operand more) = at
 
@@ -84,24 +84,24 @@ filter_rules (Some condition) = condition_rules condition
 -- ---- statements
 
 -- a column of a key, or of GROUP BY, isn't randomized
-abbrev pub key_rule : PlaceAt → Rule
-key_rule key = NotRnd (Column key.place) key.at
+abbrev pub key_rule : OrdinalAt → Rule
+key_rule key = NotRnd (Column key.ordinal) key.at
 
 -- a value of VALUES is encrypted as its column is
 abbrev pub value_rule : ℕ → Operand ℕ ℕ → List Rule
-value_rule place value = operand_rules value ++ Same (Column place) (site_of value) (place_of value) ∷ []
+value_rule ordinal value = operand_rules value ++ Same (Column ordinal) (site_of value) (offset_of value) ∷ []
 
 abbrev pub value_rules : List ℕ → List (Operand ℕ ℕ) → List Rule
 value_rules [] values = []
-value_rules (place ∷ places) [] = []
-value_rules (place ∷ places) (value ∷ values) = value_rule place value ++ value_rules places values
+value_rules (ordinal ∷ ordinals) [] = []
+value_rules (ordinal ∷ ordinals) (value ∷ values) = value_rule ordinal value ++ value_rules ordinals values
 
 abbrev pub row_rules : List ℕ → BoundRow → List Rule
 row_rules named row = value_rules named row.values
 
 -- and so is a value of SET
 abbrev pub assignment_rules : BoundAssignment → List Rule
-assignment_rules a = Same (Column a.place) (site_of a.value) a.at ∷ operand_rules a.value
+assignment_rules a = Same (Column a.ordinal) (site_of a.value) a.at ∷ operand_rules a.value
 
 abbrev pub site_of_item : BoundItemValue → Site
 site_of_item (bound.Value operand) = site_of operand
@@ -118,9 +118,9 @@ item_rules (bound.Count at) = []
 
 -- ORDER BY asks for plain columns
 abbrev pub order_rule : BoundOrderKey → Rule
-order_rule key = PlainOnly (Column key.place) key.at
+order_rule key = PlainOnly (Column key.ordinal) key.at
 
--- what stands in front of GROUP BY
+-- what stands before GROUP BY
 abbrev pub rows_rules : BoundQuery → List Rule
 rows_rules q =
     distinct_rules q.distinct q.items
@@ -133,7 +133,7 @@ query_rules q = rows_rules q ++ map key_rule q.group_by ++ map order_rule q.orde
 
 abbrev pub statement_rules : BoundStatement → List Rule
 statement_rules (bound.Definition d) = map key_rule (keyed_in d)
-statement_rules (bound.Insert insert) = flat_map (row_rules insert.named) insert.rows
+statement_rules (bound.Insert insert) = flat_map (row_rules insert.columns) insert.rows
 statement_rules (bound.Update update) = flat_map assignment_rules update.assignments ++ filter_rules update.filter
 statement_rules (bound.Delete delete) = filter_rules delete.filter
 statement_rules (bound.Select query) = query_rules query

@@ -15,18 +15,18 @@ use Rattle.enc_types.specs.declared.rules.Rule.TheVariants.{Same, NotRnd, PlainO
 -- ---- what is fixed of a site: columns are encrypted as they are, other literals and sums are plain
 
 abbrev pub enc_at : List ColumnSite → ℕ → Enc
-enc_at columns place = unwrap_or (option_map (λ column. column.enc) (slice_get columns place)) Plain
+enc_at columns ordinal = unwrap_or (option_map (λ column. column.enc) (slice_get columns ordinal)) Plain
 
 abbrev pub fixed : List ColumnSite → Site → Option Enc
-fixed columns (Column place) = Some (enc_at columns place)
-fixed columns (Param place) = None
+fixed columns (Column ordinal) = Some (enc_at columns ordinal)
+fixed columns (Param ordinal) = None
 fixed columns (Null at) = None
 fixed columns Fixed = Some Plain
 
 -- columns and parameters have a declared type
 abbrev pub type_of : List Ty → List ColumnSite → Site → Option Ty
-type_of params columns (Column place) = option_map (λ column. column.ty) (slice_get columns place)
-type_of params columns (Param place) = slice_get params place
+type_of params columns (Column ordinal) = option_map (λ column. column.ty) (slice_get columns ordinal)
+type_of params columns (Param ordinal) = slice_get params ordinal
 type_of params columns (Null at) = None
 type_of params columns Fixed = None
 

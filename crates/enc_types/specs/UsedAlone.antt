@@ -8,19 +8,19 @@ use Rattle.enc_types.specs.Least.{inferred_encs}
 
 -- of some things, one for each parameter from a place on, those of the parameters that are used
 abbrev pub used_among : {A : Type 0} → (ℕ → Bool) → ℕ → List A → List A
-used_among used place [] = []
-used_among used place (x ∷ xs) = if used place then x ∷ used_among used (suc place) xs else used_among used (suc place) xs
+used_among used ordinal [] = []
+used_among used ordinal (x ∷ xs) = if used ordinal then x ∷ used_among used (suc ordinal) xs else used_among used (suc ordinal) xs
 
--- where a parameter, so many places behind a first one, stands among the used ones from that on
-abbrev pub place_among : (ℕ → Bool) → ℕ → ℕ → ℕ
-place_among used first zero = 0
-place_among used first (suc behind) = if used first then suc (place_among used (suc first) behind) else place_among used (suc first) behind
+-- where a parameter, so many places after a first one, stands among the used ones from that on
+abbrev pub ordinal_among : (ℕ → Bool) → ℕ → ℕ → ℕ
+ordinal_among used first zero = 0
+ordinal_among used first (suc behind) = if used first then suc (ordinal_among used (suc first) behind) else ordinal_among used (suc first) behind
 
 abbrev pub is_used : Bound → ℕ → Bool
-is_used bound place = uses place bound
+is_used bound ordinal = uses ordinal bound
 
 abbrev pub alone : Bound → Bound
-alone bound = renamed (place_among (is_used bound) 0) (used_among (is_used bound) 0 bound.params) bound
+alone bound = renamed (ordinal_among (is_used bound) 0) (used_among (is_used bound) 0 bound.params) bound
 
 -- the parameters that a statement uses are inferred alike where it stands over them alone
 abbrev pub InferredAlone : Type 0

@@ -13,12 +13,12 @@ pub(crate) trait Asks {
     /// The rules of the part.
     ghost asked: { Self → List Rule };
 
-    /// Puts the rules of the part at the end.
+    /// Appends the rules of the part.
     fn ask(&self, rules: &mut Seq<Rule>) -> Result<(), AllocError>
         ensures { OnOk result (rules.new ≡ rules.old ++ asked self.now) };
 }
 
-/// Puts the rules of some parts at the end, one part after another.
+/// Appends the rules of some parts, one part after another.
 pub(crate) fn ask_each<P: Asks>(parts: &[P], rules: &mut Seq<Rule>) -> Result<(), AllocError>
     ensures { OnOk result (rules.new ≡ rules.old ++ flat_map P.asked parts.now) }
 {

@@ -28,7 +28,7 @@ impl Asks for BoundOperand {
     }
 }
 
-/// Puts the rules of a condition at the end.
+/// Appends the rules of a condition.
 #[cycle(condition)]
 pub(crate) fn of_condition(
     condition: &BoundCondition,

@@ -19,7 +19,7 @@ pub fn typings_are_of_columns()
     ensures { TypingsAreOfColumns }
 {}
 
-/// The rules of a statement whose parameters stand at other places are its rules, renamed.
+/// The rules of a statement whose parameters have other ordinals are its rules, renamed.
 pub fn rules_renamed()
     ensures { RulesRenamed }
 {}
@@ -29,7 +29,7 @@ pub fn inferred_renamed()
     ensures { InferredRenamed }
 {}
 
-/// The parameters that a statement uses are inferred alike where it stands over them alone.
+/// The parameters that a statement uses are inferred alike if it is bound over them alone.
 pub fn inferred_alone()
     ensures { InferredAlone }
 {}

@@ -9,11 +9,11 @@ ghost use Rattle.enc_types.specs.Sites as spec;
 use crate::rules::Rule;
 use crate::sites::site_of;
 use ae_base::lists::Seq;
-use sql_tree::bound::{BoundOperand, place_of};
+use sql_tree::bound::{BoundOperand, offset_of};
 use sql_tree::operands::{Operand, Term};
 use std::alloc::AllocError;
 
-/// Puts the rules of an operand at the end.
+/// Appends the rules of an operand.
 #[cycle(operand)]
 pub(crate) fn of_operand(operand: &BoundOperand, rules: &mut Seq<Rule>) -> Result<(), AllocError>
     ensures { OnOk result (rules.new ≡ rules.old ++ operand_rules (operand_of operand.now)) }
@@ -43,12 +43,12 @@ fn of_plain(at: u32, operand: &BoundOperand, rules: &mut Seq<Rule>) -> Result<()
     of_operand(operand, rules)
 }
 
-/// The place of the first operator of a sum.
+/// The offset of the first operator of a sum.
 fn first_operator(first: &BoundOperand, terms: &[Term<usize, usize>]) -> u32
     ensures { result ≡ first_operator (operand_of first.now) (terms_listed terms.now) }
 {
     match terms {
-        [] => place_of(first),
+        [] => offset_of(first),
         [Term::Plus { at, .. }, ..] | [Term::Minus { at, .. }, ..] => *at,
     }
 }

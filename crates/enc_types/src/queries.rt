@@ -14,11 +14,11 @@ use crate::rules::Rule;
 use crate::sites::{Site, site_of};
 use ae_base::lists::Seq;
 use sql_tree::bound::{
-    BoundCondition, BoundItem, BoundItemValue, BoundJoin, BoundOrderKey, BoundQuery, PlaceAt,
+    BoundCondition, BoundItem, BoundItemValue, BoundJoin, BoundOrderKey, BoundQuery, OrdinalAt,
 };
 use std::alloc::AllocError;
 
-impl Asks for PlaceAt {
+impl Asks for OrdinalAt {
     ghost use Rattle.std.specs.Prelude.{◌∷◌, []};
     ghost use Rattle.enc_types.specs.Rules.{key_rule};
 
@@ -26,7 +26,7 @@ impl Asks for PlaceAt {
 
     fn ask(&self, rules: &mut Seq<Rule>) -> Result<(), AllocError> {
         rules.push(Rule::NotRnd {
-            x: Site::Column(self.place),
+            x: Site::Column(self.ordinal),
             at: self.at,
         })
     }
@@ -40,7 +40,7 @@ impl Asks for BoundOrderKey {
 
     fn ask(&self, rules: &mut Seq<Rule>) -> Result<(), AllocError> {
         rules.push(Rule::PlainOnly {
-            x: Site::Column(self.place),
+            x: Site::Column(self.ordinal),
             at: self.at,
         })
     }
@@ -71,7 +71,7 @@ impl Asks for BoundJoin {
     }
 }
 
-/// Puts the rules of a filter at the end.
+/// Appends the rules of a filter.
 pub(crate) fn of_filter(
     filter: &Option<BoundCondition>,
     rules: &mut Seq<Rule>,
@@ -95,7 +95,7 @@ pub(crate) fn site_of_item(value: &BoundItemValue) -> Site
     }
 }
 
-/// Puts the rules of a query at the end.
+/// Appends the rules of a query.
 pub(crate) fn of_query(query: &BoundQuery, rules: &mut Seq<Rule>) -> Result<(), AllocError>
     ensures { OnOk result (rules.new ≡ rules.old ++ spec.query_rules (query_of query.now)) }
 {
@@ -104,7 +104,7 @@ pub(crate) fn of_query(query: &BoundQuery, rules: &mut Seq<Rule>) -> Result<(), 
     ask_each(query.order_by.as_slice(), rules)
 }
 
-/// What stands in front of GROUP BY.
+/// What precedes GROUP BY.
 fn of_rows(query: &BoundQuery, rules: &mut Seq<Rule>) -> Result<(), AllocError>
     ensures { OnOk result (rules.new ≡ rules.old ++ spec.rows_rules (query_of query.now)) }
 {

@@ -5,7 +5,7 @@ ghost use Rattle.enc_types.specs.Rules.{at_of};
 
 use crate::sites::Site;
 
-/// What a construct asks of the encryptions of its sites, at a place in the text.
+/// What a construct asks of the encryptions of its sites, at an offset in the text.
 #[derive(Clone, Copy, PartialEq, Eq, Debug)]
 pub enum Rule {
     /// Both have one encryption, and one declared type if they are encrypted.
@@ -17,7 +17,7 @@ pub enum Rule {
 }
 
 impl Rule {
-    /// The place of the rule.
+    /// The offset of the rule.
     pub fn at(&self) -> u32
         ensures { result ≡ at_of self.now }
     {

@@ -13,8 +13,7 @@ use sql_tree::operands::Operand;
 pub enum Site {
     /// A column, by its place among the columns of the statement, from 0.
     Column(usize),
-    /// A parameter, by its place among the declarations, from 0. All places where it stands are one
-    /// site.
+    /// A parameter, by its ordinal among the declarations, from 0. All its uses are one site.
     Param(usize),
     /// A NULL literal, by its place in the text.
     Null(u32),

@@ -13,7 +13,7 @@ use crate::rules::Rule;
 use crate::sites::{Site, site_of};
 use ae_base::lists::Seq;
 use sql_tree::bound::{
-    Bound, BoundAssignment, BoundInsert, BoundOperand, BoundStatement, BoundUpdate, place_of,
+    Bound, BoundAssignment, BoundInsert, BoundOperand, BoundStatement, BoundUpdate, offset_of,
 };
 use std::alloc::{AllocError, Global};
 
@@ -35,7 +35,7 @@ fn in_order(rules: Seq<Rule>) -> Result<Seq<Rule>, AllocError>
     Ok(Seq::from_vec(rules))
 }
 
-/// Puts the rules of a statement at the end, as they stand in it.
+/// Appends the rules of a statement, in its order.
 fn of_statement(statement: &BoundStatement, rules: &mut Seq<Rule>) -> Result<(), AllocError>
     ensures { OnOk result
         (rules.new ≡ rules.old ++ spec.statement_rules (statement_of statement.now)) }
@@ -53,10 +53,10 @@ fn of_statement(statement: &BoundStatement, rules: &mut Seq<Rule>) -> Result<(),
 fn of_insert(insert: &BoundInsert, rules: &mut Seq<Rule>) -> Result<(), AllocError>
     ensures { OnOk result
         (rules.new ≡ rules.old
-        ++ flat_map (spec.row_rules insert.now.named) (insert_of insert.now).rows) }
+        ++ flat_map (spec.row_rules insert.now.columns) (insert_of insert.now).rows) }
 {
     for row in insert.rows.as_slice() {
-        of_values(insert.named.as_slice(), row.values.as_slice(), rules)?;
+        of_values(insert.columns.as_slice(), row.values.as_slice(), rules)?;
     }
     Ok(())
 }
@@ -70,24 +70,25 @@ fn of_values(
     ensures { OnOk result
         (rules.new ≡ rules.old ++ spec.value_rules named.now (map operand_of values.now)) }
 {
-    let [place, places @ ..] = named else {
+    let [ordinal, ordinals @ ..] = named else {
         return Ok(());
     };
     let [value, values @ ..] = values else {
         return Ok(());
     };
-    of_value(*place, value, rules)?;
-    of_values(places, values, rules)
+    of_value(*ordinal, value, rules)?;
+    of_values(ordinals, values, rules)
 }
 
-fn of_value(place: usize, value: &BoundOperand, rules: &mut Seq<Rule>) -> Result<(), AllocError>
-    ensures { OnOk result (rules.new ≡ rules.old ++ spec.value_rule place (operand_of value.now)) }
+fn of_value(ordinal: usize, value: &BoundOperand, rules: &mut Seq<Rule>) -> Result<(), AllocError>
+    ensures { OnOk result (rules.new ≡ rules.old
+        ++ spec.value_rule ordinal (operand_of value.now)) }
 {
     of_operand(value, rules)?;
     rules.push(Rule::Same {
-        x: Site::Column(place),
+        x: Site::Column(ordinal),
         y: site_of(value),
-        at: place_of(value),
+        at: offset_of(value),
     })
 }
 
@@ -99,7 +100,7 @@ impl Asks for BoundAssignment {
 
     fn ask(&self, rules: &mut Seq<Rule>) -> Result<(), AllocError> {
         rules.push(Rule::Same {
-            x: Site::Column(self.place),
+            x: Site::Column(self.ordinal),
             y: site_of(&self.value),
             at: self.at,
         })?;

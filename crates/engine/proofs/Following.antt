@@ -19,7 +19,7 @@ use Rattle.catalog.specs.declared.effects.Effect.{Effect}
 use Rattle.catalog.specs.declared.effects.Effect.TheVariants.{Stays, Adds, Removes}
 use Rattle.catalog.proofs.Interface.{All-remove, all_renamed, tables_follow}
 use Rattle.scalar.specs.Classes.{Pairing}
-use Rattle.indexed_tables.specs.Tables.{Held}
+use Rattle.indexed_tables.specs.Tables.{TableState}
 use Rattle.engine.specs.Correspond.{ContentsCorrespond}
 use Rattle.engine.specs.Held.{contents_of, IsKeyed, AreHeld}
 use Rattle.engine.specs.Step as step
@@ -35,23 +35,23 @@ use Rattle.engine.proofs.Walks.{keys_placed}
 zip_followed : {A B : Type 0} (R : A → B → Type 0) (xs : List A) (ys : List B) (x : A) (y : B) (e : Effect) → AllZip R xs ys → (e ≡ Adds → R x y) → AllZip R (followed x e xs) (followed y e ys)
 zip_followed R xs ys x y Stays h r = h
 zip_followed R xs ys x y Adds h r = zip_push R xs ys x y h (r refl)
-zip_followed R xs ys x y (Removes place) h r = zip_remove R xs ys place h
+zip_followed R xs ys x y (Removes position) h r = zip_remove R xs ys position h
 
 all_followed : {A : Type 0} (P : A → Type 0) (xs : List A) (x : A) (e : Effect) → All P xs → (e ≡ Adds → P x) → All P (followed x e xs)
 all_followed P xs x Stays h r = h
 all_followed P xs x Adds h r = All-push P xs x h (r refl)
-all_followed P xs x (Removes place) h r = All-remove P xs place h
+all_followed P xs x (Removes position) h r = All-remove P xs position h
 
 alike_followed : (R : Pairing) (defs : List TableDef) (contents others : List (List (List Atom))) (def : TableDef) (e : Effect) → ContentsCorrespond R defs contents others
     → ContentsCorrespond R (followed def e defs) (followed [] e contents) (followed [] e others)
 alike_followed R defs contents others def Stays h = h
 alike_followed R defs contents others def Adds h = contents_push R defs contents others def h
-alike_followed R defs contents others def (Removes place) h = contents_remove R defs contents others place h
+alike_followed R defs contents others def (Removes position) h = contents_remove R defs contents others position h
 
-contents_followed : (tables : List Held) (table : Held) (e : Effect) → contents_of (followed table e tables) ≡ followed table.rows e (contents_of tables)
+contents_followed : (tables : List TableState) (table : TableState) (e : Effect) → contents_of (followed table e tables) ≡ followed table.rows e (contents_of tables)
 contents_followed tables table Stays = refl
 contents_followed tables table Adds = held.contents_push tables table
-contents_followed tables table (Removes place) = held.contents_remove tables place
+contents_followed tables table (Removes position) = held.contents_remove tables position
 
 -- ---- tables under other names
 
@@ -94,7 +94,7 @@ alike_named : (R : Pairing) (d : BoundDefinition) (defs : List TableDef) (conten
 alike_named R (definition.ReplaceTable old new) defs contents others h = alike_renamed R new old defs contents others h
 alike_named R other defs contents others h = h
 
--- ---- behind an accepted definition
+-- ---- after an accepted definition
 
 module _ (catalog new : Catalog) (d : BoundDefinition) (accepted : defined_by catalog d ≡ Ok new) where
   -- what doesn't depend on a table's name
@@ -131,14 +131,14 @@ module _ (catalog new : Catalog) (d : BoundDefinition) (accepted : defined_by ca
 
   -- ---- the tables as they are held
 
-  module _ (tables : List Held) (table : Held) (t : table ≡ record { keys = uniques_in d; rows = [] }) where
+  module _ (tables : List TableState) (table : TableState) (t : table ≡ record { keys = uniques_in d; rows = [] }) where
     rows_behind : contents_of (followed table (effect_of catalog d) tables) ≡ followed [] (effect_of catalog d) (contents_of tables)
-    rows_behind = contents_followed tables table (effect_of catalog d) ∙ ap (λ (x : Held). followed x.rows (effect_of catalog d) (contents_of tables)) t
+    rows_behind = contents_followed tables table (effect_of catalog d) ∙ ap (λ (x : TableState). followed x.rows (effect_of catalog d) (contents_of tables)) t
 
     pub held_behind : (columns : List ColumnSite) → IsPlacedDefinition columns d → AreHeld catalog tables → AreHeld new (followed table (effect_of catalog d) tables)
     held_behind columns placed h = record {
       shaped = subst (λ (contents : List (List (List Atom))). IsShaped (record { catalog = new; contents = contents })) (sym rows_behind) (shaped_behind columns (contents_of tables) placed h.shaped);
-      keyed = zip_defined IsKeyed tables table (λ t name y r. r) h.keyed (λ made is. ap (λ (x : Held). x.keys) t ∙ ap uniques_in is);
+      keyed = zip_defined IsKeyed tables table (λ t name y r. r) h.keyed (λ made is. ap (λ (x : TableState). x.keys) t ∙ ap uniques_in is);
     }
 
     pub defined_gives : let world : World = record { catalog = catalog; contents = contents_of tables } in

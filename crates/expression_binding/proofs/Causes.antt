@@ -13,7 +13,7 @@ use Rattle.sql_tree.specs.Conditions.{Condition, Conditions}
 use Rattle.sql_tree.specs.Conditions as conditions
 use Rattle.expression_binding.specs.Faults.{IsStatementFault}
 use Rattle.expression_binding.specs.Names.{short, bind_operand, bind_terms, bind_operands, bind_condition, bind_conditions, bind_filter}
-use Rattle.expression_binding.specs.Scopes.{Scope, one_place, known_source, places_from, column_place, param_place, new_place, named_place}
+use Rattle.expression_binding.specs.Scopes.{Scope, one_ordinal, known_source, ordinals_from, column_ordinal, param_ordinal, new_ordinal, named_ordinal}
 use Rattle.expression_binding.specs.Walks.{each_from}
 
 -- a part has a fault of a statement, if any
@@ -68,7 +68,7 @@ too_long = inr (inr refl)
 
 -- ---- names
 
-one_blames : (name places : List ℕ) → Blames (one_place name places)
+one_blames : (name ordinals : List ℕ) → Blames (one_ordinal name ordinals)
 one_blames name [] = no_column name
 one_blames name (p ∷ []) = tt
 one_blames name (p ∷ q ∷ more) = ambiguous name
@@ -77,17 +77,17 @@ known_blames : (sources : List (List ℕ)) (qualifier : Option (List ℕ)) → B
 known_blames sources None = tt
 known_blames sources (Some qualifier) = only_if _ tt (fault.NoTable qualifier) (no_table qualifier)
 
-pub column_blames : (scope : Scope) (ref : ColumnRef) → Blames (column_place scope ref)
-column_blames scope ref = both (known_source scope.sources ref.qualifier) _ (known_blames scope.sources ref.qualifier) (λ known. one_blames ref.name (places_from 0 ref scope.columns))
+pub column_blames : (scope : Scope) (ref : ColumnRef) → Blames (column_ordinal scope ref)
+column_blames scope ref = both (known_source scope.sources ref.qualifier) _ (known_blames scope.sources ref.qualifier) (λ known. one_blames ref.name (ordinals_from 0 ref scope.columns))
 
-param_blames : (declarations : List ParamDecl) (name : List ℕ) → Blames (param_place declarations name)
+param_blames : (declarations : List ParamDecl) (name : List ℕ) → Blames (param_ordinal declarations name)
 param_blames declarations name = looked_up (fault.NoParam name) _ (no_param name)
 
-new_blames : (columns : List ColumnDef) (name : List ℕ) (given : Bool) → Blames (new_place columns name given)
+new_blames : (columns : List ColumnDef) (name : List ℕ) (given : Bool) → Blames (new_ordinal columns name given)
 new_blames columns name given = both (or_fault (fault.NoColumn name) _) _ (looked_up (fault.NoColumn name) _ (no_column name))
-    (λ place. unless given (Ok place) (fault.Ambiguous name) (ambiguous name) tt)
+    (λ ordinal. unless given (Ok ordinal) (fault.Ambiguous name) (ambiguous name) tt)
 
-pub named_blames : (columns : List ColumnDef) (before : List (List ℕ)) (name : List ℕ) → Blames (named_place columns before name)
+pub named_blames : (columns : List ColumnDef) (before : List (List ℕ)) (name : List ℕ) → Blames (named_ordinal columns before name)
 named_blames columns before name = new_blames columns name _
 
 -- ---- operands and conditions
@@ -95,8 +95,8 @@ named_blames columns before name = new_blames columns name _
 mutual
   pub operand_blames : (scope : Scope) (ds : List ParamDecl) (o : Operand ColumnRef (List ℕ)) → Blames (bind_operand scope ds o)
   operand_blames scope ds (operands.Literal at v) = alone (short v) (λ fine. operands.Literal at v) (only_if _ tt fault.TooLong too_long)
-  operand_blames scope ds (operands.Param at name) = alone (param_place ds name) (operands.Param at) (param_blames ds name)
-  operand_blames scope ds (operands.Column at ref) = alone (column_place scope ref) (operands.Column at) (column_blames scope ref)
+  operand_blames scope ds (operands.Param at name) = alone (param_ordinal ds name) (operands.Param at) (param_blames ds name)
+  operand_blames scope ds (operands.Column at ref) = alone (column_ordinal scope ref) (operands.Column at) (column_blames scope ref)
   operand_blames scope ds (operands.Minus at operand) = alone (bind_operand scope ds operand) (operands.Minus at) (operand_blames scope ds operand)
   operand_blames scope ds (operands.Sum first terms) =
       both (bind_operand scope ds first) _ (operand_blames scope ds first) (λ one. alone (bind_terms scope ds terms) (operands.Sum one) (terms_blames scope ds terms))

@@ -11,9 +11,9 @@ pub use Rattle.expression_binding.proofs.Causes.{no_table, ambiguous, too_long}
 pub use Rattle.expression_binding.proofs.Causes.{column_blames, named_blames, operand_blames, operands_blame}
 pub use Rattle.expression_binding.proofs.Causes.{condition_blames, filter_blames}
 -- The places of what is bound.
-pub use Rattle.expression_binding.proofs.Places.{found, place-within, column-within, each_placed}
-pub use Rattle.expression_binding.proofs.Places.{operand_placed, operands_placed, condition_placed, filter_placed}
-pub use Rattle.expression_binding.proofs.Places.{each_from_placed, each_from-length, with-length, scope-sites, from-length}
+pub use Rattle.expression_binding.proofs.Ordinals.{found, ordinal-within, column-within, each_placed}
+pub use Rattle.expression_binding.proofs.Ordinals.{operand_placed, operands_placed, condition_placed, filter_placed}
+pub use Rattle.expression_binding.proofs.Ordinals.{each_from_placed, each_from-length, with-length, scope-sites, from-length}
 -- What is bound over other declarations.
 pub use Rattle.expression_binding.proofs.Kept.{left, right, each_kept, each_from_kept}
 pub use Rattle.expression_binding.proofs.Kept.{operand_kept, operands_kept, condition_kept, filter_kept}

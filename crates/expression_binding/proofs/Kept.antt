@@ -12,7 +12,7 @@ use Rattle.sql_tree.specs.Conditions.{Condition, Conditions}
 use Rattle.sql_tree.specs.Conditions as conditions
 use Rattle.sql_tree.specs.Uses.{uses_in, uses_in_terms, uses_in_condition, uses_in_conditions, uses_in_filter, renamed_operand, renamed_terms, renamed_condition, renamed_conditions, renamed_filter}
 use Rattle.expression_binding.specs.Walks.{each_from}
-use Rattle.expression_binding.specs.Scopes.{Scope, param_place, column_place}
+use Rattle.expression_binding.specs.Scopes.{Scope, param_ordinal, column_ordinal}
 use Rattle.expression_binding.specs.Names.{short, bind_operand, bind_terms, bind_operands, bind_condition, bind_conditions, bind_filter}
 use Rattle.expression_binding.specs.Declarations.{Keeps}
 use Rattle.expression_binding.proofs.Parts.{one_part, two_parts, one_ok, two_ok}
@@ -32,11 +32,11 @@ mutual
       one_part (short v) (λ x. operands.Literal at v) b (λ z. Keeps ds es f (λ p. uses_in p z) → bind_operand s es (operands.Literal at v) ≡ Ok (renamed_operand f z)) e
       (λ x ex k. one_ok (short v) x (λ y. Ok (operands.Literal at v)) _ ex refl)
   operand_kept s ds es f (operands.Param at name) b e =
-      one_part (param_place ds name) (operands.Param at) b (λ z. Keeps ds es f (λ p. uses_in p z) → bind_operand s es (operands.Param at name) ≡ Ok (renamed_operand f z)) e
-      (λ p ep k. one_ok (param_place es name) (f p) (λ y. Ok (operands.Param at y)) _ (k.named name p ep (eq-eqb p p refl)) refl)
+      one_part (param_ordinal ds name) (operands.Param at) b (λ z. Keeps ds es f (λ p. uses_in p z) → bind_operand s es (operands.Param at name) ≡ Ok (renamed_operand f z)) e
+      (λ p ep k. one_ok (param_ordinal es name) (f p) (λ y. Ok (operands.Param at y)) _ (k.named name p ep (eq-eqb p p refl)) refl)
   operand_kept s ds es f (operands.Column at ref) b e =
-      one_part (column_place s ref) (operands.Column at) b (λ z. Keeps ds es f (λ p. uses_in p z) → bind_operand s es (operands.Column at ref) ≡ Ok (renamed_operand f z)) e
-      (λ p ep k. one_ok (column_place s ref) p (λ y. Ok (operands.Column at y)) _ ep refl)
+      one_part (column_ordinal s ref) (operands.Column at) b (λ z. Keeps ds es f (λ p. uses_in p z) → bind_operand s es (operands.Column at ref) ≡ Ok (renamed_operand f z)) e
+      (λ p ep k. one_ok (column_ordinal s ref) p (λ y. Ok (operands.Column at y)) _ ep refl)
   operand_kept s ds es f (operands.Minus at x) b e =
       one_part (bind_operand s ds x) (operands.Minus at) b (λ z. Keeps ds es f (λ p. uses_in p z) → bind_operand s es (operands.Minus at x) ≡ Ok (renamed_operand f z)) e
       (λ a ea k. one_ok (bind_operand s es x) (renamed_operand f a) (λ y. Ok (operands.Minus at y)) _ (operand_kept s ds es f x a ea k) refl)

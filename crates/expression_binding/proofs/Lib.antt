@@ -2,6 +2,6 @@ mod Causes
 pub mod Interface
 mod Kept
 mod Parts
-mod Places
+mod Ordinals
 mod Trees
 mod Walks

@@ -41,7 +41,7 @@ then_no_terms (operands.MinusThen at operand terms) = ap (operands.MinusThen at 
 
 -- the terms that are bound stand before the rest
 abbrev pub onto_terms : Terms ℕ ℕ → Result (Terms ℕ ℕ) SqlFault → Result (Terms ℕ ℕ) SqlFault
-onto_terms front rest = rest >>= λ more. Ok (then_terms front more)
+onto_terms prefix rest = rest >>= λ more. Ok (then_terms prefix more)
 
 terms_push : (terms : List (code_term.Term ℕ ℕ)) (term : code_term.Term ℕ ℕ) (more : Terms ℕ ℕ)
     → then_terms (terms_listed (terms ++ term ∷ [])) more ≡ then_terms (terms_listed terms) (then_terms (terms_listed (term ∷ [])) more)
@@ -52,14 +52,14 @@ terms_push (code_term.Minus at operand ∷ terms) term more = ap (operands.Minus
 
 one_operand : (A : Operand ℕ ℕ → Terms ℕ ℕ → Terms ℕ ℕ) (one : Result (Operand ℕ ℕ) SqlFault) (rest : Result (Terms ℕ ℕ) SqlFault)
     → ((o : Operand ℕ ℕ) (m : Terms ℕ ℕ) → A o m ≡ then_terms (A o operands.NoMore) m)
-    → (one >>= λ o. rest >>= λ more. Ok (A o more)) ≡ ((one >>= λ o. Ok (A o operands.NoMore)) >>= λ front. rest >>= λ more. Ok (then_terms front more))
+    → (one >>= λ o. rest >>= λ more. Ok (A o more)) ≡ ((one >>= λ o. Ok (A o operands.NoMore)) >>= λ prefix. rest >>= λ more. Ok (then_terms prefix more))
 one_operand A (Err e) rest h = refl
 one_operand A (Ok o) (Err e) h = refl
 one_operand A (Ok o) (Ok m) h = ap Ok (h o m)
 
 term_first : (scope : Scope) (declarations : List ParamDecl) (term : code_term.Term ColumnRef (List ℕ)) (rest : Terms ColumnRef (List ℕ))
     → bind_terms scope declarations (term_before term rest) ≡
-    (bind_terms scope declarations (terms_listed (term ∷ [])) >>= λ front. bind_terms scope declarations rest >>= λ more. Ok (then_terms front more))
+    (bind_terms scope declarations (terms_listed (term ∷ [])) >>= λ prefix. bind_terms scope declarations rest >>= λ more. Ok (then_terms prefix more))
 term_first scope declarations (code_term.Plus at operand) rest =
     one_operand (operands.PlusThen at) (bind_operand scope declarations (operand_of operand)) (bind_terms scope declarations rest) (λ o m. refl)
 term_first scope declarations (code_term.Minus at operand) rest =
@@ -74,13 +74,13 @@ terms_next : (scope : Scope) (declarations : List ParamDecl) (whole : Result (Te
     (bound : List (code_term.Term ℕ ℕ)) (terms : List (code_term.Term ColumnRef (List ℕ))) (i : ℕ) (term : code_term.Term ColumnRef (List ℕ))
     → i < length terms → term ≡ get_or terms i term → whole ≡ onto_terms (terms_listed bound) (bind_terms scope declarations (terms_listed (drop i terms)))
     → whole ≡ onto_terms (terms_listed bound)
-    (bind_terms scope declarations (terms_listed (term ∷ [])) >>= λ front. bind_terms scope declarations (terms_listed (drop (i + 1) terms)) >>= λ more. Ok (then_terms front more))
+    (bind_terms scope declarations (terms_listed (term ∷ [])) >>= λ prefix. bind_terms scope declarations (terms_listed (drop (i + 1) terms)) >>= λ more. Ok (then_terms prefix more))
 terms_next scope declarations whole bound terms i term lt e w =
     w ∙ at_drop_more (λ left. onto_terms (terms_listed bound) (bind_terms scope declarations (terms_listed left))) terms i term lt
     ∙ ap (λ z. onto_terms (terms_listed bound) (bind_terms scope declarations (terms_listed (z ∷ drop (i + 1) terms)))) (sym e)
     ∙ ap (onto_terms (terms_listed bound)) (term_first scope declarations term (terms_listed (drop (i + 1) terms)))
 
--- a term that is bound stands behind those before it
+-- a term that is bound stands after those before it
 pub terms_more : (scope : Scope) (declarations : List ParamDecl) (whole : Result (Terms ℕ ℕ) SqlFault)
     (bound : List (code_term.Term ℕ ℕ)) (one : code_term.Term ℕ ℕ) (terms : List (code_term.Term ColumnRef (List ℕ))) (i : ℕ) (term : code_term.Term ColumnRef (List ℕ))
     → i < length terms → term ≡ get_or terms i term → whole ≡ onto_terms (terms_listed bound) (bind_terms scope declarations (terms_listed (drop i terms)))
@@ -88,7 +88,7 @@ pub terms_more : (scope : Scope) (declarations : List ParamDecl) (whole : Result
     → whole ≡ onto_terms (terms_listed (bound ++ one ∷ [])) (bind_terms scope declarations (terms_listed (drop (i + 1) terms)))
 terms_more scope declarations whole bound one terms i term lt e w h =
     terms_next scope declarations whole bound terms i term lt e w
-    ∙ ap (λ r. onto_terms (terms_listed bound) (r >>= λ front. bind_terms scope declarations (terms_listed (drop (i + 1) terms)) >>= λ more. Ok (then_terms front more))) h
+    ∙ ap (λ r. onto_terms (terms_listed bound) (r >>= λ prefix. bind_terms scope declarations (terms_listed (drop (i + 1) terms)) >>= λ more. Ok (then_terms prefix more))) h
     ∙ onto_terms_push bound one (bind_terms scope declarations (terms_listed (drop (i + 1) terms)))
 
 -- one that isn't is the fault of the whole
@@ -98,7 +98,7 @@ pub terms_fault : (scope : Scope) (declarations : List ParamDecl) (whole : Resul
     → bind_terms scope declarations (terms_listed (term ∷ [])) ≡ Err fault → whole ≡ Err fault
 terms_fault scope declarations whole bound fault terms i term lt e w h =
     terms_next scope declarations whole bound terms i term lt e w
-    ∙ ap (λ r. onto_terms (terms_listed bound) (r >>= λ front. bind_terms scope declarations (terms_listed (drop (i + 1) terms)) >>= λ more. Ok (then_terms front more))) h
+    ∙ ap (λ r. onto_terms (terms_listed bound) (r >>= λ prefix. bind_terms scope declarations (terms_listed (drop (i + 1) terms)) >>= λ more. Ok (then_terms prefix more))) h
 
 -- ---- conditions
 
@@ -107,7 +107,7 @@ then_conditions conditions.NoMore more = more
 then_conditions (conditions.Then condition all) more = conditions.Then condition (then_conditions all more)
 
 abbrev pub onto_conditions : Conditions ℕ ℕ → Result (Conditions ℕ ℕ) SqlFault → Result (Conditions ℕ ℕ) SqlFault
-onto_conditions front rest = rest >>= λ more. Ok (then_conditions front more)
+onto_conditions prefix rest = rest >>= λ more. Ok (then_conditions prefix more)
 
 conditions_push : (all : List (code_condition.Condition ℕ ℕ)) (one : code_condition.Condition ℕ ℕ) (more : Conditions ℕ ℕ)
     → then_conditions (conditions_listed (all ++ one ∷ [])) more ≡ then_conditions (conditions_listed all) (conditions.Then (condition_of one) more)
@@ -155,10 +155,10 @@ sum_bound scope declarations operand one first terms items e f g bound more h k 
     ∙ ap (λ r. r >>= λ o. bind_terms scope declarations (terms_listed items) >>= λ m. Ok (operands.Sum o m)) h
     ∙ ap (λ r. r >>= λ m. Ok (operands.Sum bound m)) k
 
-pub terms_done : (scope : Scope) (declarations : List ParamDecl) (whole : Result (Terms ℕ ℕ) SqlFault) (front : Terms ℕ ℕ) (terms : List (code_term.Term ColumnRef (List ℕ))) (i : ℕ)
-    → length terms ≤ i → whole ≡ onto_terms front (bind_terms scope declarations (terms_listed (drop i terms))) → whole ≡ Ok front
-terms_done scope declarations whole front terms i le w =
-    w ∙ at_drop_all (λ left. onto_terms front (bind_terms scope declarations (terms_listed left))) terms i le ∙ ap Ok (then_no_terms front)
+pub terms_done : (scope : Scope) (declarations : List ParamDecl) (whole : Result (Terms ℕ ℕ) SqlFault) (prefix : Terms ℕ ℕ) (terms : List (code_term.Term ColumnRef (List ℕ))) (i : ℕ)
+    → length terms ≤ i → whole ≡ onto_terms prefix (bind_terms scope declarations (terms_listed (drop i terms))) → whole ≡ Ok prefix
+terms_done scope declarations whole prefix terms i le w =
+    w ∙ at_drop_all (λ left. onto_terms prefix (bind_terms scope declarations (terms_listed left))) terms i le ∙ ap Ok (then_no_terms prefix)
 
 pub conditions_more : (scope : Scope) (declarations : List ParamDecl) (whole : Result (Conditions ℕ ℕ) SqlFault)
     (bound : List (code_condition.Condition ℕ ℕ)) (one : code_condition.Condition ℕ ℕ)
@@ -173,7 +173,7 @@ conditions_more scope declarations whole bound one all i condition lt e w h =
     ∙ onto_conditions_push bound one (bind_conditions scope declarations (conditions_listed (drop (i + 1) all)))
 
 pub conditions_done : (scope : Scope) (declarations : List ParamDecl) (whole : Result (Conditions ℕ ℕ) SqlFault)
-    (front : Conditions ℕ ℕ) (all : List (code_condition.Condition ColumnRef (List ℕ))) (i : ℕ)
-    → length all ≤ i → whole ≡ onto_conditions front (bind_conditions scope declarations (conditions_listed (drop i all))) → whole ≡ Ok front
-conditions_done scope declarations whole front all i le w =
-    w ∙ at_drop_all (λ left. onto_conditions front (bind_conditions scope declarations (conditions_listed left))) all i le ∙ ap Ok (then_no_conditions front)
+    (prefix : Conditions ℕ ℕ) (all : List (code_condition.Condition ColumnRef (List ℕ))) (i : ℕ)
+    → length all ≤ i → whole ≡ onto_conditions prefix (bind_conditions scope declarations (conditions_listed (drop i all))) → whole ≡ Ok prefix
+conditions_done scope declarations whole prefix all i le w =
+    w ∙ at_drop_all (λ left. onto_conditions prefix (bind_conditions scope declarations (conditions_listed left))) all i le ∙ ap Ok (then_no_conditions prefix)

@@ -9,8 +9,8 @@ IsOfName f =
     (name : List ℕ) × ((f ≡ fault.NoTable name) ⊎ (f ≡ fault.NoColumn name) ⊎ (f ≡ fault.Ambiguous name) ⊎ (f ≡ fault.NoParam name) ⊎ (f ≡ fault.NoKey name))
 
 -- values of two kinds, or what isn't grouped, at a place
-abbrev pub IsOfPlace : SqlFault → Type 0
-IsOfPlace f = (at : ℕ) × ((f ≡ fault.TypeClash at) ⊎ (f ≡ fault.NotGrouped at))
+abbrev pub IsOfOrdinal : SqlFault → Type 0
+IsOfOrdinal f = (at : ℕ) × ((f ≡ fault.TypeClash at) ⊎ (f ≡ fault.NotGrouped at))
 
 abbrev pub IsStatementFault : SqlFault → Type 0
-IsStatementFault f = IsOfName f ⊎ IsOfPlace f ⊎ (f ≡ fault.TooLong)
+IsStatementFault f = IsOfName f ⊎ IsOfOrdinal f ⊎ (f ≡ fault.TooLong)

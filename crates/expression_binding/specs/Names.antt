@@ -1,4 +1,4 @@
--- The names in operands and conditions, in text order: each becomes a place, or the first that can't is the fault.
+-- The names in operands and conditions, in text order: each becomes an ordinal, or the first that can't is the fault.
 use Rattle.std.specs.Prelude.{ℕ, List, Option, Some, None, Result, Ok, Err, if◌then◌else◌}
 use Rattle.ae_base.specs.Results.{◌>>=◌, each}
 use Rattle.ae_base.specs.Values.{value_is_within}
@@ -12,7 +12,7 @@ use Rattle.sql_tree.specs.Operands as operands
 use Rattle.sql_tree.specs.Conditions.{Condition, Conditions}
 use Rattle.sql_tree.specs.Conditions as conditions
 use Rattle.sql_tree.specs.Literals.{literal_type}
-use Rattle.expression_binding.specs.Scopes.{Scope, column_place, param_place}
+use Rattle.expression_binding.specs.Scopes.{Scope, column_ordinal, param_ordinal}
 
 -- a literal past its type is TooLong; no text that is read has one
 abbrev pub short : Value → Result (Unit {0}) SqlFault
@@ -21,8 +21,8 @@ short v = if value_is_within v (literal_type v) then Ok tt else Err fault.TooLon
 abbrev mutual
   pub bind_operand : Scope → List ParamDecl → Operand ColumnRef (List ℕ) → Result (Operand ℕ ℕ) SqlFault
   bind_operand scope declarations (operands.Literal at v) = short v >>= λ fine. Ok (operands.Literal at v)
-  bind_operand scope declarations (operands.Param at name) = param_place declarations name >>= λ place. Ok (operands.Param at place)
-  bind_operand scope declarations (operands.Column at ref) = column_place scope ref >>= λ place. Ok (operands.Column at place)
+  bind_operand scope declarations (operands.Param at name) = param_ordinal declarations name >>= λ ordinal. Ok (operands.Param at ordinal)
+  bind_operand scope declarations (operands.Column at ref) = column_ordinal scope ref >>= λ ordinal. Ok (operands.Column at ordinal)
   bind_operand scope declarations (operands.Minus at operand) = bind_operand scope declarations operand >>= λ bound. Ok (operands.Minus at bound)
   bind_operand scope declarations (operands.Sum first terms) =
       bind_operand scope declarations first >>= λ one. bind_terms scope declarations terms >>= λ more. Ok (operands.Sum one more)

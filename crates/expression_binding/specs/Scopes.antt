@@ -1,4 +1,4 @@
--- What a name can mean at a place of a statement.
+-- What a name can mean at an offset of a statement.
 use Rattle.std.specs.Prelude.{ℕ, ◌+◌, List, [], ◌∷◌, ◌++◌, length, map, Option, Some, None, Result, Ok, Err, Bool, true, ◌&&◌, if◌then◌else◌}
 use Rattle.std.specs.List.{list_any, position, flat_map}
 use Rattle.std.specs.Str.{bytes_eq}
@@ -35,7 +35,7 @@ nothing_in_scope = record { sources = []; columns = [] }
 abbrev pub columns_under : List ℕ → List ColumnDef → List ScopeColumn
 columns_under visible columns = map (λ column. record { visible = visible; column = column }) columns
 
--- a further table's columns stand behind those that are there
+-- a further table's columns stand after those that are there
 abbrev pub with_source : Scope → Source → Scope
 with_source scope source = record {
   sources = scope.sources ++ source.visible ∷ [];
@@ -64,37 +64,37 @@ abbrev pub is_of : Option (List ℕ) → List ℕ → Bool
 is_of None visible = true
 is_of (Some qualifier) visible = bytes_eq qualifier visible
 
-abbrev pub is_meant : ColumnRef → ScopeColumn → Bool
-is_meant ref c = bytes_eq c.column.name ref.name && is_of ref.qualifier c.visible
+abbrev pub is_analysis : ColumnRef → ScopeColumn → Bool
+is_analysis ref c = bytes_eq c.column.name ref.name && is_of ref.qualifier c.visible
 
 -- the places of the columns that a name may mean
-abbrev pub places_from : ℕ → ColumnRef → List ScopeColumn → List ℕ
-places_from i ref [] = []
-places_from i ref (c ∷ cs) = if is_meant ref c then i ∷ places_from (i + 1) ref cs else places_from (i + 1) ref cs
+abbrev pub ordinals_from : ℕ → ColumnRef → List ScopeColumn → List ℕ
+ordinals_from i ref [] = []
+ordinals_from i ref (c ∷ cs) = if is_analysis ref c then i ∷ ordinals_from (i + 1) ref cs else ordinals_from (i + 1) ref cs
 
-abbrev pub one_place : List ℕ → List ℕ → Result ℕ SqlFault
-one_place name [] = Err (fault.NoColumn name)
-one_place name (p ∷ []) = Ok p
-one_place name (p ∷ q ∷ more) = Err (fault.Ambiguous name)
+abbrev pub one_ordinal : List ℕ → List ℕ → Result ℕ SqlFault
+one_ordinal name [] = Err (fault.NoColumn name)
+one_ordinal name (p ∷ []) = Ok p
+one_ordinal name (p ∷ q ∷ more) = Err (fault.Ambiguous name)
 
 abbrev pub known_source : List (List ℕ) → Option (List ℕ) → Result (Unit {0}) SqlFault
 known_source sources None = Ok tt
 known_source sources (Some qualifier) = if list_any (bytes_eq qualifier) sources then Ok tt else Err (fault.NoTable qualifier)
 
 -- a qualifier that no table has is NoTable; a column that none has NoColumn, and one that several have Ambiguous
-abbrev pub column_place : Scope → ColumnRef → Result ℕ SqlFault
-column_place scope ref = known_source scope.sources ref.qualifier >>= λ known. one_place ref.name (places_from 0 ref scope.columns)
+abbrev pub column_ordinal : Scope → ColumnRef → Result ℕ SqlFault
+column_ordinal scope ref = known_source scope.sources ref.qualifier >>= λ known. one_ordinal ref.name (ordinals_from 0 ref scope.columns)
 
 -- ---- parameters and names that are given once
 
-abbrev pub param_place : List ParamDecl → List ℕ → Result ℕ SqlFault
-param_place declarations name = or_fault (fault.NoParam name) (position (λ declaration. bytes_eq declaration.name name) declarations)
+abbrev pub param_ordinal : List ParamDecl → List ℕ → Result ℕ SqlFault
+param_ordinal declarations name = or_fault (fault.NoParam name) (position (λ declaration. bytes_eq declaration.name name) declarations)
 
 -- a column of the table: NoColumn where the table lacks it, Ambiguous where it was given before
-abbrev pub new_place : List ColumnDef → List ℕ → Bool → Result ℕ SqlFault
-new_place columns name given =
-    or_fault (fault.NoColumn name) (position (λ column. bytes_eq column.name name) columns) >>= λ place.
-    if given then Err (fault.Ambiguous name) else Ok place
+abbrev pub new_ordinal : List ColumnDef → List ℕ → Bool → Result ℕ SqlFault
+new_ordinal columns name given =
+    or_fault (fault.NoColumn name) (position (λ column. bytes_eq column.name name) columns) >>= λ ordinal.
+    if given then Err (fault.Ambiguous name) else Ok ordinal
 
-abbrev pub named_place : List ColumnDef → List (List ℕ) → List ℕ → Result ℕ SqlFault
-named_place columns before name = new_place columns name (list_any (bytes_eq name) before)
+abbrev pub named_ordinal : List ColumnDef → List (List ℕ) → List ℕ → Result ℕ SqlFault
+named_ordinal columns before name = new_ordinal columns name (list_any (bytes_eq name) before)

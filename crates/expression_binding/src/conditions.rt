@@ -77,7 +77,7 @@ fn is_in(
     }
 }
 
-/// The condition with its names as places, or the first fault of its operands in text order.
+/// The condition with its names as ordinals, or the first fault of its operands in text order.
 #[cycle(bind_condition)]
 #[tactic(auto, using(crate::proofs::Trees::all_seen, crate::proofs::Trees::any_seen))]
 pub fn bind_condition(
@@ -143,7 +143,7 @@ fn bind_conditions(
     Ok(bound)
 }
 
-/// The condition of a WHERE, where there is one, with its names as places, or its first fault.
+/// The condition of a WHERE, where there is one, with its names as ordinals, or its first fault.
 pub fn bind_filter(
     alloc: Global,
     scope: &Scope<'_>,

@@ -8,7 +8,7 @@ ghost use Rattle.expression_binding.specs.Names.{bind_operand, bind_operands, bi
 ghost use Rattle.expression_binding.specs.Seen.{scope_seen};
 
 use crate::boxes::boxed;
-use crate::scopes::{Scope, column_place, param_place};
+use crate::scopes::{Scope, column_ordinal, param_ordinal};
 use ae_base::batches::ParamDecl;
 use ae_base::faults::SqlFault;
 use ae_base::lists::{Duplicate, Seq};
@@ -30,7 +30,7 @@ fn short(value: &Value) -> Result<(), Refusal>
     }
 }
 
-/// The operand with its names as places, or its first fault in text order: NoParam, NoTable,
+/// The operand with its names as ordinals, or its first fault in text order: NoParam, NoTable,
 /// NoColumn, Ambiguous, or TooLong for a literal past its type.
 #[cycle(bind_operand)]
 pub fn bind_operand(
@@ -52,11 +52,11 @@ pub fn bind_operand(
         }
         Operand::Param { at, param } => Ok(Operand::Param {
             at: *at,
-            param: param_place(declarations, param)?,
+            param: param_ordinal(declarations, param)?,
         }),
         Operand::Column { at, column } => Ok(Operand::Column {
             at: *at,
-            column: column_place(scope, column)?,
+            column: column_ordinal(scope, column)?,
         }),
         Operand::Minus { at, operand } => {
             let operand = bind_operand(alloc, scope, declarations, operand)?;

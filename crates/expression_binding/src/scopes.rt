@@ -4,7 +4,7 @@ ghost use Rattle.std.specs.Prelude.{◌≡◌, ◌++◌, OnOk, map};
 ghost use Rattle.std.specs.List.{list_any, position};
 ghost use Rattle.std.specs.Str.{bytes_eq};
 ghost use Rattle.ae_base.specs.Results.{Answers};
-ghost use Rattle.expression_binding.specs.Scopes.{column_place, columns_under, is_meant, is_of, known_source, new_place, nothing_in_scope, one_place, param_place, places_from, with_source};
+ghost use Rattle.expression_binding.specs.Scopes.{column_ordinal, columns_under, is_analysis, is_of, known_source, new_ordinal, nothing_in_scope, one_ordinal, param_ordinal, ordinals_from, with_source};
 ghost use Rattle.expression_binding.specs.Seen.{column_seen, scope_seen, source_seen};
 
 use ae_base::batches::ParamDecl;
@@ -56,7 +56,7 @@ impl<'a> Scope<'a> {
         }
     }
 
-    /// Puts the columns of a table behind those that are there.
+    /// Appends the columns of a table to those in scope.
     pub fn add(&mut self, source: Source<'a>) -> Result<(), AllocError>
         ensures { OnOk result
             (scope_seen self.new ≡ with_source (scope_seen self.old) (source_seen source.entry)) }
@@ -84,12 +84,12 @@ fn add_columns<'a>(
     Ok(())
 }
 
-/// The place of a declared parameter, from 0; NoParam where none has the name.
-pub(crate) fn param_place(declarations: &[ParamDecl], name: &ParamName) -> Result<usize, Refusal>
-    ensures { Answers result (param_place declarations.now name.now) }
+/// The ordinal of a declared parameter, from 0; NoParam where none has the name.
+pub(crate) fn param_ordinal(declarations: &[ParamDecl], name: &ParamName) -> Result<usize, Refusal>
+    ensures { Answers result (param_ordinal declarations.now name.now) }
 {
     match declared(declarations, name) {
-        Some(place) => Ok(place),
+        Some(ordinal) => Ok(ordinal),
         None => Err(Refusal::Fault(SqlFault::NoParam(name.copy()?))),
     }
 }
@@ -103,17 +103,17 @@ fn declared(declarations: &[ParamDecl], name: &ParamName) -> Option<usize>
         .position(|declaration| declaration.name == *name)
 }
 
-/// The place of the column that a name means, from 0. A qualifier that no table has is NoTable; a
+/// The ordinal of the column that a name means, from 0. A qualifier that no table has is NoTable; a
 /// column that none has is NoColumn, and one that several have Ambiguous.
-pub fn column_place(scope: &Scope<'_>, column: &ColumnRef) -> Result<usize, Refusal>
-    ensures { Answers result (column_place (scope_seen scope.now) column.now) }
+pub fn column_ordinal(scope: &Scope<'_>, column: &ColumnRef) -> Result<usize, Refusal>
+    ensures { Answers result (column_ordinal (scope_seen scope.now) column.now) }
 {
     if let Some(qualifier) = &column.qualifier {
         if !is_source(scope.sources.as_slice(), qualifier) {
             return Err(Refusal::Fault(SqlFault::NoTable(qualifier.copy()?)));
         }
     }
-    one_place(scope.columns.as_slice(), column)
+    one_ordinal(scope.columns.as_slice(), column)
 }
 
 /// Whether a table is visible under a name.
@@ -129,28 +129,28 @@ pub fn is_source(sources: &[&Name], name: &Name) -> bool
     false
 }
 
-/// The place of the one column that a name means.
-fn one_place(columns: &[ScopeColumn<'_>], column: &ColumnRef) -> Result<usize, Refusal>
+/// The ordinal of the one column that a name means.
+fn one_ordinal(columns: &[ScopeColumn<'_>], column: &ColumnRef) -> Result<usize, Refusal>
     ensures { Answers result
-        (one_place column.now.name (places_from 0 column.now (map column_seen columns.now))) }
+        (one_ordinal column.now.name (ordinals_from 0 column.now (map column_seen columns.now))) }
 {
     let mut found = None;
-    for (place, candidate) in columns.iter().enumerate() {
-        if is_meant(column, candidate) {
+    for (ordinal, candidate) in columns.iter().enumerate() {
+        if is_analysis(column, candidate) {
             if found.is_some() {
                 return Err(Refusal::Fault(SqlFault::Ambiguous(column.name.copy()?)));
             }
-            found = Some(place);
+            found = Some(ordinal);
         }
     }
     match found {
-        Some(place) => Ok(place),
+        Some(ordinal) => Ok(ordinal),
         None => Err(Refusal::Fault(SqlFault::NoColumn(column.name.copy()?))),
     }
 }
 
-fn is_meant(column: &ColumnRef, candidate: &ScopeColumn<'_>) -> bool
-    ensures { result ≡ is_meant column.now (column_seen candidate.now) }
+fn is_analysis(column: &ColumnRef, candidate: &ScopeColumn<'_>) -> bool
+    ensures { result ≡ is_analysis column.now (column_seen candidate.now) }
 {
     candidate.column.name == column.name
         && match &column.qualifier {
@@ -159,21 +159,21 @@ fn is_meant(column: &ColumnRef, candidate: &ScopeColumn<'_>) -> bool
         }
 }
 
-/// The place of a column of a table.
-fn place_named(columns: &[ColumnDef], name: &Name) -> Option<usize>
+/// The ordinal of a column of a table.
+fn ordinal_named(columns: &[ColumnDef], name: &Name) -> Option<usize>
     ensures { result ≡ position (λ column. bytes_eq column.name name.now) columns.now }
 {
     columns.iter().position(|column| column.name == *name)
 }
 
-/// The place of a column of a table that wasn't given before: NoColumn where the table lacks it,
+/// The ordinal of a column of a table that wasn't given before: NoColumn where the table lacks it,
 /// Ambiguous where it was given.
-pub fn new_place(columns: &[ColumnDef], name: &Name, is_given: bool) -> Result<usize, Refusal>
-    ensures { Answers result (new_place columns.now name.now is_given) }
+pub fn new_ordinal(columns: &[ColumnDef], name: &Name, is_given: bool) -> Result<usize, Refusal>
+    ensures { Answers result (new_ordinal columns.now name.now is_given) }
 {
-    match place_named(columns, name) {
+    match ordinal_named(columns, name) {
         Some(_) if is_given => Err(Refusal::Fault(SqlFault::Ambiguous(name.copy()?))),
-        Some(place) => Ok(place),
+        Some(ordinal) => Ok(ordinal),
         None => Err(Refusal::Fault(SqlFault::NoColumn(name.copy()?))),
     }
 }

@@ -6,7 +6,7 @@ use Rattle.std.specs.List.{list_any, position_or_len}
 use Rattle.std.specs.Str.{bytes_eq}
 use Rattle.std.proofs.lemmas.Slice.Eq.{bytes_eq-Decides}
 use Rattle.first_seen.specs.Parts.{Spot, Classing, counted, number_in, is_seen, put_if, cells_of, noted}
-use Rattle.first_seen.specs.Laws.{TellsApart, IsByClass}
+use Rattle.first_seen.specs.Laws.{Separates, IsByClass}
 
 turned : (a b : List ℕ) → bytes_eq a b ≡ bytes_eq b a
 turned a b = one_answer (bytes_eq a b) (bytes_eq b a) (bytes_eq-Decides a b) (
@@ -40,7 +40,7 @@ put_none : (a : Bool) (x : List ℕ) → a ≡ false → put_if a x [] ≡ []
 put_none true x e = absurd cc
 put_none false x e = refl
 
-module _ {C : Type 0} (k : Classing C) (tells : TellsApart k) where
+module _ {C : Type 0} (k : Classing C) (knows : Separates k) where
   pub number_by : (seen : List (Spot C)) (c : C) (x : List ℕ) → number_in k seen c x ≡ position_or_len (bytes_eq x) (cells_of k seen c)
   number_by [] c x = refl
   number_by (s ∷ seen) c x = number_put (k.same s.class c) x s.cell (cells_of k seen c) (number_in k seen c x) (number_by seen c x)
@@ -50,7 +50,7 @@ module _ {C : Type 0} (k : Classing C) (tells : TellsApart k) where
   there_by (s ∷ seen) c x = there_put (k.same s.class c) x s.cell (cells_of k seen c) (is_seen k seen c x) (there_by seen c x)
 
   push_by : (seen : List (Spot C)) (c : C) (x : List ℕ) → cells_of k (seen ++ record { class = c; cell = x } ∷ []) c ≡ cells_of k seen c ++ x ∷ []
-  push_by [] c x = put_last (k.same c c) x ((tells c c).1 refl)
+  push_by [] c x = put_last (k.same c c) x ((knows c c).1 refl)
   push_by (s ∷ seen) c x = ap (put_if (k.same s.class c) s.cell) (push_by seen c x) ∙ put_append (k.same s.class c) s.cell (cells_of k seen c) (x ∷ [])
 
   push_other : (seen : List (Spot C)) (c d : C) (x : List ℕ) → k.same c d ≡ false → cells_of k (seen ++ record { class = c; cell = x } ∷ []) d ≡ cells_of k seen d
@@ -75,10 +75,10 @@ module _ {C : Type 0} (k : Classing C) (tells : TellsApart k) where
   pub others_by : (seen : List (Spot C)) (c d : C) (x : List ℕ) → k.same c d ≡ false → cells_of k (noted k seen c x) d ≡ cells_of k seen d
   others_by seen c d x e = both_same (is_seen k seen c x) seen (seen ++ record { class = c; cell = x } ∷ []) d (cells_of k seen d) refl (push_other seen c d x e)
 
-pub by_class : (k : Classing ℕ) → TellsApart k → (seen : List (Spot ℕ)) (c : ℕ) (x : List ℕ) → IsByClass k seen c x
-by_class k tells seen c x = record {
-  number = number_by k tells seen c x;
-  there = there_by k tells seen c x;
-  own = own_by k tells seen c x;
-  others = λ d e. others_by k tells seen c d x e;
+pub by_class : (k : Classing ℕ) → Separates k → (seen : List (Spot ℕ)) (c : ℕ) (x : List ℕ) → IsByClass k seen c x
+by_class k knows seen c x = record {
+  number = number_by k knows seen c x;
+  there = there_by k knows seen c x;
+  own = own_by k knows seen c x;
+  others = λ d e. others_by k knows seen c d x e;
 }

@@ -28,7 +28,7 @@ use Rattle.first_seen.specs.Parts.{
   SpotsPaired,
   AreRenamed,
 }
-use Rattle.first_seen.specs.Laws.{Pair, Pairs, pairs_of, pairs_in, TellsApart, seen_after}
+use Rattle.first_seen.specs.Laws.{Pair, Pairs, pairs_of, pairs_in, Separates, seen_after}
 
 -- ---- single steps, by cases
 
@@ -54,22 +54,22 @@ seen_kept false b r s e f = f e
 seen_kept true true r s e f = refl
 seen_kept true false r s e f = f e
 
-counted_tells : (P : Type 0) (a b d r s : Bool) (n m : ℕ) → ((a && b) || r) ≡ true → ((a && d) || s) ≡ true → counted a b n ≡ counted a d m
+counted_knows : (P : Type 0) (a b d r s : Bool) (n m : ℕ) → ((a && b) || r) ≡ true → ((a && d) || s) ≡ true → counted a b n ≡ counted a d m
     → (b ≡ true → d ≡ true → P) → (r ≡ true → s ≡ true → n ≡ m → P) → P
-counted_tells P false b d r s n m e f g h k = k e f g
-counted_tells P true true true r s n m e f g h k = h refl refl
-counted_tells P true true false r s n m e f g h k = absurd cc
-counted_tells P true false true r s n m e f g h k = absurd cc
-counted_tells P true false false r s n m e f g h k = k e f (omega (arith, g))
+counted_knows P false b d r s n m e f g h k = k e f g
+counted_knows P true true true r s n m e f g h k = h refl refl
+counted_knows P true true false r s n m e f g h k = absurd cc
+counted_knows P true false true r s n m e f g h k = absurd cc
+counted_knows P true false false r s n m e f g h k = k e f (omega (arith, g))
 
-module _ {C : Type 0} (k : Classing C) (tells : TellsApart k) where
+module _ {C : Type 0} (k : Classing C) (knows : Separates k) where
   itself : (c : C) → k.same c c ≡ true
-  itself c = (tells c c).1 refl
+  itself c = (knows c c).1 refl
 
   same_cell : (x : List ℕ) → bytes_eq x x ≡ true
   same_cell x = (bytes_eq-Decides x x).1 refl
 
-  -- ---- cells seen, with more behind them
+  -- ---- cells seen, with more after them
 
   seen_before : (seen more : List (Spot C)) (c : C) (x : List ℕ) → is_seen k seen c x ≡ true → is_seen k (seen ++ more) c x ≡ true
   seen_before [] more c x e = absurd cc
@@ -93,12 +93,12 @@ module _ {C : Type 0} (k : Classing C) (tells : TellsApart k) where
   number_last (s ∷ seen) c x = ap (counted (k.same s.class c) (bytes_eq s.cell x)) (number_last seen c x)
 
   -- numbers tell cells apart
-  number_tells : (seen : List (Spot C)) (c : C) (x y : List ℕ) → is_seen k seen c x ≡ true → is_seen k seen c y ≡ true → number_in k seen c x ≡ number_in k seen c y → x ≡ y
-  number_tells [] c x y e f g = absurd cc
-  number_tells (s ∷ seen) c x y e f g =
-      counted_tells (x ≡ y) (k.same s.class c) (bytes_eq s.cell x) (bytes_eq s.cell y) (is_seen k seen c x) (is_seen k seen c y) (number_in k seen c x) (number_in k seen c y) e f g
+  number_knows : (seen : List (Spot C)) (c : C) (x y : List ℕ) → is_seen k seen c x ≡ true → is_seen k seen c y ≡ true → number_in k seen c x ≡ number_in k seen c y → x ≡ y
+  number_knows [] c x y e f g = absurd cc
+  number_knows (s ∷ seen) c x y e f g =
+      counted_knows (x ≡ y) (k.same s.class c) (bytes_eq s.cell x) (bytes_eq s.cell y) (is_seen k seen c x) (is_seen k seen c y) (number_in k seen c x) (number_in k seen c y) e f g
       (λ p q. sym ((bytes_eq-Decides s.cell x).0 p) ∙ (bytes_eq-Decides s.cell y).0 q)
-      (number_tells seen c x y)
+      (number_knows seen c x y)
 
   -- ---- renamed cells have equal labels
 
@@ -108,7 +108,7 @@ module _ {C : Type 0} (k : Classing C) (tells : TellsApart k) where
   module _ (R : Renames C) (renames : IsCellRenaming k R) where
     same_answer : (c : C) (num : k.is_numbered c ≡ true) (s t : Spot C) (x y : List ℕ) → R s.class s.cell t.cell → R c x y → k.same s.class c ≡ true → bytes_eq t.cell y ≡ bytes_eq s.cell x
     same_answer c num s t x y r p q =
-        let r = subst (λ d. R d s.cell t.cell) ((tells s.class c).0 q) r in
+        let r = subst (λ d. R d s.cell t.cell) ((knows s.class c).0 q) r in
         one_answer (bytes_eq t.cell y) (bytes_eq s.cell x) (
           (λ e. renames.back c num s.cell t.cell x y r p ((bytes_eq-Decides t.cell y).0 e)),
           (λ e. (bytes_eq-Decides t.cell y).1 (renames.onto c num s.cell t.cell x y r p e)),
@@ -194,10 +194,10 @@ module _ {C : Type 0} (k : Classing C) (tells : TellsApart k) where
     listing_alike seen others h [] (q ∷ qs) r = absurd r
     listing_alike seen others h (p ∷ ps) [] r = absurd r
     listing_alike {S} seen others h (p ∷ ps) (q ∷ qs) r =
-        let front = labels_alike seen others h p.spots q.spots r.0.1 in
-        let entry : entry_of k others q ≡ entry_of k seen p = ap (λ s. listed s (labels k others q.spots)) r.0.0 ∙ ap (listed p.shown) front.0 in
+        let prefix = labels_alike seen others h p.spots q.spots r.0.1 in
+        let entry : entry_of k others q ≡ entry_of k seen p = ap (λ s. listed s (labels k others q.spots)) r.0.0 ∙ ap (listed p.shown) prefix.0 in
         ap (λ e. e ∷ listing_from k (seen_past k others q.spots) qs) entry
-        ∙ ap (λ es. entry_of k seen p ∷ es) (listing_alike (seen_past k seen p.spots) (seen_past k others q.spots) front.1 ps qs r.1)
+        ∙ ap (λ es. entry_of k seen p ∷ es) (listing_alike (seen_past k seen p.spots) (seen_past k others q.spots) prefix.1 ps qs r.1)
       where
         listed : S → List (Label C) → Listed S C
         listed shown labels = record { shown = shown; labels = labels }
@@ -259,23 +259,23 @@ module _ {C : Type 0} (k : Classing C) (tells : TellsApart k) where
   has_still seen later c x n g h = let later_on = g c x h.0 in (later_on.0, later_on.1 ∙ h.1)
 
   -- of one length and first byte; in a numbered class both are seen, under one number
-  record Told (left right : List (Spot C)) (c : C) (x y : List ℕ) : Type 0 where
+  record Known (left right : List (Spot C)) (c : C) (x y : List ℕ) : Type 0 where
     pub size : length y ≡ length x
     pub lead : slice_index y 0 ≡ slice_index x 0
     pub numbers : k.is_numbered c ≡ true → (n : ℕ) × Has left c x n × Has right c y n
 
-  told_renames : (left right : List (Spot C)) → IsCellRenaming k (Told left right)
-  told_renames left right = record {
+  known_renames : (left right : List (Spot C)) → IsCellRenaming k (Known left right)
+  known_renames left right = record {
     size = λ c x y h. h.size;
     lead = λ c x y h. h.lead;
     onto = λ c num x y v w h i e.
         let m = h.numbers num in
         let n = i.numbers num in
-        number_tells right c y w m.2.0 n.2.0 (m.2.1 ∙ sym m.1.1 ∙ ap (number_in k left c) e ∙ n.1.1 ∙ sym n.2.1);
+        number_knows right c y w m.2.0 n.2.0 (m.2.1 ∙ sym m.1.1 ∙ ap (number_in k left c) e ∙ n.1.1 ∙ sym n.2.1);
     back = λ c num x y v w h i e.
         let m = h.numbers num in
         let n = i.numbers num in
-        number_tells left c x v m.1.0 n.1.0 (m.1.1 ∙ sym m.2.1 ∙ ap (number_in k right c) e ∙ n.2.1 ∙ sym n.1.1);
+        number_knows left c x v m.1.0 n.1.0 (m.1.1 ∙ sym m.2.1 ∙ ap (number_in k right c) e ∙ n.2.1 ∙ sym n.1.1);
   }
 
   same_number : (a b : Bool) (n m : ℕ) → b ≡ a → a ≡ true → (if b then Some m else None) ≡ (if a then Some n else None) → m ≡ n
@@ -283,9 +283,9 @@ module _ {C : Type 0} (k : Classing C) (tells : TellsApart k) where
   same_number true false n m e f g = absurd cc
   same_number false b n m e f g = absurd cc
 
-  spot_told : (seen others left right : List (Spot C)) (s t : Spot C) → label_of k others t ≡ label_of k seen s → Keeps (seen_with k seen s) left → Keeps (seen_with k others t) right
-      → SpotsPaired (Told left right) s t
-  spot_told seen others left right s t e f g =
+  spot_known : (seen others left right : List (Spot C)) (s t : Spot C) → label_of k others t ≡ label_of k seen s → Keeps (seen_with k seen s) left → Keeps (seen_with k others t) right
+      → SpotsPaired (Known left right) s t
+  spot_known seen others left right s t e f g =
       let class : t.class ≡ s.class = ap (λ (l : Label C). l.class) e in (
         class,
         record {
@@ -308,40 +308,40 @@ module _ {C : Type 0} (k : Classing C) (tells : TellsApart k) where
   rest_of : {A : Type 0} (x y : A) (xs ys : List A) → x ∷ xs ≡ y ∷ ys → xs ≡ ys
   rest_of x y xs ys e = ap (drop 1) e
 
-  spots_told : (seen others left right : List (Spot C)) (ss ts : List (Spot C)) → labels k others ts ≡ labels k seen ss → Keeps (seen_past k seen ss) left → Keeps (seen_past k others ts) right
-      → AllZip (SpotsPaired (Told left right)) ss ts
-  spots_told seen others left right [] [] e f g = tt
-  spots_told seen others left right [] (t ∷ ts) e f g = absurd cc
-  spots_told seen others left right (s ∷ ss) [] e f g = absurd cc
-  spots_told seen others left right (s ∷ ss) (t ∷ ts) e f g =
+  spots_known : (seen others left right : List (Spot C)) (ss ts : List (Spot C)) → labels k others ts ≡ labels k seen ss → Keeps (seen_past k seen ss) left → Keeps (seen_past k others ts) right
+      → AllZip (SpotsPaired (Known left right)) ss ts
+  spots_known seen others left right [] [] e f g = tt
+  spots_known seen others left right [] (t ∷ ts) e f g = absurd cc
+  spots_known seen others left right (s ∷ ss) [] e f g = absurd cc
+  spots_known seen others left right (s ∷ ss) (t ∷ ts) e f g =
       let now = seen_with k seen s in
       let later_on = seen_with k others t in (
-        spot_told seen others left right s t (first (label_of k others t) (label_of k seen s) (labels k later_on ts) (labels k now ss) e)
+        spot_known seen others left right s t (first (label_of k others t) (label_of k seen s) (labels k later_on ts) (labels k now ss) e)
             (keeps_on now (seen_past k now ss) left (keeps_past now ss) f)
             (keeps_on later_on (seen_past k later_on ts) right (keeps_past later_on ts) g),
-        spots_told now later_on left right ss ts (rest_of (label_of k others t) (label_of k seen s) (labels k later_on ts) (labels k now ss) e) f g,
+        spots_known now later_on left right ss ts (rest_of (label_of k others t) (label_of k seen s) (labels k later_on ts) (labels k now ss) e) f g,
       )
 
   keeps_after : {S : Type 0} (seen : List (Spot C)) (ps : List (Part S C)) → Keeps seen (seen_after k seen ps)
   keeps_after seen [] = keeps_itself seen
   keeps_after seen (p ∷ ps) = keeps_on seen (seen_past k seen p.spots) (seen_after k (seen_past k seen p.spots) ps) (keeps_past seen p.spots) (keeps_after (seen_past k seen p.spots) ps)
 
-  parts_told : {S : Type 0} (seen others left right : List (Spot C)) (ps qs : List (Part S C)) → listing_from k others qs ≡ listing_from k seen ps
-      → Keeps (seen_after k seen ps) left → Keeps (seen_after k others qs) right → AreRenamed (Told left right) ps qs
-  parts_told seen others left right [] [] e f g = tt
-  parts_told seen others left right [] (q ∷ qs) e f g = absurd cc
-  parts_told seen others left right (p ∷ ps) [] e f g = absurd cc
-  parts_told {S} seen others left right (p ∷ ps) (q ∷ qs) e f g =
+  parts_known : {S : Type 0} (seen others left right : List (Spot C)) (ps qs : List (Part S C)) → listing_from k others qs ≡ listing_from k seen ps
+      → Keeps (seen_after k seen ps) left → Keeps (seen_after k others qs) right → AreRenamed (Known left right) ps qs
+  parts_known seen others left right [] [] e f g = tt
+  parts_known seen others left right [] (q ∷ qs) e f g = absurd cc
+  parts_known seen others left right (p ∷ ps) [] e f g = absurd cc
+  parts_known {S} seen others left right (p ∷ ps) (q ∷ qs) e f g =
       let now = seen_past k seen p.spots in
       let later_on = seen_past k others q.spots in
       let entry = first (entry_of k others q) (entry_of k seen p) (listing_from k later_on qs) (listing_from k now ps) e in (
         (
           ap (λ (l : Listed S C). l.shown) entry,
-          spots_told seen others left right p.spots q.spots (ap (λ (l : Listed S C). l.labels) entry)
+          spots_known seen others left right p.spots q.spots (ap (λ (l : Listed S C). l.labels) entry)
               (keeps_on now (seen_after k now ps) left (keeps_after now ps) f)
               (keeps_on later_on (seen_after k later_on qs) right (keeps_after later_on qs) g),
         ),
-        parts_told now later_on left right ps qs (rest_of (entry_of k others q) (entry_of k seen p) (listing_from k later_on qs) (listing_from k now ps) e) f g,
+        parts_known now later_on left right ps qs (rest_of (entry_of k others q) (entry_of k seen p) (listing_from k later_on qs) (listing_from k now ps) e) f g,
       )
 
   -- ---- by lists of pairs
@@ -406,14 +406,14 @@ module _ {C : Type 0} (k : Classing C) (tells : TellsApart k) where
   }
 
   -- the second way: parts of one listing are renamed by the pairs of cells at like places
-  pub told_alike : {S : Type 0} (ps qs : List (Part S C)) → listing k qs ≡ listing k ps → IsCellRenaming k (Pairs (pairs_in ps qs)) × AreRenamed (Pairs (pairs_in ps qs)) ps qs
-  told_alike ps qs e =
+  pub known_alike : {S : Type 0} (ps qs : List (Part S C)) → listing k qs ≡ listing k ps → IsCellRenaming k (Pairs (pairs_in ps qs)) × AreRenamed (Pairs (pairs_in ps qs)) ps qs
+  known_alike ps qs e =
       let left = seen_after k [] ps in
       let right = seen_after k [] qs in
-      let told = parts_told [] [] left right ps qs e (keeps_itself left) (keeps_itself right) in
+      let known = parts_known [] [] left right ps qs e (keeps_itself left) (keeps_itself right) in
       let all = pairs_in ps qs in (
-        renames_within (Told left right) all (told_renames left right) (each_in (Told left right) ps qs told),
-        listed_in (Told left right) all ps qs told (λ p i. i),
+        renames_within (Known left right) all (known_renames left right) (each_in (Known left right) ps qs known),
+        listed_in (Known left right) all ps qs known (λ p i. i),
       )
 
   -- for the streaming form

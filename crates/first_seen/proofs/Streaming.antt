@@ -3,7 +3,7 @@ use Rattle.std.proofs.Common.{◌≡◌, ℕ, suc, List, [], ◌∷◌, ◌++◌
 use Rattle.std.specs.Prelude.{◌&&◌, ◌||◌, if◌then◌else◌}
 use Rattle.std.specs.Str.{bytes_eq}
 use Rattle.first_seen.specs.Parts.{Spot, Classing, counted, one_if, count_in, number_in, is_seen, Part, entry_of, listing_from, seen_past}
-use Rattle.first_seen.specs.Laws.{TellsApart, seen_after, NumbersOn}
+use Rattle.first_seen.specs.Laws.{Separates, seen_after, NumbersOn}
 use Rattle.first_seen.proofs.Numbering.{noted_number, noted_keeps}
 
 counted_all : (a b r : Bool) (n m : ℕ) → ((a && b) || r) ≡ false → (r ≡ false → n ≡ m) → counted a b n ≡ one_if a m
@@ -23,13 +23,13 @@ other_of : {A : Type 0} (b : Bool) (x y : A) → b ≡ false → (if b then x el
 other_of false x y e = refl
 other_of true x y e = absurd cc
 
-pub numbers_on : (k : Classing ℕ) → TellsApart k → (seen : List (Spot ℕ)) (c : ℕ) (x : List ℕ) → NumbersOn k seen c x
-numbers_on k tells seen c x = record {
+pub numbers_on : (k : Classing ℕ) → Separates k → (seen : List (Spot ℕ)) (c : ℕ) (x : List ℕ) → NumbersOn k seen c x
+numbers_on k knows seen c x = record {
   fresh = unseen k seen c x;
   more = λ e. other_of (is_seen k seen c x) seen (seen ++ record { class = c; cell = x } ∷ []) e;
   same = λ e. one_of (is_seen k seen c x) seen (seen ++ record { class = c; cell = x } ∷ []) e;
-  own = noted_number k tells seen c x;
-  others = λ d y e. noted_keeps k tells seen c x d y e;
+  own = noted_number k knows seen c x;
+  others = λ d y e. noted_keeps k knows seen c x d y e;
 }
 
 pub part_by_part : {S C : Type 0} (k : Classing C) (seen : List (Spot C)) (parts more : List (Part S C))

@@ -26,8 +26,8 @@ pairs_in (p ∷ parts) [] = []
 pairs_in (p ∷ parts) (q ∷ others) = pairs_of p.spots q.spots ++ pairs_in parts others
 
 -- classes are told apart by what they are
-abbrev pub TellsApart : {C : Type 0} → Classing C → Type 0
-TellsApart {C} k = (c d : C) → Decides (k.same c d) (c ≡ d)
+abbrev pub Separates : {C : Type 0} → Classing C → Type 0
+Separates {C} k = (c d : C) → Decides (k.same c d) (c ≡ d)
 
 -- ---- the streaming form, for code with a map from cells to numbers and a count for each class
 
@@ -45,10 +45,10 @@ pub record NumbersOn (k : Classing ℕ) (seen : List (Spot ℕ)) (c : ℕ) (x : 
   pub others : (d : ℕ) (y : List ℕ) → is_seen k seen d y ≡ true → number_in k (noted k seen c x) d y ≡ number_in k seen d y
 
 abbrev pub NumbersGoOn : Type 0
-NumbersGoOn = (k : Classing ℕ) → TellsApart k → (seen : List (Spot ℕ)) (c : ℕ) (x : List ℕ) → NumbersOn k seen c x
+NumbersGoOn = (k : Classing ℕ) → Separates k → (seen : List (Spot ℕ)) (c : ℕ) (x : List ℕ) → NumbersOn k seen c x
 
--- Class by class: a cell's number is its place among the cells of its class, the next one where it isn't there; it is put behind them
--- where it isn't there, and the cells of other classes stay. So one set in order of insertion for each class serves.
+-- Class by class: a cell's number is its place among the cells of its class, the next one where it doesn't exist; it is put after them
+-- where it doesn't exist, and the cells of other classes stay. So one set in order of insertion for each class serves.
 pub record IsByClass (k : Classing ℕ) (seen : List (Spot ℕ)) (c : ℕ) (x : List ℕ) : Type 0 where
   pub number : number_in k seen c x ≡ position_or_len (bytes_eq x) (cells_of k seen c)
   pub there : is_seen k seen c x ≡ list_any (bytes_eq x) (cells_of k seen c)
@@ -56,7 +56,7 @@ pub record IsByClass (k : Classing ℕ) (seen : List (Spot ℕ)) (c : ℕ) (x : 
   pub others : (d : ℕ) → k.same c d ≡ false → cells_of k (noted k seen c x) d ≡ cells_of k seen d
 
 abbrev pub TablesAreByClass : Type 0
-TablesAreByClass = (k : Classing ℕ) → TellsApart k → (seen : List (Spot ℕ)) (c : ℕ) (x : List ℕ) → IsByClass k seen c x
+TablesAreByClass = (k : Classing ℕ) → Separates k → (seen : List (Spot ℕ)) (c : ℕ) (x : List ℕ) → IsByClass k seen c x
 
 -- a listing is told part by part
 abbrev pub ListingsGoOn : Type 0
@@ -67,10 +67,10 @@ ListingsGoOn = (k : Classing ℕ) (seen : List (Spot ℕ)) (parts more : List (P
 
 -- parts that are renamed have one listing
 abbrev pub RenamedAreListedAlike : Type 0
-RenamedAreListedAlike = (k : Classing ℕ) → TellsApart k → (pairs : List (Pair ℕ)) → IsCellRenaming k (Pairs pairs)
+RenamedAreListedAlike = (k : Classing ℕ) → Separates k → (pairs : List (Pair ℕ)) → IsCellRenaming k (Pairs pairs)
     → (parts others : List (Part (List ℕ) ℕ)) → AreRenamed (Pairs pairs) parts others → listing k others ≡ listing k parts
 
 -- parts that have one listing are renamed, by the pairs of cells at like places
 abbrev pub ListedAlikeAreRenamed : Type 0
-ListedAlikeAreRenamed = (k : Classing ℕ) → TellsApart k → (parts others : List (Part (List ℕ) ℕ)) → listing k others ≡ listing k parts
+ListedAlikeAreRenamed = (k : Classing ℕ) → Separates k → (parts others : List (Part (List ℕ) ℕ)) → listing k others ≡ listing k parts
     → IsCellRenaming k (Pairs (pairs_in parts others)) × AreRenamed (Pairs (pairs_in parts others)) parts others

@@ -18,7 +18,7 @@ pub fn numbers_go_on()
     ensures { NumbersGoOn }
 {}
 
-/// A listing is told part by part, from the cells seen alone.
+/// A listing is made part by part, from the cells seen alone.
 pub fn listings_go_on()
     ensures { ListingsGoOn }
 {}

@@ -3,4 +3,4 @@ mod Histories
 pub mod Interface
 mod Refusals
 mod Streams
-mod Ways
+mod Directions

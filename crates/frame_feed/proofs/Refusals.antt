@@ -8,8 +8,8 @@ use Rattle.wire_payloads.specs.declared.versioned.Versioned.{Versioned}
 use Rattle.wire_encoding.specs.Packing.{SpellsPayload, payload_body}
 use Rattle.wire_encoding.specs.Spelling.{SpellsRequest, request_body, u32}
 use Rattle.wire_frames.specs.Frames.{IsRefused, is_request_head, is_reply_head}
-use Rattle.wire_frames.specs.declared.decoding.Way.{Way}
-use Rattle.wire_frames.specs.declared.decoding.Way.TheVariants.{ToServer, ToDriver}
+use Rattle.wire_frames.specs.declared.decoding.Direction.{Direction}
+use Rattle.wire_frames.specs.declared.decoding.Direction.TheVariants.{ToServer, ToDriver}
 use Rattle.frame_feed.specs.Feeding.{SpellsMessage}
 use Rattle.frame_feed.specs.declared.messages.Message.{Message}
 use Rattle.frame_feed.specs.declared.messages.Message.TheVariants.{Asks, Tells}
@@ -29,11 +29,11 @@ pub refused_tells : (version : FrameVersion) (bytes : List ℕ) → IsRefused (i
     → IsRefused (is_reply_head version) (SpellsMessage (ToDriver version)) bytes
 refused_tells version bytes h = (h.0, elim h.1 [ inl header ↦ inl header | inr frame ↦ inr (frame.0, no_tells version _ frame.1) ])
 
-has_header : (way : Way) (message : Message) (frame : List ℕ) → SpellsMessage way message frame → 6 ≤ length frame
+has_header : (direction : Direction) (message : Message) (frame : List ℕ) → SpellsMessage direction message frame → 6 ≤ length frame
 has_header ToServer (Asks asked) frame s = omega (arith, ap length s.1, length-append (u32 (length (request_body asked.message))) (request_body asked.message))
 has_header ToServer (Tells payload) frame s = absurd s
 has_header (ToDriver version) (Asks asked) frame s = absurd s
 has_header (ToDriver version) (Tells payload) frame s = omega (arith, ap length s.1, length-append (u32 (length (payload_body payload))) (payload_body payload))
 
-pub long_front : (way : Way) (message : Message) (used : ℕ) (bytes : List ℕ) → used ≤ length bytes → SpellsMessage way message (take used bytes) → 6 ≤ used
-long_front way message used bytes fits s = omega (arith, has_header way message (take used bytes) s, length-take-le used bytes fits)
+pub long_prefix : (direction : Direction) (message : Message) (used : ℕ) (bytes : List ℕ) → used ≤ length bytes → SpellsMessage direction message (take used bytes) → 6 ≤ used
+long_prefix direction message used bytes fits s = omega (arith, has_header direction message (take used bytes) s, length-take-le used bytes fits)

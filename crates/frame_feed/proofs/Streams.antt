@@ -33,7 +33,7 @@ use Rattle.wire_frames.specs.Frames.{Placed, End, EndsSo, ReadsAs, IsNotYet, IsR
 use Rattle.frame_feed.specs.Calls.{TellsEnd}
 use Rattle.frame_feed.specs.declared.feeds.Next.TheVariants as next
 
--- the bytes from a place on are these messages, and then the rest, from its place on
+-- the bytes from an offset on are these messages, and then the rest, from its place on
 abbrev pub Comes : {M : Type 0} → (M → List ℕ → Type 0) → ℕ → List ℕ → List (Placed M) → ℕ → List ℕ → Type 0
 Comes Spells at bytes [] now rest = (now ≡ at) × (rest ≡ bytes)
 Comes Spells at bytes (m ∷ ms) now rest =
@@ -49,9 +49,9 @@ comes_more Spells at bytes (m ∷ ms) now rest more h =
 -- one message more
 pub comes_one : {M : Type 0} (Spells : M → List ℕ → Type 0) (at : ℕ) (bytes : List ℕ) (ms : List (Placed M)) (now : ℕ) (rest frame after : List ℕ) (m : Placed M)
     → Comes Spells at bytes ms now rest → rest ≡ frame ++ after → m.at ≡ now → Spells m.message frame → Comes Spells at bytes (ms ++ m ∷ []) (now + length frame) after
-comes_one Spells at bytes [] now rest frame after m h split place s = (frame, after, sym h.1 ∙ split, place ∙ h.0, s, (ap (λ n. n + length frame) h.0, refl))
-comes_one Spells at bytes (k ∷ ks) now rest frame after m h split place s =
-    (h.0, h.1, h.2, h.3, h.4, comes_one Spells (at + length h.0) h.1 ks now rest frame after m h.5 split place s)
+comes_one Spells at bytes [] now rest frame after m h split offset s = (frame, after, sym h.1 ∙ split, offset ∙ h.0, s, (ap (λ n. n + length frame) h.0, refl))
+comes_one Spells at bytes (k ∷ ks) now rest frame after m h split offset s =
+    (h.0, h.1, h.2, h.3, h.4, comes_one Spells (at + length h.0) h.1 ks now rest frame after m h.5 split offset s)
 
 pub comes_length : {M : Type 0} (Spells : M → List ℕ → Type 0) (at : ℕ) (bytes : List ℕ) (ms : List (Placed M)) (now : ℕ) (rest : List ℕ)
     → Comes Spells at bytes ms now rest → now + length rest ≡ at + length bytes

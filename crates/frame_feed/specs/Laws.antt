@@ -10,8 +10,8 @@ use Rattle.wire_payloads.specs.declared.versioned.Versioned.{Versioned}
 use Rattle.wire_encoding.specs.Packing.{packed, payload_frame, payloads_of}
 use Rattle.wire_encoding.specs.Spelling.{asked_frame}
 use Rattle.wire_frames.specs.Frames.{Placed, End, Whole, RequestFrames, ReplyFrames, placed_from}
-use Rattle.wire_frames.specs.declared.decoding.Way.{Way}
-use Rattle.wire_frames.specs.declared.decoding.Way.TheVariants.{ToServer, ToDriver}
+use Rattle.wire_frames.specs.declared.decoding.Direction.{Direction}
+use Rattle.wire_frames.specs.declared.decoding.Direction.TheVariants.{ToServer, ToDriver}
 use Rattle.frame_feed.specs.Calls.{Call, Lead, Frames, bytes_of, messages_of, ToldAfter}
 use Rattle.frame_feed.specs.Feeding.{Feeding, rest_of}
 use Rattle.frame_feed.specs.Steps.{Steps}
@@ -23,27 +23,27 @@ use Rattle.frame_feed.specs.declared.messages.Message.TheVariants.{Asks, Tells}
 -- whatever was fed, in whatever pieces, and whenever the next message was asked for: the messages given and the end
 -- told are the frames of all that was fed
 abbrev pub GivesFrames : Type 0
-GivesFrames = (way : Way) (calls : List Call) (end : End) → length (bytes_of calls) < 2 ^ 64 → ToldAfter way calls end → Frames way (bytes_of calls) (messages_of calls) end
+GivesFrames = (direction : Direction) (calls : List Call) (end : End) → length (bytes_of calls) < 2 ^ 64 → ToldAfter direction calls end → Frames direction (bytes_of calls) (messages_of calls) end
 
 -- the same bytes give the same messages, and the same end, however they were cut
 abbrev pub GivesTheSameHoweverCut : Type 0
 GivesTheSameHoweverCut =
-    (way : Way) (calls others : List Call) (end other : End) → length (bytes_of calls) < 2 ^ 64 → bytes_of calls ≡ bytes_of others
-    → ToldAfter way calls end → ToldAfter way others other → (messages_of calls ≡ messages_of others) × (end ≡ other)
+    (direction : Direction) (calls others : List Call) (end other : End) → length (bytes_of calls) < 2 ^ 64 → bytes_of calls ≡ bytes_of others
+    → ToldAfter direction calls end → ToldAfter direction others other → (messages_of calls ≡ messages_of others) × (end ≡ other)
 
 -- once a frame was refused, whatever is fed, the same fault is given, and told at the end
 abbrev pub KeepsFault : Type 0
 KeepsFault =
-    (old failed now after : Feeding) (place : ℕ) (calls : List Call) (answer : Next)
-    → Steps (next.Bad place) old failed → Lead calls failed now → Steps answer now after → (answer ≡ next.Bad place) × (rest_of now ≡ Some place)
+    (old failed now after : Feeding) (offset : ℕ) (calls : List Call) (answer : Next)
+    → Steps (next.Bad offset) old failed → Lead calls failed now → Steps answer now after → (answer ≡ next.Bad offset) × (rest_of now ≡ Some offset)
 
--- once `front` showed what is refused, whatever is fed, nothing is given, and the same fault is shown, unless memory ran out, and told at
+-- once `peek` showed what is refused, whatever is fed, nothing is given, and the same fault is shown, unless memory ran out, and told at
 -- the end
 abbrev pub KeepsRefusal : Type 0
 KeepsRefusal =
-    (old failed now after : Feeding) (place : ℕ) (calls : List Call) (answer : Next)
-    → Steps (next.Bad place) old failed → Lead calls old now → Steps answer now after
-    → (messages_of calls ≡ []) × ((answer ≡ next.Bad place) ⊎ (answer ≡ next.OutOfMemory)) × (rest_of now ≡ Some place)
+    (old failed now after : Feeding) (offset : ℕ) (calls : List Call) (answer : Next)
+    → Steps (next.Bad offset) old failed → Lead calls old now → Steps answer now after
+    → (messages_of calls ≡ []) × ((answer ≡ next.Bad offset) ⊎ (answer ≡ next.OutOfMemory)) × (rest_of now ≡ Some offset)
 
 -- ---- each direction
 

@@ -8,13 +8,13 @@ use crate::messages::{Message, decode};
 use bytes::BytesMut;
 use std::alloc::{AllocError, Global};
 use std::marker::Model;
-use wire_frames::{Decoded, Way};
+use wire_frames::{Decoded, Direction};
 
 /// The frames of one direction, from bytes that come in any pieces. Contracts see the direction,
-/// the place of the first byte that is held, the bytes held, and whether a frame was refused.
-/// Places past 2^64 - 1 are told as that.
+/// the offset of the first byte held, the bytes held, and whether a frame was refused. An offset
+/// past 2^64 - 1 is given as 2^64 - 1.
 pub struct FrameFeed {
-    way: Way,
+    direction: Direction,
     at: u64,
     held: BytesMut,
     failed: bool,
@@ -23,7 +23,7 @@ pub struct FrameFeed {
 impl Drop for FrameFeed {
     fn drop(self) {
         let FrameFeed {
-            way: _,
+            direction: _,
             at: _,
             held: _,
             failed: _,
@@ -39,26 +39,31 @@ impl Model for FrameFeed {
 
     ghost Value = { Feeding };
 
-    ghost view = { λ f. record { way = f.way; at = f.at; held = f.held.items; failed = f.failed } };
+    ghost view = { λ f. record {
+      direction = f.direction;
+      at = f.at;
+      held = f.held.items;
+      failed = f.failed;
+    } };
 
     ghost invariant = { λ f. f.failed ≡ true
-        → IsRefused (has_head f.way) (SpellsMessage f.way) f.held.items };
+        → IsRefused (has_head f.direction) (SpellsMessage f.direction) f.held.items };
 }
 
-/// What stands next.
+/// What comes next.
 #[derive(Drop)]
 pub enum Next<'a> {
-    /// A message, the place of its first byte, and how many bytes its frame has.
+    /// A message, the offset of its first byte, and how many bytes its frame has.
     One {
-        place: u64,
+        offset: u64,
         used: usize,
         message: Message<'a>,
     },
     /// Less than a frame, or nothing.
     NotYet,
-    /// What no frame begins with, or a frame that spells nothing, from that place on.
+    /// What no frame begins with, or a frame that spells nothing, from that offset on.
     Bad {
-        place: u64,
+        offset: u64,
     },
     /// A frame for whose message no memory is left.
     OutOfMemory,
@@ -66,18 +71,18 @@ pub enum Next<'a> {
 
 impl FrameFeed {
     /// No bytes yet. It takes no memory.
-    pub fn new(alloc: Global, way: Way) -> FrameFeed
-        ensures { result ≡ empty_feed way }
+    pub fn new(alloc: Global, direction: Direction) -> FrameFeed
+        ensures { result ≡ empty_feed direction }
     {
         FrameFeed {
-            way,
+            direction,
             at: 0,
             held: BytesMut::new(alloc),
             failed: false,
         }
     }
 
-    /// Takes the next piece of the stream. Out of memory, nothing changes. Behind a frame that
+    /// Takes the next piece of the stream. Out of memory, nothing changes. After a frame that
     /// was refused no byte is wanted, and none is taken.
     pub fn feed(&mut self, piece: &[u8]) -> Result<(), AllocError>
         ensures fed { OnOk result (self.new ≡ with_piece self.old piece.now) }
@@ -90,32 +95,31 @@ impl FrameFeed {
         self.held.extend_from_slice(piece)
     }
 
-    /// What stands next: a message, where it is whole, whose parts borrow from the bytes that are
-    /// held. `advance` lets them go, once the message is done with.
+    /// The next message, if it is whole. Its parts borrow from the bytes held; `advance` consumes
+    /// these, once the message is done with.
     ///
-    /// A body that comes in many pieces is read once: until all the bytes are there that the header
-    /// states, the header alone is read. So a stream costs what it has bytes, and for each piece
+    /// A body that comes in many pieces is read once: until all the bytes that the header states
+    /// are held, the header alone is read. So a stream costs what it has bytes, and for each piece
     /// the six of a header.
-    pub fn front(&self, alloc: Global) -> Next<'_>
+    pub fn peek(&self, alloc: Global) -> Next<'_>
         ensures { Steps result self.now (after result self.now) }
     {
         if self.failed {
-            return Next::Bad { place: self.at };
+            return Next::Bad { offset: self.at };
         }
-        match decode(alloc, self.way, self.held.as_slice()) {
+        match decode(alloc, self.direction, self.held.as_slice()) {
             Decoded::One(message, used) => Next::One {
-                place: self.at,
+                offset: self.at,
                 used,
                 message,
             },
             Decoded::NotYet => Next::NotYet,
-            Decoded::Bad => Next::Bad { place: self.at },
+            Decoded::Bad => Next::Bad { offset: self.at },
             Decoded::OutOfMemory => Next::OutOfMemory,
         }
     }
 
-    /// Lets go of the bytes of the message that stands next, and of nothing else: so many bytes are
-    /// its frame.
+    /// Consumes the bytes of the next message, and nothing else: `used` bytes are its frame.
     pub fn advance(&mut self, used: usize)
         requires waits { self.old.failed ≡ false }
         requires whole { StandsWhole used self.old }
@@ -125,57 +129,58 @@ impl FrameFeed {
         self.at = self.at.saturating_add(used as u64);
     }
 
-    /// What stands next, and borrows nothing.
-    fn own_front(&self, alloc: Global) -> Next<'static>
+    /// What comes next, borrowing nothing.
+    fn own_prefix(&self, alloc: Global) -> Next<'static>
         ensures { Steps result self.now (after result self.now) }
     {
-        match self.front(alloc) {
+        match self.peek(alloc) {
             Next::One {
-                place,
+                offset,
                 used,
                 message,
             } => match message.to_own(alloc) {
                 Ok(message) => Next::One {
-                    place,
+                    offset,
                     used,
                     message,
                 },
                 Err(_) => Next::OutOfMemory,
             },
             Next::NotYet => Next::NotYet,
-            Next::Bad { place } => Next::Bad { place },
+            Next::Bad { offset } => Next::Bad { offset },
             Next::OutOfMemory => Next::OutOfMemory,
         }
     }
 
-    /// The next message, where it is whole, as one that borrows nothing; its bytes are let go. A
-    /// feed that met what is no frame answers so from then on. In the other cases nothing changes.
+    /// The next message, if it is whole, as one that borrows nothing; its bytes are consumed. A
+    /// feed that has met bytes that begin no frame answers so from then on. In the other cases
+    /// nothing changes.
     pub fn next(&mut self, alloc: Global) -> Next<'static>
         ensures { Steps result self.old self.new }
     {
-        match self.own_front(alloc) {
+        match self.own_prefix(alloc) {
             Next::One {
-                place,
+                offset,
                 used,
                 message,
             } => {
                 self.advance(used);
                 Next::One {
-                    place,
+                    offset,
                     used,
                     message,
                 }
             }
             Next::NotYet => Next::NotYet,
-            Next::Bad { place } => {
+            Next::Bad { offset } => {
                 self.failed = true;
-                Next::Bad { place }
+                Next::Bad { offset }
             }
             Next::OutOfMemory => Next::OutOfMemory,
         }
     }
 
-    /// At the end of the stream: the place of the frame that isn't whole, where bytes are held.
+    /// At the end of the stream: the offset of the frame that isn't whole, where bytes are held.
     pub fn finish(&self) -> Option<u64>
         ensures { result ≡ rest_of self.now }
     {

@@ -14,8 +14,8 @@ pub fn feeds_give_frames()
     streams_are_read_once();
 }
 
-/// A feed whose `next` met what is no frame answers so from then on. Where `front` showed it, it is
-/// never let go, and each later call answers so, unless memory runs out.
+/// A feed whose `next` met bytes that begin no frame answers so from then on. If `peek` showed
+/// them, they are never consumed, and each later call answers so, unless memory runs out.
 pub fn faults_stay()
     ensures given { KeepsFault }
     ensures shown { KeepsRefusal }
@@ -25,7 +25,7 @@ pub fn faults_stay()
 
 /// The frames to the server are requests, in either version; those to the driver carry replies, in
 /// the version that it speaks. What was written is given back.
-pub fn frames_of_each_way()
+pub fn frames_of_each_direction()
     ensures requests { AreRequests }
     ensures replies { (version : FrameVersion) → AreReplies version }
     ensures requests_back { GivesRequestsBack }

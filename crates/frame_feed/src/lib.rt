@@ -6,5 +6,5 @@ mod laws;
 mod messages;
 
 pub use feeds::{FrameFeed, Next};
-pub use laws::{faults_stay, feeds_give_frames, frames_of_each_way};
+pub use laws::{faults_stay, feeds_give_frames, frames_of_each_direction};
 pub use messages::Message;

@@ -7,7 +7,7 @@ ghost use Rattle.frame_feed.specs.Feeding.{SpellsMessage};
 
 use ae_base::frames::FrameVersion;
 use std::alloc::{AllocError, Global};
-use wire_frames::{Decoded, Way, decode_reply, decode_request};
+use wire_frames::{Decoded, Direction, decode_reply, decode_request};
 use wire_messages::requests::Request;
 use wire_payloads::payloads::Payload;
 use wire_payloads::versioned::Versioned;
@@ -34,7 +34,7 @@ impl<'a> Message<'a> {
 }
 
 fn asks(alloc: Global, bytes: &[u8]) -> Decoded<Message<'_>>
-    ensures { Decodes is_request_head (SpellsMessage Way.ToServer) result bytes.now }
+    ensures { Decodes is_request_head (SpellsMessage Direction.ToServer) result bytes.now }
 {
     match decode_request(alloc, bytes) {
         Decoded::One(asked, used) => Decoded::One(Message::Asks(asked), used),
@@ -45,7 +45,7 @@ fn asks(alloc: Global, bytes: &[u8]) -> Decoded<Message<'_>>
 }
 
 fn tells(alloc: Global, version: FrameVersion, bytes: &[u8]) -> Decoded<Message<'_>>
-    ensures { Decodes (is_reply_head version) (SpellsMessage (Way.ToDriver version)) result
+    ensures { Decodes (is_reply_head version) (SpellsMessage (Direction.ToDriver version)) result
         bytes.now }
 {
     match decode_reply(alloc, version, bytes) {
@@ -56,12 +56,12 @@ fn tells(alloc: Global, version: FrameVersion, bytes: &[u8]) -> Decoded<Message<
     }
 }
 
-/// The message of a direction that stands at the front. Its parts borrow from the bytes.
-pub fn decode(alloc: Global, way: Way, bytes: &[u8]) -> Decoded<Message<'_>>
-    ensures { Decodes (has_head way) (SpellsMessage way) result bytes.now }
+/// The message of a direction at the start of some bytes. Its parts borrow from the bytes.
+pub fn decode(alloc: Global, direction: Direction, bytes: &[u8]) -> Decoded<Message<'_>>
+    ensures { Decodes (has_head direction) (SpellsMessage direction) result bytes.now }
 {
-    match way {
-        Way::ToServer => asks(alloc, bytes),
-        Way::ToDriver(version) => tells(alloc, version, bytes),
+    match direction {
+        Direction::ToServer => asks(alloc, bytes),
+        Direction::ToDriver(version) => tells(alloc, version, bytes),
     }
 }

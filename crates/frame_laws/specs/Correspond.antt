@@ -6,7 +6,7 @@ use Rattle.server_core.specs.Correspond.{ReplyCorresponds, classes_behind}
 use Rattle.wire_payloads.specs.declared.payloads.Payload.{Payload}
 use Rattle.wire_payloads.specs.declared.payloads.Payload.TheVariants.{One, Rows}
 
--- the classes of the rows that come behind a frame
+-- the classes of the rows that come after a frame
 abbrev pub classes_past : List Class → Payload → List Class
 classes_past classes (One reply) = classes_behind classes reply
 classes_past classes (Rows rows) = classes

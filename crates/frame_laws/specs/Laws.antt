@@ -8,7 +8,7 @@ use Rattle.server_core.specs.Correspond.{RepliesCorrespond}
 use Rattle.wire_messages.specs.declared.replies.Reply.{Reply}
 use Rattle.wire_encoding.specs.Packing.{payloads_of}
 
--- replies that correspond, and before which no columns are told, are carried by frames that do: where rows share a frame, those that
+-- replies that correspond, and before which no columns are described, are carried by frames that do: where rows share a frame, those that
 -- correspond share one, since frames are made by lengths alone, which a renaming keeps
 abbrev pub RepliesAreCarriedAlike : Type 0
 RepliesAreCarriedAlike = (entries : List Entry) → IsRenaming entries → (version : FrameVersion) (replies others : List Reply)

@@ -11,7 +11,7 @@ use frame_feed::{FrameFeed, Message, Next};
 use std::alloc::{AllocError, Global};
 use std::test::Fail;
 use wire_encoding::{encode_reply, encode_request, pack};
-use wire_frames::Way;
+use wire_frames::Direction;
 use wire_messages::replies::{Reply, RowParts};
 use wire_parts::atoms::AtomPart;
 use wire_payloads::payloads::Payload;
@@ -35,72 +35,86 @@ fn rows_of(alloc: Global, rows: &[RowParts<'_>]) -> Result<Vec<Reply<'static>>, 
 }
 
 // The frame of a payload, which in version 2 has no row alone.
-fn told_frame(alloc: Global, way: Way, payload: &Payload<'_>) -> Result<Vec<u8>, AllocError> {
-    match (way, payload) {
-        (Way::ToServer, _) | (Way::ToDriver(FrameVersion::V2), Payload::One(Reply::Row(_))) => {
+fn answered_frame(
+    alloc: Global,
+    direction: Direction,
+    payload: &Payload<'_>,
+) -> Result<Vec<u8>, AllocError> {
+    match (direction, payload) {
+        (Direction::ToServer, _)
+        | (Direction::ToDriver(FrameVersion::V2), Payload::One(Reply::Row(_))) => {
             Ok(Vec::new(alloc))
         }
-        (Way::ToDriver(version), Payload::One(reply)) => encode_reply(alloc, version, reply),
-        (Way::ToDriver(version), Payload::Rows(batch)) => {
+        (Direction::ToDriver(version), Payload::One(reply)) => encode_reply(alloc, version, reply),
+        (Direction::ToDriver(version), Payload::Rows(batch)) => {
             pack(alloc, version, &rows_of(alloc, batch.rows())?)
         }
     }
 }
 
-fn frame_of(alloc: Global, way: Way, message: &Message<'_>) -> Result<Vec<u8>, AllocError> {
+fn frame_of(
+    alloc: Global,
+    direction: Direction,
+    message: &Message<'_>,
+) -> Result<Vec<u8>, AllocError> {
     match message {
         Message::Asks(asked) => encode_request(alloc, asked.version, &asked.message),
-        Message::Tells(payload) => told_frame(alloc, way, payload),
+        Message::Tells(payload) => answered_frame(alloc, direction, payload),
     }
 }
 
 // Writes the message that is given. Where none is, how the stream ends if no byte follows.
 fn end_at(
     alloc: Global,
-    way: Way,
+    direction: Direction,
     next: &Next<'_>,
     rest: Option<u64>,
     out: &mut Vec<u8>,
 ) -> Result<Option<End>, AllocError> {
     match next {
         Next::One {
-            place: _,
+            offset: _,
             used: _,
             message,
         } => {
-            out.extend_from_slice(&frame_of(alloc, way, message)?)?;
+            out.extend_from_slice(&frame_of(alloc, direction, message)?)?;
             Ok(None)
         }
         Next::NotYet => match rest {
             None => Ok(Some(End::Whole)),
-            Some(place) => Ok(Some(End::Rest(place))),
+            Some(offset) => Ok(Some(End::Rest(offset))),
         },
-        Next::Bad { place } => Ok(Some(End::Refused(*place))),
+        Next::Bad { offset } => Ok(Some(End::Refused(*offset))),
         Next::OutOfMemory => Ok(Some(End::OutOfMemory)),
     }
 }
 
 fn step(
     alloc: Global,
-    way: Way,
+    direction: Direction,
     feed: &mut FrameFeed,
     out: &mut Vec<u8>,
 ) -> Result<Option<End>, AllocError> {
     let next = feed.next(alloc);
-    end_at(alloc, way, &next, feed.finish(), out)
+    end_at(alloc, direction, &next, feed.finish(), out)
 }
 
 // What a stream in pieces of so many bytes is: the messages that are given, written again, and the end
 // that is told.
-fn read(alloc: Global, way: Way, stream: &[u8], size: usize) -> Result<(Vec<u8>, End), AllocError> {
-    let mut feed = FrameFeed::new(alloc, way);
+fn read(
+    alloc: Global,
+    direction: Direction,
+    stream: &[u8],
+    size: usize,
+) -> Result<(Vec<u8>, End), AllocError> {
+    let mut feed = FrameFeed::new(alloc, direction);
     let mut out = Vec::new(alloc);
     let mut end = End::Whole;
     for piece in stream.chunks(size.max(1)) {
         feed.feed(piece)?;
         for _ in 0..=piece.len() {
-            if let Some(told) = step(alloc, way, &mut feed, &mut out)? {
-                end = told;
+            if let Some(answered) = step(alloc, direction, &mut feed, &mut out)? {
+                end = answered;
                 break;
             }
         }
@@ -111,14 +125,14 @@ fn read(alloc: Global, way: Way, stream: &[u8], size: usize) -> Result<(Vec<u8>,
 // Whether a stream is read so, whole and in pieces of 1, 2 and 7 bytes: the frames in front, and the end.
 fn is_read(
     alloc: Global,
-    way: Way,
+    direction: Direction,
     stream: &[u8],
-    front: &[u8],
+    prefix: &[u8],
     want: End,
 ) -> Result<bool, AllocError> {
     for size in [1, 2, 7, stream.len()] {
-        let (out, end) = read(alloc, way, stream, size)?;
-        if out.as_slice() != front || end != want {
+        let (out, end) = read(alloc, direction, stream, size)?;
+        if out.as_slice() != prefix || end != want {
             return Ok(false);
         }
     }
@@ -135,38 +149,43 @@ fn joined(alloc: Global, frames: &[&[u8]]) -> Result<Vec<u8>, AllocError> {
 }
 
 // Whether frames are read as they are, each alone and all in a row.
-fn are_read(alloc: Global, way: Way, frames: &[&[u8]]) -> Result<bool, AllocError> {
+fn are_read(alloc: Global, direction: Direction, frames: &[&[u8]]) -> Result<bool, AllocError> {
     for frame in frames {
-        if !is_read(alloc, way, frame, frame, End::Whole)? {
+        if !is_read(alloc, direction, frame, frame, End::Whole)? {
             return Ok(false);
         }
     }
     let all = joined(alloc, frames)?;
-    Ok(is_read(alloc, way, &all, &all, End::Whole)? && is_read(alloc, way, &[], &[], End::Whole)?)
+    Ok(
+        is_read(alloc, direction, &all, &all, End::Whole)?
+            && is_read(alloc, direction, &[], &[], End::Whole)?,
+    )
 }
 
 // The same end, so many bytes on.
 fn moved(end: End, by: u64) -> End {
     match end {
-        End::Refused(place) => End::Refused(place.saturating_add(by)),
-        End::Rest(place) => End::Rest(place.saturating_add(by)),
+        End::Refused(offset) => End::Refused(offset.saturating_add(by)),
+        End::Rest(offset) => End::Rest(offset.saturating_add(by)),
         End::Whole | End::OutOfMemory => end,
     }
 }
 
-// Whether each of these ends a stream so, alone and behind frames.
+// Whether each of these ends a stream so, alone and after frames.
 fn end_so(
     alloc: Global,
-    way: Way,
+    direction: Direction,
     frames: &[&[u8]],
     rests: &[&[u8]],
     end: End,
 ) -> Result<bool, AllocError> {
-    let front = joined(alloc, frames)?;
-    let later = moved(end, front.len() as u64);
+    let prefix = joined(alloc, frames)?;
+    let later = moved(end, prefix.len() as u64);
     for rest in rests {
-        let behind = joined(alloc, &[&front, rest])?;
-        if !is_read(alloc, way, rest, &[], end)? || !is_read(alloc, way, &behind, &front, later)? {
+        let behind = joined(alloc, &[&prefix, rest])?;
+        if !is_read(alloc, direction, rest, &[], end)?
+            || !is_read(alloc, direction, &behind, &prefix, later)?
+        {
             return Ok(false);
         }
     }
@@ -186,14 +205,14 @@ fn five_rows(alloc: Global, count: u32) -> Result<Vec<Reply<'static>>, AllocErro
     Ok(rows)
 }
 
-const OF_1: Way = Way::ToDriver(FrameVersion::V1);
+const OF_1: Direction = Direction::ToDriver(FrameVersion::V1);
 
-const OF_2: Way = Way::ToDriver(FrameVersion::V2);
+const OF_2: Direction = Direction::ToDriver(FrameVersion::V2);
 
 #[test]
 fn reads_and_writes_each_frame(rt: HostRuntime) -> Result<(), Fail> {
     let alloc = rt.alloc();
-    assert!(rt; are_read(alloc, Way::ToServer, worked_requests())?);
+    assert!(rt; are_read(alloc, Direction::ToServer, worked_requests())?);
     assert!(rt; are_read(alloc, OF_1, worked_replies())?);
     assert!(rt; are_read(alloc, OF_2, worked_replies_of_2())?);
     Ok(())
@@ -203,7 +222,15 @@ fn reads_and_writes_each_frame(rt: HostRuntime) -> Result<(), Fail> {
 fn refuses_each_broken_condition(rt: HostRuntime) -> Result<(), Fail> {
     let alloc = rt.alloc();
     let end = End::Refused(0);
-    assert!(rt; end_so(alloc, Way::ToServer, worked_requests(), no_requests(), end)?);
+    assert!(rt;
+        end_so(
+            alloc,
+            Direction::ToServer,
+            worked_requests(),
+            no_requests(),
+            end
+        )?
+    );
     assert!(rt; end_so(alloc, OF_1, worked_replies(), no_replies(), end)?);
     assert!(rt; end_so(alloc, OF_2, worked_replies_of_2(), no_replies_of_2(), end)?);
     Ok(())
@@ -230,7 +257,15 @@ fn counts_what_a_frame_holds(rt: HostRuntime) -> Result<(), Fail> {
 fn waits_for_the_rest(rt: HostRuntime) -> Result<(), Fail> {
     let alloc = rt.alloc();
     let end = End::Rest(0);
-    assert!(rt; end_so(alloc, Way::ToServer, worked_requests(), cut_requests(), end)?);
+    assert!(rt;
+        end_so(
+            alloc,
+            Direction::ToServer,
+            worked_requests(),
+            cut_requests(),
+            end
+        )?
+    );
     assert!(rt; end_so(alloc, OF_1, worked_replies(), cut_replies(), end)?);
     assert!(rt; end_so(alloc, OF_2, worked_replies_of_2(), cut_replies_of_2(), end)?);
     Ok(())

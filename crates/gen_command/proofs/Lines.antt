@@ -1,4 +1,4 @@
--- Lines behind lines.
+-- Lines after lines.
 use Rattle.std.proofs.Common.{◌≡◌, ℕ, ◌+◌, suc, List, [], ◌∷◌, ◌++◌, refl, sym, ap, ◌∙◌, append_assoc, append-nil, add-one}
 use Rattle.std.proofs.lemmas.List.Concat.{flat_map-append}
 use Rattle.gen_command.specs.Script.{text_of, row_lines, all_row_lines, number_at, number_after}

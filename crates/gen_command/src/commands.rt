@@ -9,25 +9,25 @@ use std::alloc::Global;
 
 /// How the command ended.
 #[derive(Clone, Copy, PartialEq, Eq, Debug)]
-pub enum Generated {
-    /// The script was put whole.
+pub enum GenEnding {
+    /// The script was written whole.
     Done,
     /// A call of the output failed.
     WriteFault,
     OutOfMemory,
 }
 
-/// Puts the script of a size to the output: two keys and a table with protected columns, so many
-/// rows of it, and two reads. Of a script that can't be put whole a front is put.
-pub fn generate<W: Sink>(alloc: Global, size: u32, out: &mut W) -> Generated
+/// Writes the script of a size to the output: two keys and a table with protected columns, `size`
+/// rows of it, and two reads. If the script can't be written whole, a prefix is written.
+pub fn generate<W: Sink>(alloc: Global, size: u32, out: &mut W) -> GenEnding
     ensures { PutsScript result size (W.seen out.old) (W.seen out.new) }
 {
     let Ok(text) = script(alloc, size) else {
-        return Generated::OutOfMemory;
+        return GenEnding::OutOfMemory;
     };
     match put_all(out, text.as_bytes()) {
-        Ok(()) => Generated::Done,
-        Err(WriteError::Failed) => Generated::WriteFault,
-        Err(WriteError::OutOfMemory) => Generated::OutOfMemory,
+        Ok(()) => GenEnding::Done,
+        Err(WriteError::Failed) => GenEnding::WriteFault,
+        Err(WriteError::OutOfMemory) => GenEnding::OutOfMemory,
     }
 }

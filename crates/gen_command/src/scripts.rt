@@ -16,7 +16,7 @@ CREATE TABLE t (id INT NOT NULL UNIQUE, c NVARCHAR(8) ENCRYPTED WITH (COLUMN_ENC
 GO
 ";
 
-/// The reads behind the rows.
+/// The reads after the rows.
 const READS: &str = "SELECT c, COUNT(*) AS n FROM t GROUP BY c
 GO
 DECLARE @c NVARCHAR(8) = N'c7'
@@ -24,7 +24,7 @@ SELECT COUNT(*) AS n FROM t WHERE c = @c
 GO
 ";
 
-/// The number behind another, of a linear congruential generator.
+/// The number after another, of a linear congruential generator.
 fn number_after(number: u64) -> u64
     requires { number < 2 ^ 32 }
     ensures value { result ≡ script_of.number_after number }
@@ -33,7 +33,7 @@ fn number_after(number: u64) -> u64
     (1_103_515_245 * number + 12_345) % 2_147_483_648
 }
 
-/// The script of a size: its definitions, so many rows, and its reads.
+/// The script of a size: its definitions, `size` rows, and its reads.
 pub(crate) fn script(alloc: Global, size: u32) -> Result<String, AllocError>
     ensures { IfOk result (λ text. string_bytes text ≡ script_of.script size) }
 {

@@ -10,10 +10,10 @@ use wire_frames::{Decoded, decode_reply};
 use wire_messages::replies::Reply;
 use wire_payloads::payloads::Payload;
 
-/// The reply whose frame stands at the front of some bytes, and how many bytes that has. It gives nothing if none stands there.
-fn front_of(alloc: Global, bytes: &[u8]) -> Result<Option<(Reply<'static>, usize)>, AllocError> {
+/// The reply whose frame stands at the start of some bytes, and how many bytes that has. It gives nothing if none stands there.
+fn prefix_of(alloc: Global, bytes: &[u8]) -> Result<Option<(Reply<'static>, usize)>, AllocError> {
     let decoded = decode_reply(alloc, FrameVersion::V1, bytes);
-    let front = match &decoded {
+    let prefix = match &decoded {
         Decoded::One(Payload::One(reply), used) => match reply.to_own(alloc) {
             Ok(own) => Ok(Some((own, *used))),
             Err(error) => Err(error),
@@ -21,7 +21,7 @@ fn front_of(alloc: Global, bytes: &[u8]) -> Result<Option<(Reply<'static>, usize
         _ => Ok(None),
     };
     drop(decoded);
-    front
+    prefix
 }
 
 /// The replies whose frames some bytes are, up to the first that isn't whole.
@@ -29,7 +29,7 @@ fn replies_of(alloc: Global, bytes: &[u8]) -> Result<Seq<Reply<'static>>, AllocE
     let mut replies = Seq::new(alloc);
     let mut rest = bytes;
     for _ in 0..bytes.len() {
-        let Some((reply, used)) = front_of(alloc, rest)? else {
+        let Some((reply, used)) = prefix_of(alloc, rest)? else {
             break;
         };
         replies.push(reply)?;

@@ -1,7 +1,7 @@
 //! Cases: a line of a table, as `NAME|COMMANDS|DEVICES|SCRIPT|REPLIES`.
 
 use crate::answers::peer_of;
-use crate::commands::{Left, come_to};
+use crate::commands::{Left, outcome_of};
 use crate::devices::Failing;
 use crate::frames::print_frames;
 use crate::words::bytes_of;
@@ -43,13 +43,13 @@ fn left_of(
         ""
     };
     let mut peer = peer_of(rt, answers)?;
-    let left = come_to(rt.alloc(), command, script, replies, &mut peer, failing);
+    let left = outcome_of(rt.alloc(), command, script, replies, &mut peer, failing);
     drop(peer);
     Ok(left?)
 }
 
 /// Prints the result of a command where each of three calls of a device fails: how many bytes stand at the output and at the tap, whether
-/// they are fronts of the whole, and the end.
+/// they are prefixes of the whole, and the end.
 fn print_failing(
     rt: &HostRuntime,
     command: &str,
@@ -59,9 +59,9 @@ fn print_failing(
 ) -> io::Result<()> {
     for call in 0..3 {
         let left = left_of(rt, command, case, Failing { device, call })?;
-        let fronts = whole.out.starts_with(&left.out) && whole.tap.starts_with(&left.tap);
+        let prefixes = whole.out.starts_with(&left.out) && whole.tap.starts_with(&left.tap);
         print!(rt;
-            "{device} {call}: {} and {} bytes, fronts {fronts}, {}",
+            "{device} {call}: {} and {} bytes, fronts {prefixes}, {}",
             left.out.len(),
             left.tap.len(),
             left.end

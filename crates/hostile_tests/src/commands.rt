@@ -13,7 +13,7 @@ use drive_command::commands::drive;
 use gen_command::commands::generate;
 use mem_peer::peer::MemPeer;
 use run_command::commands::run;
-use script_run::runs::Ran;
+use script_run::runs::RunEnding;
 use serve_command::commands::serve_stream;
 use server_core::server::Server;
 use std::alloc::{AllocError, Global};
@@ -28,7 +28,7 @@ pub(crate) struct Left {
 }
 
 /// A status as it is printed: its number, and what the program says of it.
-fn status_line(alloc: Global, ran: Ran) -> Result<String, AllocError> {
+fn status_line(alloc: Global, ran: RunEnding) -> Result<String, AllocError> {
     let status = Status::from(ran);
     format!(in alloc; "status {}\n{status}", status.number())
 }
@@ -51,7 +51,7 @@ fn run_served(
     out: &mut MemSink,
     tap: &mut MemSink,
     version: FrameVersion,
-) -> Ran {
+) -> RunEnding {
     let mut server = Server::new(alloc);
     let ran = run(
         alloc,
@@ -137,7 +137,7 @@ fn left_by(
 
 /// Does what a command asks for, over a script, replies and a peer, with a master key, random bytes for three cells, and one device that
 /// fails. What is read comes in pieces of 28 bytes.
-pub(crate) fn come_to(
+pub(crate) fn outcome_of(
     alloc: Global,
     command: &str,
     script: Vec<u8>,

@@ -8,12 +8,12 @@ use Rattle.std.proofs.lemmas.Map.Made.{Contains-tail}
 use Rattle.operators.proofs.Interface.{drop_there}
 use Rattle.unique_keys.specs.Indexes.{Indexed, keys_of}
 
--- it is not this one's, so one behind it has it
-pub among_rest : (indexes : List Indexed) (i : ℕ) (index : Indexed) (places : List ℕ) → i < length indexes
-    → index ≡ get_or indexes i index → Contains (keys_of (drop i indexes)) places → (index.places ≡ places → ⊥)
-    → Contains (keys_of (drop (i + 1) indexes)) places
-among_rest indexes i index places lt is h differ =
-    Contains-tail index.places (keys_of (drop (i + 1) indexes)) places differ (subst (λ xs. Contains (keys_of xs) places) (drop_there indexes i index lt is) h)
+-- it is not this one's, so one after it has it
+pub among_rest : (indexes : List Indexed) (i : ℕ) (index : Indexed) (ordinals : List ℕ) → i < length indexes
+    → index ≡ get_or indexes i index → Contains (keys_of (drop i indexes)) ordinals → (index.ordinals ≡ ordinals → ⊥)
+    → Contains (keys_of (drop (i + 1) indexes)) ordinals
+among_rest indexes i index ordinals lt is h differ =
+    Contains-tail index.ordinals (keys_of (drop (i + 1) indexes)) ordinals differ (subst (λ xs. Contains (keys_of xs) ordinals) (drop_there indexes i index lt is) h)
 
 -- lists that are tested to differ
 

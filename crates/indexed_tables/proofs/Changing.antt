@@ -16,8 +16,8 @@ use Rattle.unique_keys.specs.Indexes.{number_where}
 use Rattle.unique_keys.specs.Keys.{has_twins, first_twins}
 use Rattle.unique_keys.proofs.Interface.{IsOfOne, key_turned, or_else, where_append, where_none}
 
-abbrev pub places_of : {T : Type 0} → List (Change T) → List ℕ
-places_of changes = map (λ change. change.place) changes
+abbrev pub positions_of : {T : Type 0} → List (Change T) → List ℕ
+positions_of changes = map (λ change. change.position) changes
 
 abbrev pub rows_of : {T : Type 0} → List (Change T) → List T
 rows_of changes = map (λ change. change.row) changes
@@ -33,21 +33,21 @@ unhit_set (r ∷ rows) (true ∷ hits) (suc p) row e = unhit_set rows hits p row
 unhit_set (r ∷ rows) (false ∷ hits) (suc p) row e = ap (λ l. r ∷ l) (unhit_set rows hits p row e)
 
 unhit_written : {T : Type 0} (rows : List T) (changes : List (Change T)) (hits : List Bool)
-    → All (λ p. get_or hits p false ≡ true) (places_of changes) → unhit (written rows changes) hits ≡ unhit rows hits
+    → All (λ p. get_or hits p false ≡ true) (positions_of changes) → unhit (written rows changes) hits ≡ unhit rows hits
 unhit_written rows [] hits h = refl
 unhit_written rows (c ∷ changes) hits h =
-    unhit_written (slice_set rows c.place c.row) changes hits (All-tail (λ p. get_or hits p false ≡ true) c.place (places_of changes) h)
-    ∙ unhit_set rows hits c.place c.row (All-head (λ p. get_or hits p false ≡ true) c.place (places_of changes) h)
+    unhit_written (slice_set rows c.position c.row) changes hits (All-tail (λ p. get_or hits p false ≡ true) c.position (positions_of changes) h)
+    ∙ unhit_set rows hits c.position c.row (All-head (λ p. get_or hits p false ≡ true) c.position (positions_of changes) h)
 
 all_read : (P : ℕ → Type 0) (ps : List ℕ) → ((j : ℕ) → j < length ps → P (get_or ps j 0)) → All P ps
 all_read P [] f = All-nil P
 all_read P (p ∷ ps) f = All-cons P p ps (f 0 (omega arith)) (all_read P ps (λ j lt. f (suc j) (omega (arith, lt))))
 
-pub stays_written : {T : Type 0} (rows : List T) (changes : List (Change T)) → AreRising 0 (length rows) (places_of changes)
-    → unhit (written rows changes) (marked 0 (length rows) (places_of changes)) ≡ unhit rows (marked 0 (length rows) (places_of changes))
+pub stays_written : {T : Type 0} (rows : List T) (changes : List (Change T)) → AreRising 0 (length rows) (positions_of changes)
+    → unhit (written rows changes) (marked 0 (length rows) (positions_of changes)) ≡ unhit rows (marked 0 (length rows) (positions_of changes))
 stays_written rows changes h =
-    let hits = marked 0 (length rows) (places_of changes) in
-    unhit_written rows changes hits (all_read (λ p. get_or hits p false ≡ true) (places_of changes) (λ j lt. marked_read (length rows) (places_of changes) j h lt))
+    let hits = marked 0 (length rows) (positions_of changes) in
+    unhit_written rows changes hits (all_read (λ p. get_or hits p false ≡ true) (positions_of changes) (λ j lt. marked_read (length rows) (positions_of changes) j h lt))
 
 -- ---- the new rows
 
@@ -63,27 +63,27 @@ set_same (r ∷ rows) zero row d lt = refl
 set_same (r ∷ rows) (suc p) row d lt = set_same rows p row d (omega (arith, lt))
 
 written_other : {T : Type 0} (rows : List T) (changes : List (Change T)) (from to q : ℕ) (d : T) → q < from
-    → AreRising from to (places_of changes) → get_or (written rows changes) q d ≡ get_or rows q d
+    → AreRising from to (positions_of changes) → get_or (written rows changes) q d ≡ get_or rows q d
 written_other rows [] from to q d lt h = refl
 written_other rows (c ∷ changes) from to q d lt h =
-    let less : q < c.place = omega (arith, lt, h.0) in
-    written_other (slice_set rows c.place c.row) changes (c.place + 1) to q d (omega (arith, less)) h.2 ∙ set_other rows c.place q c.row d less
+    let less : q < c.position = omega (arith, lt, h.0) in
+    written_other (slice_set rows c.position c.row) changes (c.position + 1) to q d (omega (arith, less)) h.2 ∙ set_other rows c.position q c.row d less
 
 written_read : {T : Type 0} (rows : List T) (changes : List (Change T)) (from : ℕ) (d : T)
-    → AreRising from (length rows) (places_of changes) → map (λ p. get_or (written rows changes) p d) (places_of changes) ≡ rows_of changes
+    → AreRising from (length rows) (positions_of changes) → map (λ p. get_or (written rows changes) p d) (positions_of changes) ≡ rows_of changes
 written_read rows [] from d h = refl
 written_read rows (c ∷ changes) from d h =
-    let now = slice_set rows c.place c.row in
-    let first : get_or (written now changes) c.place d ≡ c.row = written_other now changes (c.place + 1) (length rows) c.place d (omega arith) h.2 ∙ set_same rows c.place c.row d h.1 in
-    let rest = written_read now changes (c.place + 1) d (subst (λ n. AreRising (c.place + 1) n (places_of changes)) (sym (length-set rows c.place c.row)) h.2) in
-    ap (λ r. r ∷ map (λ p. get_or (written now changes) p d) (places_of changes)) first ∙ ap (λ l. c.row ∷ l) rest
+    let now = slice_set rows c.position c.row in
+    let first : get_or (written now changes) c.position d ≡ c.row = written_other now changes (c.position + 1) (length rows) c.position d (omega arith) h.2 ∙ set_same rows c.position c.row d h.1 in
+    let rest = written_read now changes (c.position + 1) d (subst (λ n. AreRising (c.position + 1) n (positions_of changes)) (sym (length-set rows c.position c.row)) h.2) in
+    ap (λ r. r ∷ map (λ p. get_or (written now changes) p d) (positions_of changes)) first ∙ ap (λ l. c.row ∷ l) rest
 
-pub comes_written : (rows : List (List Atom)) (changes : List (Change (List Atom))) → AreRising 0 (length rows) (places_of changes)
-    → hit (written rows changes) (marked 0 (length rows) (places_of changes)) ≡ rows_of changes
+pub comes_written : (rows : List (List Atom)) (changes : List (Change (List Atom))) → AreRising 0 (length rows) (positions_of changes)
+    → hit (written rows changes) (marked 0 (length rows) (positions_of changes)) ≡ rows_of changes
 comes_written rows changes h =
     let same = written_long rows changes in
-    ap (λ n. hit (written rows changes) (marked 0 n (places_of changes))) (sym same)
-    ∙ hit_read (written rows changes) 0 (places_of changes) [] (subst (λ n. AreRising 0 n (places_of changes)) (sym same) h)
+    ap (λ n. hit (written rows changes) (marked 0 n (positions_of changes))) (sym same)
+    ∙ hit_read (written rows changes) 0 (positions_of changes) [] (subst (λ n. AreRising 0 n (positions_of changes)) (sym same) h)
     ∙ written_read rows changes 0 [] h
 
 -- ---- both parts
@@ -108,18 +108,18 @@ any_parts test (row ∷ rows) (false ∷ hits) = ap (λ b. test row || b) (any_p
     turn false b c = refl
 
 -- one row before a list, or in its middle
-twins_middle : (key : List ℕ) (front back : List (List Atom)) (row : List Atom)
-    → has_twins key (front ++ row ∷ back) ≡ ((list_any (alike_on key row) front || list_any (alike_on key row) back) || has_twins key (front ++ back))
+twins_middle : (key : List ℕ) (prefix back : List (List Atom)) (row : List Atom)
+    → has_twins key (prefix ++ row ∷ back) ≡ ((list_any (alike_on key row) prefix || list_any (alike_on key row) back) || has_twins key (prefix ++ back))
 twins_middle key [] back row = refl
-twins_middle key (f ∷ front) back row =
-    ap (λ b. b || has_twins key (front ++ row ∷ back)) (list_any-append (alike_on key f) front (row ∷ back))
-    ∙ ap (λ b. (list_any (alike_on key f) front || (alike_on key f row || list_any (alike_on key f) back)) || b) (twins_middle key front back row)
-    ∙ ap (λ b. (list_any (alike_on key f) front || (b || list_any (alike_on key f) back)) ||
-    ((list_any (alike_on key row) front || list_any (alike_on key row) back) || has_twins key (front ++ back))) (key_turned key f row)
-    ∙ shuffle (list_any (alike_on key f) front) (alike_on key row f) (list_any (alike_on key f) back)
-    (list_any (alike_on key row) front) (list_any (alike_on key row) back) (has_twins key (front ++ back))
-    ∙ ap (λ b. ((alike_on key row f || list_any (alike_on key row) front) || list_any (alike_on key row) back) || (b || has_twins key (front ++ back)))
-    (sym (list_any-append (alike_on key f) front back))
+twins_middle key (f ∷ prefix) back row =
+    ap (λ b. b || has_twins key (prefix ++ row ∷ back)) (list_any-append (alike_on key f) prefix (row ∷ back))
+    ∙ ap (λ b. (list_any (alike_on key f) prefix || (alike_on key f row || list_any (alike_on key f) back)) || b) (twins_middle key prefix back row)
+    ∙ ap (λ b. (list_any (alike_on key f) prefix || (b || list_any (alike_on key f) back)) ||
+    ((list_any (alike_on key row) prefix || list_any (alike_on key row) back) || has_twins key (prefix ++ back))) (key_turned key f row)
+    ∙ shuffle (list_any (alike_on key f) prefix) (alike_on key row f) (list_any (alike_on key f) back)
+    (list_any (alike_on key row) prefix) (list_any (alike_on key row) back) (has_twins key (prefix ++ back))
+    ∙ ap (λ b. ((alike_on key row f || list_any (alike_on key row) prefix) || list_any (alike_on key row) back) || (b || has_twins key (prefix ++ back)))
+    (sym (list_any-append (alike_on key f) prefix back))
   where
     shuffle : (a b c d e g : Bool) → ((a || (b || c)) || ((d || e) || g)) ≡ (((b || d) || e) || ((a || c) || g))
     shuffle true true c d e g = refl
@@ -183,21 +183,21 @@ where_parts test (n ∷ ns) (row ∷ rows) (true ∷ hits) e one = by_test (test
 
 -- ---- an UPDATE
 
-pub first_written : (keys : List (List ℕ)) (rows : List (List Atom)) (changes : List (Change (List Atom))) → AreRising 0 (length rows) (places_of changes)
-    → first_twins 1 keys (written rows changes) ≡ first_twins 1 keys (unhit rows (marked 0 (length rows) (places_of changes)) ++ rows_of changes)
+pub first_written : (keys : List (List ℕ)) (rows : List (List Atom)) (changes : List (Change (List Atom))) → AreRising 0 (length rows) (positions_of changes)
+    → first_twins 1 keys (written rows changes) ≡ first_twins 1 keys (unhit rows (marked 0 (length rows) (positions_of changes)) ++ rows_of changes)
 first_written keys rows changes h =
-    let hits = marked 0 (length rows) (places_of changes) in
+    let hits = marked 0 (length rows) (positions_of changes) in
     first_parts 1 keys (written rows changes) hits ∙ ap (λ l. first_twins 1 keys (l ++ hit (written rows changes) hits)) (stays_written rows changes h)
     ∙ ap (λ l. first_twins 1 keys (unhit rows hits ++ l)) (comes_written rows changes h)
 
 -- the numbers of the changed rows are theirs still
 pub where_written : (test : List Atom → Bool) (ns : List ℕ) (rows : List (List Atom)) (changes : List (Change (List Atom)))
-    → length ns ≡ length rows → AreRising 0 (length rows) (places_of changes) → IsOfOne test (written rows changes)
+    → length ns ≡ length rows → AreRising 0 (length rows) (positions_of changes) → IsOfOne test (written rows changes)
     → number_where test ns (written rows changes)
-    ≡ number_where test (unhit ns (marked 0 (length rows) (places_of changes)) ++ hit ns (marked 0 (length rows) (places_of changes)))
-    (unhit rows (marked 0 (length rows) (places_of changes)) ++ rows_of changes)
+    ≡ number_where test (unhit ns (marked 0 (length rows) (positions_of changes)) ++ hit ns (marked 0 (length rows) (positions_of changes)))
+    (unhit rows (marked 0 (length rows) (positions_of changes)) ++ rows_of changes)
 where_written test ns rows changes e h one =
-    let hits = marked 0 (length rows) (places_of changes) in
+    let hits = marked 0 (length rows) (positions_of changes) in
     where_parts test ns (written rows changes) hits (e ∙ sym (written_long rows changes)) one
     ∙ ap (λ l. or_else (number_where test (unhit ns hits) l) (number_where test (hit ns hits) (hit (written rows changes) hits))) (stays_written rows changes h)
     ∙ ap (λ l. or_else (number_where test (unhit ns hits) (unhit rows hits)) (number_where test (hit ns hits) l)) (comes_written rows changes h)

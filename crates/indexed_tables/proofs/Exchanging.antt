@@ -16,7 +16,7 @@ use Rattle.row_store.proofs.Interface.{hit_read}
 use Rattle.unique_keys.specs.Indexes.{AreDistinct, AreExchanged, Indexed, IndexesRows, has_key, keys_of, standing, standing_rows}
 use Rattle.unique_keys.specs.Keys.{has_twins, first_twins, unless_twins}
 use Rattle.unique_keys.proofs.Interface.{all_differ, one_of_distinct, unhit_differ}
-use Rattle.indexed_tables.proofs.Changing.{first_written, places_of, rows_of, where_written}
+use Rattle.indexed_tables.proofs.Changing.{first_written, positions_of, rows_of, where_written}
 
 abbrev said : Option ℕ → Result (Unit {0}) SqlFault
 said o = unless_twins o tt
@@ -54,7 +54,7 @@ module _ {A : Type 0} (rest more : List A) (row : A) (is : rest ≡ row ∷ more
       ap (λ ns. ns ++ counted later (length more)) n ∙ append_assoc numbers (next ∷ []) (counted later (length more))
       ∙ ap (λ k. numbers ++ next ∷ counted k (length more)) l ∙ ap (λ rows. numbers ++ counted next (length rows)) (sym is) ∙ w
 
--- rows that are put in, behind those that are there
+-- rows that are put in, after those that are there
 pub record ArePutIn (numbers : List ℕ) (old : List (List Atom)) (their : List ℕ) (new : List (List Atom)) (result : Result (Unit {0}) (Refusal SqlFault)) (before after : List Indexed) : Type 0 where
   pub keys : keys_of after ≡ keys_of before
   pub answer : Answers result (said (first_twins 1 (keys_of before) (old ++ new)))
@@ -83,17 +83,17 @@ distinct_left keys rows hits d = λ i key lt. unhit_differ (get_or keys i key) r
 
 -- ---- rows in the places of others
 
-module _ (numbers : List ℕ) (rows : List (List Atom)) (changes : List (Change (List Atom))) (long : length numbers ≡ length rows) (placed : AreRising 0 (length rows) (places_of changes)) where
+module _ (numbers : List ℕ) (rows : List (List Atom)) (changes : List (Change (List Atom))) (long : length numbers ≡ length rows) (placed : AreRising 0 (length rows) (positions_of changes)) where
   abbrev pub hits : List Bool
-  hits = marked 0 (length rows) (places_of changes)
+  hits = marked 0 (length rows) (positions_of changes)
 
   -- as many numbers as changes
   pub as_many : length (hit numbers hits) ≡ length (rows_of changes)
   as_many =
-      ap (λ n. length (hit numbers (marked 0 n (places_of changes)))) (sym long)
-      ∙ ap length (hit_read numbers 0 (places_of changes) 0 (subst (λ n. AreRising 0 n (places_of changes)) (sym long) placed))
-      ∙ length-map (places_of changes) (λ p. get_or numbers p 0)
-      ∙ length-map changes (λ (c : Change (List Atom)). c.place) ∙ sym (length-map changes (λ (c : Change (List Atom)). c.row))
+      ap (λ n. length (hit numbers (marked 0 n (positions_of changes)))) (sym long)
+      ∙ ap length (hit_read numbers 0 (positions_of changes) 0 (subst (λ n. AreRising 0 n (positions_of changes)) (sym long) placed))
+      ∙ length-map (positions_of changes) (λ p. get_or numbers p 0)
+      ∙ length-map changes (λ (c : Change (List Atom)). c.position) ∙ sym (length-map changes (λ (c : Change (List Atom)). c.row))
 
   abbrev Swapped : Indexed → Type 0
   Swapped index = IndexesRows (unhit numbers hits ++ hit numbers hits) (unhit rows hits ++ rows_of changes) index
@@ -104,14 +104,14 @@ module _ (numbers : List ℕ) (rows : List (List Atom)) (changes : List (Change 
   abbrev Differs : List ℕ → Type 0
   Differs key = has_twins key (written rows changes) ≡ false
 
-  one_written : (index : Indexed) → Differs index.places → Swapped index → Stands index
-  one_written index d i = λ key. i key ∙ sym (where_written (has_key index.places key) numbers rows changes long placed (one_of_distinct index.places key (written rows changes) d))
+  one_written : (index : Indexed) → Differs index.ordinals → Swapped index → Stands index
+  one_written index d i = λ key. i key ∙ sym (where_written (has_key index.ordinals key) numbers rows changes long placed (one_of_distinct index.ordinals key (written rows changes) d))
 
   all_written : (indexes : List Indexed) → AreDistinct (keys_of indexes) (written rows changes) → All Swapped indexes → All Stands indexes
   all_written [] d i = All-nil Stands
   all_written (x ∷ indexes) d i =
-      All-cons Stands x indexes (one_written x (All-head Differs x.places (keys_of indexes) d) (All-head Swapped x indexes i))
-      (all_written indexes (All-tail Differs x.places (keys_of indexes) d) (All-tail Swapped x indexes i))
+      All-cons Stands x indexes (one_written x (All-head Differs x.ordinals (keys_of indexes) d) (All-head Swapped x indexes i))
+      (all_written indexes (All-tail Differs x.ordinals (keys_of indexes) d) (All-tail Swapped x indexes i))
 
   pub record AreReplaced (result : Result (Unit {0}) (Refusal SqlFault)) (before after : List Indexed) : Type 0 where
     pub keys : keys_of after ≡ keys_of before

@@ -43,11 +43,11 @@ distinct_done keys rows d = ap said (no_twins 1 keys rows d)
 
 module _ (sets : List BoundAssignment) where
   key_kept : (key : List ℕ) (row other : List Atom) → list_any (is_set sets) key ≡ false
-      → ((place : ℕ) → is_set sets place ≡ false → atom_at other place ≡ atom_at row place) → key_of key other ≡ key_of key row
+      → ((ordinal : ℕ) → is_set sets ordinal ≡ false → atom_at other ordinal ≡ atom_at row ordinal) → key_of key other ≡ key_of key row
   key_kept [] row other e h = refl
-  key_kept (place ∷ key) row other e h =
-      ap (λ a. a ∷ key_of key other) (h place (or_left (is_set sets place) (list_any (is_set sets) key) e))
-      ∙ ap (λ l. atom_at row place ∷ l) (key_kept key row other (or_right (is_set sets place) (list_any (is_set sets) key) e) h)
+  key_kept (ordinal ∷ key) row other e h =
+      ap (λ a. a ∷ key_of key other) (h ordinal (or_left (is_set sets ordinal) (list_any (is_set sets) key) e))
+      ∙ ap (λ l. atom_at row ordinal ∷ l) (key_kept key row other (or_right (is_set sets ordinal) (list_any (is_set sets) key) e) h)
 
   pub keys_kept : (key : List ℕ) (old new : List (List Atom)) → list_any (is_set sets) key ≡ false → AreKept sets old new → map (key_of key) new ≡ map (key_of key) old
   keys_kept key [] [] e h = refl
@@ -55,18 +55,18 @@ module _ (sets : List BoundAssignment) where
   keys_kept key (o ∷ old) [] e h = absurd h
   keys_kept key (o ∷ old) (n ∷ new) e h = ap (λ k. k ∷ map (key_of key) new) (key_kept key o n e h.0) ∙ ap (λ ks. key_of key o ∷ ks) (keys_kept key old new e h.1)
 
-  index_kept : (index : Indexed) (numbers : List ℕ) (old new : List (List Atom)) → list_any (is_set sets) index.places ≡ false
+  index_kept : (index : Indexed) (numbers : List ℕ) (old new : List (List Atom)) → list_any (is_set sets) index.ordinals ≡ false
       → AreKept sets old new → IndexesRows numbers old index → IndexesRows numbers new index
   index_kept index numbers old new e h i = λ key.
-      i key ∙ sym (where_keys key index.places numbers old) ∙ ap (number_where (are_alike key) numbers) (sym (keys_kept index.places old new e h)) ∙ where_keys key index.places numbers new
+      i key ∙ sym (where_keys key index.ordinals numbers old) ∙ ap (number_where (are_alike key) numbers) (sym (keys_kept index.ordinals old new e h)) ∙ where_keys key index.ordinals numbers new
 
   pub indexes_kept : (indexes : List Indexed) (numbers : List ℕ) (old new : List (List Atom))
       → sets_a_key sets (keys_of indexes) ≡ false → AreKept sets old new → All (IndexesRows numbers old) indexes → All (IndexesRows numbers new) indexes
   indexes_kept [] numbers old new e h i = All-nil (IndexesRows numbers new)
   indexes_kept (x ∷ indexes) numbers old new e h i =
-      let one = or_left (list_any (is_set sets) x.places) (sets_a_key sets (keys_of indexes)) e in
+      let one = or_left (list_any (is_set sets) x.ordinals) (sets_a_key sets (keys_of indexes)) e in
       All-cons (IndexesRows numbers new) x indexes (index_kept x numbers old new one h (All-head (IndexesRows numbers old) x indexes i))
-      (indexes_kept indexes numbers old new (or_right (list_any (is_set sets) x.places) (sets_a_key sets (keys_of indexes)) e) h (All-tail (IndexesRows numbers old) x indexes i))
+      (indexes_kept indexes numbers old new (or_right (list_any (is_set sets) x.ordinals) (sets_a_key sets (keys_of indexes)) e) h (All-tail (IndexesRows numbers old) x indexes i))
 
   pub distinct_kept : (keys : List (List ℕ)) (old new : List (List Atom)) → sets_a_key sets keys ≡ false → AreKept sets old new → AreDistinct keys old → AreDistinct keys new
   distinct_kept [] old new e h d = All-nil (λ k. has_twins k new ≡ false)

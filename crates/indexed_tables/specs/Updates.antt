@@ -14,7 +14,7 @@ changed_rows (Err error) rows changes = rows
 
 -- an assignment sets the column of a place
 abbrev pub is_set : List (BoundAssignment) → ℕ → Bool
-is_set sets place = list_any (λ a. a.place == place) sets
+is_set sets ordinal = list_any (λ a. a.ordinal == ordinal) sets
 
 -- and one sets a column of a key
 abbrev pub sets_a_key : List BoundAssignment → List (List ℕ) → Bool
@@ -22,4 +22,4 @@ sets_a_key sets keys = list_any (λ key. list_any (is_set sets) key) keys
 
 -- rows with others in their places have the same atoms in all columns that no assignment sets
 abbrev pub AreKept : List BoundAssignment → (old new : List (List Atom)) → Type 0
-AreKept sets old new = AllZip (λ row other. (place : ℕ) → is_set sets place ≡ false → atom_at other place ≡ atom_at row place) old new
+AreKept sets old new = AllZip (λ row other. (ordinal : ℕ) → is_set sets ordinal ≡ false → atom_at other ordinal ≡ atom_at row ordinal) old new

@@ -53,40 +53,41 @@ pub(crate) fn put_in<K: Same>(
     )
 }
 
-/// Takes the rows at some places, which rise, out of indexes, or without memory out of none.
+/// Takes the rows at some positions, which rise, out of indexes, or out of memory out of none.
 pub(crate) fn take_out_at<K: Same>(
     alloc: Global,
     indexes: &mut Vec<UniqueIndex<K>>,
     stored: &Numbered<Row<K>>,
-    places: &[usize],
+    positions: &[usize],
 ) -> Result<(), AllocError>
-    requires placed { AreRising 0 (length stored.now.rows) places.now }
+    requires placed { AreRising 0 (length stored.now.rows) positions.now }
     requires distinct { AreDistinct (keys_of indexes.old.items) stored.now.rows }
     requires indexed { All (IndexesRows stored.now.numbers stored.now.rows) indexes.old.items }
     ensures keys { keys_of indexes.new.items ≡ keys_of indexes.old.items }
     ensures ok { OnOk result (All
-        (IndexesRows (unhit stored.now.numbers (marked 0 (length stored.now.rows) places.now))
-        (unhit stored.now.rows (marked 0 (length stored.now.rows) places.now))) indexes.new.items) }
+        (IndexesRows (unhit stored.now.numbers (marked 0 (length stored.now.rows) positions.now))
+        (unhit stored.now.rows (marked 0 (length stored.now.rows) positions.now)))
+        indexes.new.items) }
     ensures err { OnErr result
         (All (IndexesRows stored.now.numbers stored.now.rows) indexes.new.items) }
 {
-    let rows = stored.rows_at(alloc, places)?;
+    let rows = stored.rows_at(alloc, positions)?;
     take_out(alloc, indexes, rows.as_slice())
 }
 
-/// Takes the rows at the places of changes, which rise, out of indexes, and puts in the new ones;
-/// or leaves the indexes.
+/// Takes the rows at the positions of changes, which rise, out of indexes, and inserts the new
+/// ones; or leaves the indexes.
 pub(crate) fn exchange_changed<K: Same>(
     alloc: Global,
     indexes: &mut Vec<UniqueIndex<K>>,
     stored: &Numbered<Row<K>>,
-    places: &[usize],
+    positions: &[usize],
     changes: &[Change<Row<K>>],
 ) -> Result<(), Refusal>
     requires few { length indexes.old.items ≤ 8 }
-    requires places { places.now ≡ map (λ change. change.place) changes.now }
+    requires positions { positions.now ≡ map (λ change. change.position) changes.now }
     requires placed { AreRising 0 (length stored.now.rows)
-        (map (λ change. change.place) changes.now) }
+        (map (λ change. change.position) changes.now) }
     requires distinct { AreDistinct (keys_of indexes.old.items) stored.now.rows }
     requires indexed { All (IndexesRows stored.now.numbers stored.now.rows) indexes.old.items }
     ensures keys { keys_of indexes.new.items ≡ keys_of indexes.old.items }
@@ -99,8 +100,8 @@ pub(crate) fn exchange_changed<K: Same>(
     ensures err { OnErr result
         (All (IndexesRows stored.now.numbers stored.now.rows) indexes.new.items) }
 {
-    let numbers = stored.numbers_at(alloc, places)?;
-    let old = stored.rows_at(alloc, places)?;
+    let numbers = stored.numbers_at(alloc, positions)?;
+    let old = stored.rows_at(alloc, positions)?;
     let new = rows_of(alloc, changes)?;
     exchange(
         alloc,
@@ -112,21 +113,22 @@ pub(crate) fn exchange_changed<K: Same>(
     )
 }
 
-/// The places of changes.
-pub(crate) fn places_of<K: Same>(
+/// The positions of changes.
+pub(crate) fn positions_of<K: Same>(
     alloc: Global,
     changes: &[Change<Row<K>>],
 ) -> Result<Vec<usize>, AllocError>
-    ensures { IfOk result (λ places. places.items ≡ map (λ change. change.place) changes.now) }
+    ensures { IfOk result (λ positions. positions.items
+        ≡ map (λ change. change.position) changes.now) }
 {
-    let mut places = Vec::with_capacity(alloc, changes.len())?;
+    let mut positions = Vec::with_capacity(alloc, changes.len())?;
     for change in changes {
-        places.push(change.place)?;
+        positions.push(change.position)?;
     }
-    Ok(places)
+    Ok(positions)
 }
 
-/// The new rows of changes, lent.
+/// The new rows of changes, borrowed.
 fn rows_of<'a, K: Same>(
     alloc: Global,
     changes: &'a [Change<Row<K>>],

@@ -18,7 +18,7 @@ pub(crate) fn sets_a_key<K: Same>(
     ensures { result ≡ sets_a_key (map assignment_of assignments.now) (keys_of indexes.now) }
 {
     for index in indexes {
-        if sets_one(index.places(), assignments) {
+        if sets_one(index.ordinals(), assignments) {
             return true;
         }
     }
@@ -26,23 +26,23 @@ pub(crate) fn sets_a_key<K: Same>(
 }
 
 /// Whether an assignment sets one of these columns.
-fn sets_one(places: &[usize], assignments: &[BoundAssignment]) -> bool
-    ensures { result ≡ list_any (is_set (map assignment_of assignments.now)) places.now }
+fn sets_one(ordinals: &[usize], assignments: &[BoundAssignment]) -> bool
+    ensures { result ≡ list_any (is_set (map assignment_of assignments.now)) ordinals.now }
 {
-    for place in places {
-        if is_set(assignments, *place) {
+    for ordinal in ordinals {
+        if is_set(assignments, *ordinal) {
             return true;
         }
     }
     false
 }
 
-/// Whether an assignment sets the column of a place.
-fn is_set(assignments: &[BoundAssignment], place: usize) -> bool
-    ensures { result ≡ is_set (map assignment_of assignments.now) place }
+/// Whether an assignment sets the column of an ordinal.
+fn is_set(assignments: &[BoundAssignment], ordinal: usize) -> bool
+    ensures { result ≡ is_set (map assignment_of assignments.now) ordinal }
 {
     for assignment in assignments {
-        if assignment.place == place {
+        if assignment.ordinal == ordinal {
             return true;
         }
     }

@@ -1,4 +1,4 @@
-//! The rows of a table, lent.
+//! The rows of a table, borrowed.
 
 ghost use Rattle.std.specs.Prelude.{◌≡◌, ◌++◌, map, OnOk, IfOk};
 ghost use Rattle.row_store.specs.Paged.{flat};
@@ -9,7 +9,7 @@ use ae_base::sameness::Same;
 use row_store::pages::Page;
 use std::alloc::{AllocError, Global};
 
-/// The rows of some pages, lent.
+/// The rows of some pages, borrowed.
 pub fn lent<'a, K: Same>(
     alloc: Global,
     pages: &'a [Page<Row<K>>],
@@ -23,7 +23,7 @@ pub fn lent<'a, K: Same>(
     Ok(rows)
 }
 
-/// Puts rows at the end, lent.
+/// Appends rows, borrowed.
 pub(crate) fn lend_each<'a, K: Same>(
     rows: &'a [Row<K>],
     lent: &mut Seq<&'a Row<K>>,

@@ -5,7 +5,7 @@ ghost use Rattle.std.specs.List.{All, Contains};
 ghost use Rattle.ae_base.specs.Atoms.{Atom};
 ghost use Rattle.ae_base.specs.Results.{Answers};
 ghost use Rattle.sql_tree.specs.Bound.{assignment_of};
-ghost use Rattle.indexed_tables.specs.Tables.{places_from};
+ghost use Rattle.indexed_tables.specs.Tables.{positions_from};
 ghost use Rattle.indexed_tables.specs.Updates.{AreKept, changed_rows};
 ghost use Rattle.row_store.specs.Changes.{marked, written, unhit};
 ghost use Rattle.row_store.specs.Numbers.{AreRising, counted};
@@ -14,7 +14,7 @@ ghost use Rattle.row_store.specs.Paged.{IsWritable, flat};
 ghost use Rattle.unique_keys.specs.Indexes.{AreDistinct, IndexesRows, keys_of, standing_rows};
 ghost use Rattle.unique_keys.specs.Keys.{first_twins, unless_twins};
 
-use crate::exchanges::{exchange_changed, places_of, put_in, take_out_at};
+use crate::exchanges::{exchange_changed, positions_of, put_in, take_out_at};
 use crate::keys_set::sets_a_key;
 use ae_base::atoms::{Row, Rows};
 use ae_base::lists::{Duplicate, Seq};
@@ -60,10 +60,10 @@ impl<K: Same> Drop for Table<K> {
 
 impl<K: Same> Model for Table<K> {
     ghost use Rattle.std.specs.List.{All};
-    ghost use Rattle.indexed_tables.specs.Tables.{Held};
+    ghost use Rattle.indexed_tables.specs.Tables.{TableState};
     ghost use Rattle.unique_keys.specs.Indexes.{AreDistinct, IndexesRows, keys_of};
 
-    ghost Value = { Held };
+    ghost Value = { TableState };
 
     ghost view = { λ t. record { keys = keys_of t.indexes.items; rows = t.rows.rows } };
 
@@ -98,36 +98,36 @@ impl<K: Same> Table<K> {
         self.rows.rows()
     }
 
-    /// The row at a place, from 0.
-    pub fn get(&self, place: usize) -> &Row<K>
-        requires { place < length self.now.rows }
+    /// The row at a position, from 0.
+    pub fn get(&self, position: usize) -> &Row<K>
+        requires { position < length self.now.rows }
         ensures { (default : List Atom)
-            → result.now ≡ slice_index_or self.now.rows place default }
+            → result.now ≡ slice_index_or self.now.rows position default }
     {
-        self.rows.get(place)
+        self.rows.get(position)
     }
 
-    /// Puts the places of the rows with a key at the end, in their order.
-    pub fn places_with(
+    /// Appends the positions of the rows with a key, in their order.
+    pub fn positions_with(
         &self,
         columns: &[usize],
         key: &Key<K>,
-        places: &mut Vec<usize>,
+        positions: &mut Vec<usize>,
     ) -> Result<(), AllocError>
         requires { Contains self.now.keys columns.now }
-        ensures { OnOk result (places.new.items ≡ places.old.items
-            ++ places_from 0 key.now (map (key_of columns.now) self.now.rows)) }
+        ensures { OnOk result (positions.new.items ≡ positions.old.items
+            ++ positions_from 0 key.now (map (key_of columns.now) self.now.rows)) }
     {
         if self.rows.len() == 0 {
             return Ok(());
         }
         match index_among(self.indexes.as_slice(), columns).number_of(key) {
-            Some(number) => Ok(places.push(self.rows.place_of(number))?),
+            Some(number) => Ok(positions.push(self.rows.position_of(number))?),
             None => Ok(()),
         }
     }
 
-    /// Puts rows at the end, all of them or, where two rows are alike on a unique key or there is
+    /// Appends rows, all of them or, where two rows are alike on a unique key or there is
     /// no memory, none.
     pub fn insert(&mut self, alloc: Global, rows: Rows<K>) -> Result<(), Refusal>
         requires { length self.old.keys ≤ 8 }
@@ -150,7 +150,7 @@ impl<K: Same> Table<K> {
     ) -> Result<(), Refusal>
         requires few { length self.old.keys ≤ 8 }
         requires placed { AreRising 0 (length self.old.rows)
-            (map (λ change. change.place) changes) }
+            (map (λ change. change.position) changes) }
         requires kept { AreKept (map assignment_of assignments.now) self.old.rows
             (written self.old.rows changes) }
         ensures answer { Answers result
@@ -176,22 +176,22 @@ impl<K: Same> Table<K> {
         }
     }
 
-    /// Drops the rows at some places, which rise, or without memory none; those behind them move
-    /// up. The work is that of these rows; where there is none, it takes no memory.
-    pub fn drop_at(&mut self, alloc: Global, places: &[usize]) -> Result<(), AllocError>
-        requires { AreRising 0 (length self.old.rows) places.now }
+    /// Drops the rows at some positions, which rise, or out of memory none; the rows after them
+    /// move up. The work is that of these rows; for none, it takes no memory.
+    pub fn drop_at(&mut self, alloc: Global, positions: &[usize]) -> Result<(), AllocError>
+        requires { AreRising 0 (length self.old.rows) positions.now }
         ensures ok { OnOk result (self.new ≡ record {
           keys = self.old.keys;
-          rows = unhit self.old.rows (marked 0 (length self.old.rows) places.now);
+          rows = unhit self.old.rows (marked 0 (length self.old.rows) positions.now);
         }) }
         ensures err { OnErr result (self.new ≡ self.old) }
     {
-        if places.is_empty() {
+        if positions.is_empty() {
             return Ok(());
         }
-        self.rows.make_removable(alloc, places)?;
-        take_out_at(alloc, &mut self.indexes, &self.rows, places)?;
-        self.rows.drop_at(places);
+        self.rows.make_removable(alloc, positions)?;
+        take_out_at(alloc, &mut self.indexes, &self.rows, positions)?;
+        self.rows.drop_at(positions);
         Ok(())
     }
 
@@ -216,14 +216,14 @@ impl<K: Same> Duplicate for Table<K> {
 }
 
 /// The index of a key that one of some indexes has.
-fn index_among<'i, K: Same>(indexes: &'i [UniqueIndex<K>], places: &[usize]) -> &'i UniqueIndex<K>
-    requires { Contains (keys_of indexes.now) places.now }
-    ensures places { result.now.places ≡ places.now }
+fn index_among<'i, K: Same>(indexes: &'i [UniqueIndex<K>], ordinals: &[usize]) -> &'i UniqueIndex<K>
+    requires { Contains (keys_of indexes.now) ordinals.now }
+    ensures ordinals { result.now.ordinals ≡ ordinals.now }
     ensures all { (numbers : List ℕ) (rows : List (List Atom))
         → All (IndexesRows numbers rows) indexes.now → IndexesRows numbers rows result.now }
 {
     for index in indexes {
-        if index.places() == places {
+        if index.ordinals() == ordinals {
             return index;
         }
     }
@@ -253,7 +253,7 @@ fn admit<K: Same>(
 ) -> Result<(), Refusal>
     requires few { length indexes.old.items ≤ 8 }
     requires placed { AreRising 0 (length stored.old.rows)
-        (map (λ change. change.place) changes.now) }
+        (map (λ change. change.position) changes.now) }
     requires kept { AreKept (map assignment_of assignments.now) stored.old.rows
         (written stored.old.rows changes.now) }
     requires distinct { AreDistinct (keys_of indexes.old.items) stored.old.rows }
@@ -262,7 +262,7 @@ fn admit<K: Same>(
     ensures rows { stored.new.rows ≡ stored.old.rows }
     ensures numbers { stored.new.numbers ≡ stored.old.numbers }
     ensures own { OnOk result (All (IsWritable stored.new.pages)
-        (map (λ change. change.place) changes.now)) }
+        (map (λ change. change.position) changes.now)) }
     ensures answer { Answers result
         (unless_twins (first_twins 1 (keys_of indexes.old.items)
         (written stored.old.rows changes.now)) tt) }
@@ -272,12 +272,12 @@ fn admit<K: Same>(
     ensures err { OnErr result
         (All (IndexesRows stored.old.numbers stored.old.rows) indexes.new.items) }
 {
-    let places = places_of(alloc, changes)?;
-    stored.make_writable(alloc, places.as_slice())?;
+    let positions = positions_of(alloc, changes)?;
+    stored.make_writable(alloc, positions.as_slice())?;
     if !sets_a_key(indexes.as_slice(), assignments) {
         return Ok(());
     }
-    exchange_changed(alloc, indexes, stored, places.as_slice(), changes)
+    exchange_changed(alloc, indexes, stored, positions.as_slice(), changes)
 }
 
 /// Puts rows into a table's pages and indexes. All memory is taken before the pages have them.
@@ -315,7 +315,7 @@ fn insert_into<K: Same>(
     }
 }
 
-/// Puts rows at the end, for which there is room. It takes no memory.
+/// Appends rows, for which there is room. It takes no memory.
 fn append_each<K: Same>(stored: &mut Numbered<Row<K>>, rows: Rows<K>)
     requires { length rows ≤ stored.old.spare }
     ensures rows { stored.new.rows ≡ stored.old.rows ++ rows }

@@ -69,15 +69,15 @@ module _ (params : List Ty) (columns : List ColumnSite) where
       go true t = subst (λ found. IsExact rules (encs_or_clash encs found)) (sym (no_clash params columns rules t)) (where_typed rules ((has_typing-Decides params columns rules).0 t) encs)
       go false t = let c = some_clash rules t in subst (λ found. IsExact rules (encs_or_clash encs found)) (sym c.found_at) (where_untyped rules (untyped params columns rules t) encs (at_of c.rule))
 
-  place_of : (encs : List Enc) (found : Option ℕ) (at : ℕ) → encs_or_clash encs found ≡ Err at → found ≡ Some at
-  place_of encs None at e = absurd cc
-  place_of encs (Some n) at e = let f : n ≡ at = cc in ap Some f
+  offset_of : (encs : List Enc) (found : Option ℕ) (at : ℕ) → encs_or_clash encs found ≡ Err at → found ≡ Some at
+  offset_of encs None at e = absurd cc
+  offset_of encs (Some n) at e = let f : n ≡ at = cc in ap Some f
 
   refused_at : (rules : List Rule) (at : ℕ) → inferred_over params columns rules ≡ Err at → Clashes rules (Some at)
   refused_at rules at e = go (has_typing params columns rules) refl
     where
       found : clash params columns rules ≡ Some at
-      found = place_of (encs_from (least columns rules) 0 params) (clash params columns rules) at e
+      found = offset_of (encs_from (least columns rules) 0 params) (clash params columns rules) at e
 
       go : (b : Bool) → has_typing params columns rules ≡ b → Clashes rules (Some at)
       go true t = let f : None ≡ Some at = sym (no_clash params columns rules t) ∙ found in absurd cc
@@ -92,4 +92,4 @@ unfolding inferred_encs
 refused_at_first bound at e =
     let c = refused_at bound.params bound.columns (rules bound) at e in
     let p : at ≡ at_of c.rule = let f = c.found_at in cc in
-    record { before = c.before; rule = c.rule; first = c.first; place = p }
+    record { before = c.before; rule = c.rule; first = c.first; offset = p }

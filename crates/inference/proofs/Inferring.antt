@@ -47,17 +47,17 @@ use Rattle.enc_types.specs.declared.rules.Rule.{Rule}
 use Rattle.enc_types.specs.declared.rules.Rule.TheVariants.{Same, NotRnd, PlainOnly}
 use Rattle.enc_types.proofs.Interface.{has_typing-Decides, one_least}
 use Rattle.enc_types.proofs.Interface.{no_clash, none_typed, clash_at, first_clash, untyped}
-use Rattle.inference.specs.Steps.{goes, is_settled, traced, way_back}
+use Rattle.inference.specs.Steps.{goes, is_settled, traced, path_back}
 use Rattle.std.proofs.lemmas.List.{reverse-append, at_drop_more}
 use Rattle.ae_base.specs.declared.types.Ty.TheVariants.{Int}
-use Rattle.inference.specs.Ways.{onto, beyond, through_either, chain_through}
+use Rattle.inference.specs.Paths.{onto, beyond, through_either, chain_through}
 use Rattle.inference.specs.Reached.{typing_of, IsReached, AreSettled}
 use Rattle.inference.specs.Infers.{AreLeast, IsClashOf, IsLastTyped}
 use Rattle.inference.specs.declared.infer.EncryptionClash.{EncryptionClash}
 use Rattle.inference.specs.declared.reach.Reach.{Reach}
 use Rattle.inference.specs.declared.steps.Step.{Step}
 use Rattle.inference.proofs.Traces.{goes_same, traced_least}
-use Rattle.inference.proofs.Ways.{broken_chain, no_typing, is_false}
+use Rattle.inference.proofs.Paths.{broken_chain, no_typing, is_false}
 
 module _ (params : List Ty) (columns : List ColumnSite) where
   -- ---- typings that are one at each site
@@ -77,9 +77,9 @@ module _ (params : List Ty) (columns : List ColumnSite) where
     settled_same (NotRnd x at) = refl
     settled_same (PlainOnly x at) = refl
 
-    encs_same : (place : ℕ) (types : List Ty) → encs_from typing place types ≡ encs_from other place types
-    encs_same place [] = refl
-    encs_same place (ty ∷ types) = ap (λ z. z ∷ encs_from typing (suc place) types) (same (Param place)) ∙ ap (λ z. other (Param place) ∷ z) (encs_same (suc place) types)
+    encs_same : (ordinal : ℕ) (types : List Ty) → encs_from typing ordinal types ≡ encs_from other ordinal types
+    encs_same ordinal [] = refl
+    encs_same ordinal (ty ∷ types) = ap (λ z. z ∷ encs_from typing (suc ordinal) types) (same (Param ordinal)) ∙ ap (λ z. other (Param ordinal) ∷ z) (encs_same (suc ordinal) types)
 
     chain_same : (steps : List Step) (rule : Rule) → chain_through params columns typing steps rule ≡ chain_through params columns other steps rule
     chain_same steps (Same x y at) = ap (λ z. through_either z params columns steps x y (Same x y at)) (ap is_plain (same x))
@@ -165,7 +165,7 @@ module _ (params : List Ty) (columns : List ColumnSite) where
           before = take k rules;
           rule = get_or rules k default;
           first = subst P (sym (parted rules k default last.within)) (first_clash params columns (take k rules) (get_or rules k default) (drop (suc k) rules) last.typed no_more);
-          place = e;
+          offset = e;
           chained = subst Q (taken rules k default last.within) c;
         }
 
@@ -194,26 +194,26 @@ onto_is (x ∷ xs) ys =
 -- ---- chains as they are put together
 
 pub with_beyond : (alike : Bool) (steps : List Step) (from to : Site) (rule : Rule) (first whole : List Rule)
-    → first ≡ reverse (way_back steps from) ++ rule ∷ [] → whole ≡ first ++ beyond alike steps to → whole ≡ onto (way_back steps from) (rule ∷ beyond alike steps to)
+    → first ≡ reverse (path_back steps from) ++ rule ∷ [] → whole ≡ first ++ beyond alike steps to → whole ≡ onto (path_back steps from) (rule ∷ beyond alike steps to)
 with_beyond alike steps from to rule first whole e f =
     f ∙ ap (λ z. z ++ beyond alike steps to) e
-    ∙ append_assoc (reverse (way_back steps from)) (rule ∷ []) (beyond alike steps to)
-    ∙ sym (onto_is (way_back steps from) (rule ∷ beyond alike steps to))
+    ∙ append_assoc (reverse (path_back steps from)) (rule ∷ []) (beyond alike steps to)
+    ∙ sym (onto_is (path_back steps from) (rule ∷ beyond alike steps to))
 
 pub way_not_rnd : (params : List Ty) (columns : List ColumnSite) (typing : Typing) (items given : List Step) (rule : Rule) (x : Site) (at : ℕ) → given ≡ items → rule ≡ NotRnd x at
-    → reverse (way_back (reverse given) x) ++ rule ∷ [] ≡ chain_through params columns typing (reverse items) rule
+    → reverse (path_back (reverse given) x) ++ rule ∷ [] ≡ chain_through params columns typing (reverse items) rule
 way_not_rnd params columns typing items given rule x at e f =
-    ap (λ z. reverse (way_back (reverse z) x) ++ rule ∷ []) e
-    ∙ ap (λ z. reverse (way_back (reverse items) x) ++ z ∷ []) f
-    ∙ sym (onto_is (way_back (reverse items) x) (NotRnd x at ∷ []))
+    ap (λ z. reverse (path_back (reverse z) x) ++ rule ∷ []) e
+    ∙ ap (λ z. reverse (path_back (reverse items) x) ++ z ∷ []) f
+    ∙ sym (onto_is (path_back (reverse items) x) (NotRnd x at ∷ []))
     ∙ ap (chain_through params columns typing (reverse items)) (sym f)
 
 pub way_plain_only : (params : List Ty) (columns : List ColumnSite) (typing : Typing) (items given : List Step) (rule : Rule) (x : Site) (at : ℕ) → given ≡ items → rule ≡ PlainOnly x at
-    → reverse (way_back (reverse given) x) ++ rule ∷ [] ≡ chain_through params columns typing (reverse items) rule
+    → reverse (path_back (reverse given) x) ++ rule ∷ [] ≡ chain_through params columns typing (reverse items) rule
 way_plain_only params columns typing items given rule x at e f =
-    ap (λ z. reverse (way_back (reverse z) x) ++ rule ∷ []) e
-    ∙ ap (λ z. reverse (way_back (reverse items) x) ++ z ∷ []) f
-    ∙ sym (onto_is (way_back (reverse items) x) (PlainOnly x at ∷ []))
+    ap (λ z. reverse (path_back (reverse z) x) ++ rule ∷ []) e
+    ∙ ap (λ z. reverse (path_back (reverse items) x) ++ z ∷ []) f
+    ∙ sym (onto_is (path_back (reverse items) x) (PlainOnly x at ∷ []))
     ∙ ap (chain_through params columns typing (reverse items)) (sym f)
 
 pub some_rules : (params : List Ty) (columns : List ColumnSite) (rules : List Rule) → has_typing params columns rules ≡ false → 0 < length rules

@@ -1,6 +1,6 @@
 mod Alike
 mod Traces
-mod Ways
+mod Paths
 mod Passes
 mod Inferring
 mod Exactness

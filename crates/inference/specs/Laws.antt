@@ -1,4 +1,4 @@
--- What is inferred of a statement tells whether its rules have a typing.
+-- Encryptions are inferred of a statement exactly if its rules have a typing.
 use Rattle.std.specs.Prelude.{◌≡◌, ℕ, ◌↔◌, List, IsOk, IsErr, Err}
 use Rattle.sql_tree.specs.Bound.{Bound}
 use Rattle.enc_types.specs.Clash.{IsFirstClash}
@@ -17,7 +17,7 @@ pub record IsClashAt (bound : Bound) (at : ℕ) : Type 0 where
   pub before : List Rule
   pub rule : Rule
   pub first : IsFirstClash bound.params bound.columns (rules bound) before rule
-  pub place : at ≡ at_of rule
+  pub offset : at ≡ at_of rule
 
 abbrev pub InferredExactly : Type 0
 InferredExactly = (bound : Bound) → IsInferredExactly bound

@@ -1,6 +1,6 @@
 pub mod Found
 pub mod Steps
-pub mod Ways
+pub mod Paths
 pub mod Reached
 pub mod Infers
 pub mod Laws

@@ -45,6 +45,6 @@ IsTrace params columns rules (step ∷ steps) =
     IsAmong rules step.rule × Carries step.rule step.from step.to × (goes params columns (traced columns steps) step.from step.to ≡ true) × IsTrace params columns rules steps
 
 -- the rules on the way back from a site to a fixed one
-abbrev pub way_back : List Step → Site → List Rule
-way_back [] site = []
-way_back (step ∷ steps) site = if site_eq step.to site then step.rule ∷ way_back steps step.from else way_back steps site
+abbrev pub path_back : List Step → Site → List Rule
+path_back [] site = []
+path_back (step ∷ steps) site = if site_eq step.to site then step.rule ∷ path_back steps step.from else path_back steps site

@@ -2,7 +2,7 @@
 
 ghost use Rattle.std.specs.Prelude.{◌≡◌, ◌∷◌, ◌++◌, [], List, reverse, IfOk, OnOk};
 ghost use Rattle.inference.specs.Steps as spec;
-ghost use Rattle.inference.specs.Ways as ways;
+ghost use Rattle.inference.specs.Paths as ways;
 ghost use Rattle.inference.specs.Reached.{typing_of};
 ghost use Rattle.inference.specs.declared.steps.Step.{Step};
 
@@ -13,7 +13,7 @@ use enc_types::rules::Rule;
 use enc_types::sites::Site;
 use std::alloc::{AllocError, Global};
 
-/// A chain of rules through one that doesn't hold under what was found.
+/// A chain of rules through one that doesn't hold under the encryptions found.
 pub(crate) fn chain_through(
     alloc: Global,
     sites: &Sites,
@@ -57,13 +57,13 @@ fn through(
     Ok(chain)
 }
 
-/// Puts the way back from a site at the end, if the types on both sides of a rule are alike.
+/// Appends the way back from a site, if the types on both sides of a rule are alike.
 fn beyond(alike: bool, steps: &[Step], to: Site, chain: &mut Vec<Rule>) -> Result<(), AllocError>
     ensures { OnOk result
         (chain.new.items ≡ chain.old.items ++ ways.beyond alike (reverse steps.now) to) }
 {
     if alike {
-        way_back(steps, to, chain)
+        path_back(steps, to, chain)
     } else {
         Ok(())
     }
@@ -71,38 +71,38 @@ fn beyond(alike: bool, steps: &[Step], to: Site, chain: &mut Vec<Rule>) -> Resul
 
 /// The way from a fixed site to one of a rule, and the rule.
 fn way_to(alloc: Global, steps: &[Step], site: Site, rule: &Rule) -> Result<Vec<Rule>, AllocError>
-    ensures { IfOk result (λ chain. chain.items ≡ reverse (spec.way_back (reverse steps.now) site)
+    ensures { IfOk result (λ chain. chain.items ≡ reverse (spec.path_back (reverse steps.now) site)
         ++ rule.now ∷ []) }
 {
     let mut chain = Vec::new(alloc);
-    way_back(steps, site, &mut chain)?;
+    path_back(steps, site, &mut chain)?;
     chain.reverse();
     chain.push(*rule)?;
     Ok(chain)
 }
 
-/// Puts the rules on the way back from a site at the end.
-fn way_back(steps: &[Step], site: Site, way: &mut Vec<Rule>) -> Result<(), AllocError>
+/// Appends the rules on the way back from a site.
+fn path_back(steps: &[Step], site: Site, path: &mut Vec<Rule>) -> Result<(), AllocError>
     ensures { OnOk result
-        (way.new.items ≡ way.old.items ++ spec.way_back (reverse steps.now) site) }
+        (path.new.items ≡ path.old.items ++ spec.path_back (reverse steps.now) site) }
 {
     let mut here = site;
     let mut left = steps.len();
     'back: while left > 0 {
         left -= 1;
-        here = back_over(&steps[left], here, way)?;
+        here = back_over(&steps[left], here, path)?;
     }
     Ok(())
 }
 
 /// The site from which a step went to this one, or this one.
-fn back_over(step: &Step, site: Site, way: &mut Vec<Rule>) -> Result<Site, AllocError>
+fn back_over(step: &Step, site: Site, path: &mut Vec<Rule>) -> Result<Site, AllocError>
     ensures { IfOk result (λ next. (rest : List Step)
-        → way.new.items ++ spec.way_back rest next ≡ way.old.items
-        ++ spec.way_back (step.now ∷ rest) site) }
+        → path.new.items ++ spec.path_back rest next ≡ path.old.items
+        ++ spec.path_back (step.now ∷ rest) site) }
 {
     if step.to == site {
-        way.push(step.rule)?;
+        path.push(step.rule)?;
         return Ok(step.from);
     }
     Ok(site)

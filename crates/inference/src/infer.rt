@@ -20,8 +20,8 @@ use enc_types::typed::Typed;
 use sql_tree::bound::Bound;
 use std::alloc::{AllocError, Global};
 
-/// Where the rules of a statement clash: the place of the first rule such that the rules up to and
-/// with it have no typing, and a chain of rules among those that shows it.
+/// Where the rules of a statement clash: the offset of the first rule such that the rules up to and
+/// with it have no typing, and a chain of rules among these that shows it.
 #[derive(Drop)]
 pub struct EncryptionClash {
     pub at: u32,
@@ -72,8 +72,8 @@ fn param_encs(alloc: Global, sites: &Sites, reach: &Reach) -> Result<Seq<Enc>, A
         sites.now.params.now) }
 {
     let mut encs = Seq::new(alloc);
-    for place in 0..sites.params.len() {
-        encs.push(reach.enc_of(sites, Site::Param(place)))?;
+    for ordinal in 0..sites.params.len() {
+        encs.push(reach.enc_of(sites, Site::Param(ordinal)))?;
     }
     Ok(encs)
 }

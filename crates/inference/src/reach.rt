@@ -156,7 +156,7 @@ impl Reach {
         Ok(())
     }
 
-    /// Whether a rule holds under what was found.
+    /// Whether a rule holds under the encryptions found.
     fn meets(&self, sites: &Sites, rule: &Rule) -> bool
         ensures { result ≡ holds sites.now.params.now sites.now.columns.now
             (typing_of sites.now.columns.now self.now) rule.now }
@@ -176,7 +176,7 @@ impl Reach {
             && (is_plain(self.enc_of(sites, x)) || sites.are_alike(x, y))
     }
 
-    /// The first rule that doesn't hold under what was found.
+    /// The first rule that doesn't hold under the encryptions found.
     pub(crate) fn broken(&self, sites: &Sites, rules: &[Rule]) -> Option<Rule>
         ensures broken { MatchOption result
             (list_all (holds sites.now.params.now sites.now.columns.now

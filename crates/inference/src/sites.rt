@@ -21,16 +21,16 @@ impl<'a> Sites<'a> {
         ensures { result ≡ spec.fixed self.now.columns.now site }
     {
         match site {
-            Site::Column(place) => Some(self.enc_at(place)),
+            Site::Column(ordinal) => Some(self.enc_at(ordinal)),
             Site::Fixed => Some(Enc::Plain),
             Site::Param(_) | Site::Null(_) => None,
         }
     }
 
-    fn enc_at(&self, place: usize) -> Enc
-        ensures { result ≡ spec.enc_at self.now.columns.now place }
+    fn enc_at(&self, ordinal: usize) -> Enc
+        ensures { result ≡ spec.enc_at self.now.columns.now ordinal }
     {
-        match self.columns.get(place) {
+        match self.columns.get(ordinal) {
             Some(column) => column.enc,
             None => Enc::Plain,
         }
@@ -41,11 +41,11 @@ impl<'a> Sites<'a> {
         ensures { result ≡ spec.type_of self.now.params.now self.now.columns.now site }
     {
         match site {
-            Site::Column(place) => match self.columns.get(place) {
+            Site::Column(ordinal) => match self.columns.get(ordinal) {
                 Some(column) => Some(column.ty),
                 None => None,
             },
-            Site::Param(place) => self.params.get(place).copied(),
+            Site::Param(ordinal) => self.params.get(ordinal).copied(),
             Site::Null(_) | Site::Fixed => None,
         }
     }

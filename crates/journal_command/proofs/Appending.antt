@@ -1,4 +1,4 @@
--- A record is added, and then the replies are put.
+-- A record is added, and then the replies are written.
 use Rattle.std.proofs.Common.{◌≡◌, inl, ◌+◌, ◌<◌, ◌≤◌, ℕ, List, [], ◌∷◌, length, map, Option, Some, None, refl, sym, ap, subst, ◌∙◌, arith}
 use Rattle.std.specs.Prelude.{◌↔◌, option_to_list, Result, Ok, Err}
 use Rattle.ae_edge.specs.Devices.{WhereExposed, Adds}
@@ -49,21 +49,21 @@ stops_alike : (stop : Stop) (frames others : List ℕ) (xs ys : List (List ℕ))
 stops_alike stop frames others xs ys before after e f s =
     subst (λ (l : List (List ℕ)). StopsBy stop others l before after) f (subst (λ (l : List ℕ). StopsBy stop l xs before after) e s)
 
-pub answers_so : {A : Type 0} (result : Result A Stop) (asked : Asked) (mid : DurableState) (old new : DurableView) (replies : List Reply) (entry : Option (List ℕ))
-    → IsServed replies entry asked old.durable mid → new.durable ≡ record mid { journal = new.durable.journal }
-    → PutsBy result (packed asked.version replies) (option_to_list entry) (outside_of old) (outside_of new)
-    → Answers AnswersRequest StopsRequest result asked old new
-answers_so (Ok x) asked mid old new replies entry s n p = λ held e.
+pub answers_so : {A : Type 0} (result : Result A Stop) (request : Asked) (mid : DurableState) (old new : DurableView) (replies : List Reply) (entry : Option (List ℕ))
+    → IsServed replies entry request old.durable mid → new.durable ≡ record mid { journal = new.durable.journal }
+    → PutsBy result (packed request.version replies) (option_to_list entry) (outside_of old) (outside_of new)
+    → Answers AnswersRequest StopsRequest result request old new
+answers_so (Ok x) request mid old new replies entry s n p = λ held e.
     let k = s.kept held e in
     record {
       state = ap (λ (d : DurableState). d.state) n ∙ s.after;
       held = ap (λ (d : DurableState). d.held) n ∙ k.1;
       there = subst (λ (l : List (List ℕ)). AreThere l (outside_of old) (outside_of new)) k.0 p.0;
-      put = subst (λ (l : List Reply). Adds (packed asked.version l) old.out new.out) s.replies p.1;
+      put = subst (λ (l : List Reply). Adds (packed request.version l) old.out new.out) s.replies p.1;
     }
-answers_so (Err stop) asked mid old new replies entry s n p = λ held e.
-    stops_alike stop (packed asked.version replies) (answer_frames old.durable.state asked) (option_to_list entry) (entries_of (keeping old.durable.state held asked).records)
-    (outside_of old) (outside_of new) (ap (packed asked.version) s.replies) (s.kept held e).0 p
+answers_so (Err stop) request mid old new replies entry s n p = λ held e.
+    stops_alike stop (packed request.version replies) (answer_frames old.durable.state request) (option_to_list entry) (entries_of (keeping old.durable.state held request).records)
+    (outside_of old) (outside_of new) (ap (packed request.version) s.replies) (s.kept held e).0 p
 
 -- before anything was done
 pub unanswered : (frames : List ℕ) (more : List (List ℕ)) (old : Outside) → StopsBy stops.OutOfMemory frames more old old

@@ -1,4 +1,4 @@
--- What is put and kept for the requests of an input, by how it ended.
+-- What is written and kept for the requests of an input, by how it ended.
 use Rattle.std.proofs.Common.{◌≡◌, ◌⊎◌, ◌≤◌, ℕ, List, [], ◌++◌, length, map, take, drop, Option, refl, sym, ap, subst, arith, inl, inr}
 use Rattle.std.specs.Prelude.{flat_map}
 use Rattle.std.proofs.lemmas.List.{take-append-drop}
@@ -20,17 +20,17 @@ use Rattle.journal_command.specs.Endings.{ended_by}
 use Rattle.journal_command.specs.Keeping.{frames_of, held_after}
 use Rattle.journal_command.specs.Running.{HasKeptAll, KeepsSo, PutsSo, ServesPieces}
 use Rattle.journal_command.specs.Stopping.{CountsStop, Faults, Outside}
-use Rattle.journal_command.specs.declared.endings.Ended.{Ended}
-use Rattle.journal_command.specs.declared.endings.Ended.TheVariants as ended
+use Rattle.journal_command.specs.declared.endings.JournalEnding.{JournalEnding}
+use Rattle.journal_command.specs.declared.endings.JournalEnding.TheVariants as ended
 use Rattle.journal_command.specs.declared.endings.Stop.{Stop}
 use Rattle.journal_command.specs.declared.endings.Stop.TheVariants as stops
 use Rattle.journal_command.proofs.Turning.{IsSoFar, breaks_in, first_before, kept_all, kept_before, kept_full, kept_in_part, kept_so_far, kept_tried, so_far}
 
--- behind all requests of some bytes stands less than a frame, or what is refused
+-- after all requests of some bytes stands less than a frame, or what is refused
 all_ends : (at : ℕ) (others : List ℕ) (end : End) → EndsSo is_request_head SpellsRequest at others end → IsNotYet is_request_head others ⊎ IsRefused is_request_head SpellsRequest others
 all_ends at others Whole e = inl (inl (omega (arith, ap length e)))
-all_ends at others (Refused place) e = inr e.1
-all_ends at others (Rest place) e = inl e.2
+all_ends at others (Refused offset) e = inr e.1
+all_ends at others (Rest offset) e = inl e.2
 
 -- more bytes were taken than were looked at
 kept_fed : (start : State) (bytes more : List ℕ) (first now : Outside) → HasKeptAll start bytes bytes first now → HasKeptAll start bytes (bytes ++ more) first now
@@ -113,30 +113,30 @@ module _ (first last : DurableView) (none : first.durable.held ≡ map frames_of
 
   past : (taken : List ℕ) (end : End) → AnswersEach AnswersRequest (take most_stream_bytes taken) end first last → KeepsSo ended.TooLong start taken (outside_of first) (outside_of last)
   past taken end a =
-      let front = take most_stream_bytes taken in
-      subst (λ (l : List ℕ). HasKeptAll start front l (outside_of first) (outside_of last)) (take-append-drop most_stream_bytes taken)
-      (kept_fed start front (drop most_stream_bytes taken) (outside_of first) (outside_of last) (all_kept front end a))
+      let prefix = take most_stream_bytes taken in
+      subst (λ (l : List ℕ). HasKeptAll start prefix l (outside_of first) (outside_of last)) (take-append-drop most_stream_bytes taken)
+      (kept_fed start prefix (drop most_stream_bytes taken) (outside_of first) (outside_of last) (all_kept prefix end a))
 
   ends_of : (how : Ending Stop) (taken : List ℕ) (left : Option (List ℕ)) → EndsAs AnswersRequest StopsRequest how taken left first last
       → PutsSo (ended_by how) start taken left first.out last.out × KeepsSo (ended_by how) start taken (outside_of first) (outside_of last)
   ends_of ending.Done taken left h = ((h.0, h.1, all_put taken Whole h.2), all_kept taken Whole h.2)
-  ends_of (ending.BadFrame place) taken left h =
+  ends_of (ending.BadFrame offset) taken left h =
       elim h.1 [
-        | inl refused ↦ ((h.0, inl (all_put taken (Refused place) refused)), all_kept taken (Refused place) refused)
-        | inr cut ↦ ((h.0, inr (cut.0, all_put taken (Rest place) cut.1)), all_kept taken (Rest place) cut.1)
+        | inl refused ↦ ((h.0, inl (all_put taken (Refused offset) refused)), all_kept taken (Refused offset) refused)
+        | inr cut ↦ ((h.0, inr (cut.0, all_put taken (Rest offset) cut.1)), all_kept taken (Rest offset) cut.1)
       ]
   ends_of ending.TooLong taken left h = ((h.0, (h.1.0, h.1.1, all_put (take most_stream_bytes taken) h.1.0 h.1.2)), past taken h.1.0 h.1.2)
   ends_of ending.ReadFault taken left h = ((h.0, (h.1.0, h.1.1, all_put taken h.1.0 h.1.2)), all_kept taken h.1.0 h.1.2)
   ends_of ending.OutOfMemory taken left h = unread taken left h.0 h.1
   ends_of (ending.Stopped stop) taken left h = stopped taken left h.0 stop h.1
 
--- what is put and kept for an input
-pub pieces_of : RequestsAreSerialFrom → (how : Ending Stop) (result : Ended) (source left : Option (List ℕ)) (first last : DurableView) → result ≡ ended_by how
+-- what is written and kept for an input
+pub pieces_of : RequestsAreSerialFrom → (how : Ending Stop) (result : JournalEnding) (source left : Option (List ℕ)) (first last : DurableView) → result ≡ ended_by how
     → first.durable.held ≡ map frames_of nothing_held → ServesInput AnswersRequest StopsRequest how source left first last
     → ServesPieces result first.durable.state source left (outside_of first) (outside_of last)
 pieces_of law how result source left first last r none s =
     let so = ends_of first last none how s.taken left s.ends in
-    subst (λ (x : Ended). ServesPieces x first.durable.state source left (outside_of first) (outside_of last)) (sym r)
+    subst (λ (x : JournalEnding). ServesPieces x first.durable.state source left (outside_of first) (outside_of last)) (sym r)
     (record { taken = s.taken; lost = s.lost; puts = so.0; keeps = so.1; serial = λ store idle requests others b. law first.durable.state store idle (messages_of requests) })
 
 -- ---- faults
@@ -146,7 +146,7 @@ pub read_failed : (how : Ending Stop) → ended_by how ≡ ended.ReadFault → h
 read_failed ending.Done e = cc
 read_failed ending.ReadFault e = refl
 read_failed ending.TooLong e = cc
-read_failed (ending.BadFrame place) e = cc
+read_failed (ending.BadFrame offset) e = cc
 read_failed ending.OutOfMemory e = cc
 read_failed (ending.Stopped stops.WriteFault) e = cc
 read_failed (ending.Stopped stops.DiskFault) e = cc
@@ -157,7 +157,7 @@ pub write_failed : (how : Ending Stop) (old new : Faults) → ended_by how ≡ e
 write_failed ending.Done old new e c = absurd cc
 write_failed ending.ReadFault old new e c = absurd cc
 write_failed ending.TooLong old new e c = absurd cc
-write_failed (ending.BadFrame place) old new e c = absurd cc
+write_failed (ending.BadFrame offset) old new e c = absurd cc
 write_failed ending.OutOfMemory old new e c = absurd cc
 write_failed (ending.Stopped stops.WriteFault) old new e c = c.0
 write_failed (ending.Stopped stops.DiskFault) old new e c = absurd cc
@@ -168,7 +168,7 @@ pub disk_failed : (how : Ending Stop) (old new : Faults) → ended_by how ≡ en
 disk_failed ending.Done old new e c = absurd cc
 disk_failed ending.ReadFault old new e c = absurd cc
 disk_failed ending.TooLong old new e c = absurd cc
-disk_failed (ending.BadFrame place) old new e c = absurd cc
+disk_failed (ending.BadFrame offset) old new e c = absurd cc
 disk_failed ending.OutOfMemory old new e c = absurd cc
 disk_failed (ending.Stopped stops.WriteFault) old new e c = absurd cc
 disk_failed (ending.Stopped stops.DiskFault) old new e c = c.0

@@ -1,4 +1,4 @@
--- Requests one after another: what is held behind them, and their records.
+-- Requests one after another: what is held after them, and their records.
 use Rattle.std.proofs.Common.{◌≡◌, ℕ, List, [], ◌∷◌, ◌++◌, length, refl, sym, ap, ◌∙◌, append-nil, append_assoc, arith}
 use Rattle.serve_command.specs.ServeAll.{state_after}
 use Rattle.server_core.specs.Serve.{State, serve}

@@ -29,7 +29,7 @@ use Rattle.std.proofs.Common.{
 use Rattle.std.specs.List.{All}
 use Rattle.std.proofs.lemmas.List.{append_cancel_left, drop_more, flat_map_more, take_more}
 use Rattle.std.proofs.lemmas.List.Elements.{All-nil, All-push, All-head, All-tail}
-use Rattle.journal_core.specs.Journals.{place_behind}
+use Rattle.journal_core.specs.Journals.{offset_behind}
 use Rattle.recording_laws.specs.Laws.{AreDone, AreServedAgain, IsIdle}
 use Rattle.recording_laws.specs.Recorded.{is_done}
 use Rattle.server_core.specs.Serve.{State, serve}
@@ -43,7 +43,7 @@ use Rattle.wire_messages.specs.declared.replies.Reply.{Reply}
 use Rattle.wire_encoding.specs.Spelling.{SpellsRequest, asked_frame}
 use Rattle.journal_command.specs.Keeping.{Asked, entries_of, frames_in, messages_in}
 use Rattle.journal_command.specs.Restarts.{AnswersPrefix, AreServedRecords, IsServedRecord, RefusesAt, ServesPrefix, state_behind}
-use Rattle.journal_command.specs.declared.restarts.Front.TheVariants as front
+use Rattle.journal_command.specs.declared.restarts.FirstServed.TheVariants as first_served
 use Rattle.journal_command.proofs.Recording.{entries_append}
 
 -- ---- the request that stands first
@@ -51,11 +51,11 @@ use Rattle.journal_command.proofs.Recording.{entries_append}
 both : (b : Bool) → b ≡ true → b ≡ false → ⊥
 both b t f = cc
 
-pub front_undone : (asked : Asked) (replies : List Reply) (used : ℕ) (bytes : List ℕ) (old new : State) → ReadsEach SpellsRequest (decoded.One asked used) bytes
-    → (serve old asked.message ≡ record { replies = replies; after = new }) → is_done replies ≡ false → AnswersPrefix front.Refused bytes old new
-front_undone asked replies used bytes old new only s e = λ other first rest spelled whole done.
+pub prefix_undone : (request : Asked) (replies : List Reply) (used : ℕ) (bytes : List ℕ) (old new : State) → ReadsEach SpellsRequest (decoded.One request used) bytes
+    → (serve old request.message ≡ record { replies = replies; after = new }) → is_done replies ≡ false → AnswersPrefix first_served.Refused bytes old new
+prefix_undone request replies used bytes old new only s e = λ other first rest spelled whole done.
     let same = (only other first rest spelled whole).0 in
-    both (is_done (serve old asked.message).replies) (ap (λ (r : Asked). is_done (serve old r.message).replies) same ∙ done) (ap (λ (x : Served State). is_done x.replies) s ∙ e)
+    both (is_done (serve old request.message).replies) (ap (λ (r : Asked). is_done (serve old r.message).replies) same ∙ done) (ap (λ (x : Served State). is_done x.replies) s ∙ e)
 
 -- ---- one record
 
@@ -83,7 +83,7 @@ done_next state (x ∷ requests) r others all = done_next (serve state x.message
 
 pub more_served : (state : State) (entry rest : List ℕ) (now new : State) (used : ℕ) → HasServed state entry rest now → ServesPrefix used rest now new → HasServed state entry (drop used rest) new
 more_served state entry rest now new used h f =
-    let r = f.asked in
+    let r = f.request in
     record {
       requests = h.requests ++ r ∷ [];
       proper = All-push IsProper h.requests r h.proper f.spelled.0;
@@ -118,9 +118,10 @@ goes law (x ∷ ones) (y ∷ others) rest p q e =
     let g = goes law ones others rest (All-tail IsProper x ones p) (All-tail IsProper y others q) tails in
     record { more = g.more; is = ap (λ (r : Asked). r ∷ others) (sym same.0) ∙ ap (λ (l : List Asked). x ∷ l) g.is; left = g.left; proper = g.proper }
 
-pub refused_front : HasOneReading SpellsRequest → (state : State) (entry rest : List ℕ) (now new : State) → HasServed state entry rest now → 0 < length rest → AnswersPrefix front.Refused rest now new
+pub refused_prefix : HasOneReading SpellsRequest → (state : State) (entry rest : List ℕ) (now new : State) → HasServed state entry rest now → 0 < length rest
+    → AnswersPrefix first_served.Refused rest now new
     → (requests : List Asked) → IsServedRecord state requests entry → ⊥
-refused_front law state entry rest now new h some refused requests s =
+refused_prefix law state entry rest now new h some refused requests s =
     let g = goes law h.requests requests rest h.proper s.proper (sym h.whole ∙ s.whole) in
     by g.more g.is g.left g.proper
   where
@@ -175,16 +176,16 @@ one_more_served state entries entry now new s one =
       after = one.2 ∙ ap (λ (x : State). state_after x one.0) s.after ∙ sym (records_more state s.records one.0);
     }
 
-pub refuses_at : (state : State) (entries before : List (List ℕ)) (entry : List ℕ) (others : List (List ℕ)) (now : State) (place : ℕ) → AreSoFar state before now → entries ≡ before ++ entry ∷ others
-    → place ≡ place_behind before → ((requests : List Asked) → IsServedRecord now requests entry → ⊥) → RefusesAt state entries place
-refuses_at state entries before entry others now place s whole e refused = record {
+pub refuses_at : (state : State) (entries before : List (List ℕ)) (entry : List ℕ) (others : List (List ℕ)) (now : State) (offset : ℕ) → AreSoFar state before now → entries ≡ before ++ entry ∷ others
+    → offset ≡ offset_behind before → ((requests : List Asked) → IsServedRecord now requests entry → ⊥) → RefusesAt state entries offset
+refuses_at state entries before entry others now offset s whole e refused = record {
   before = s.records;
   entry = entry;
   others = others;
   whole = whole ∙ ap (λ (l : List (List ℕ)). l ++ entry ∷ others) s.served.whole;
   served = record { proper = s.served.proper; whole = refl; served = s.served.served };
   refused = λ requests r. refused requests (subst (λ (x : State). IsServedRecord x requests entry) (sym s.after) r);
-  place_is = e ∙ ap place_behind s.served.whole;
+  offset_is = e ∙ ap offset_behind s.served.whole;
 }
 
 -- the entry that stands next

@@ -3,7 +3,7 @@ use Rattle.std.proofs.Common.{◌≡◌, inl, inr, ◌-◌, ℕ, List, [], ◌�
 use Rattle.std.specs.List.{All}
 use Rattle.std.proofs.lemmas.List.Elements.{All-nil, All-cons, All-head, All-tail, All-append, All-set, All-weaker, All-replicate}
 use Rattle.ae_edge.specs.Devices.{WhereExposed, IsPrefix}
-use Rattle.ae_edge.proofs.Interface.{told_map}
+use Rattle.ae_edge.proofs.Interface.{exposed_map}
 use Rattle.disk.specs.Crashes.{Stand, IsImage}
 use Rattle.disk.specs.Moments.{Moments, LeavesNow, Leaves}
 use Rattle.disk.proofs.Interface.{leaves_weaker}
@@ -25,8 +25,8 @@ use Rattle.journal_command.specs.Keeping.{Asked, IsHeldRequest, entries_of, fram
 use Rattle.journal_command.specs.Records.{HasPrefix, IsOfRun}
 use Rattle.journal_command.specs.Restarts.{AreServedRecords, IsServedRecord, state_behind}
 use Rattle.journal_command.specs.Servable.{IsServable, IsntDamaged, StaysServable}
-use Rattle.journal_command.specs.declared.endings.Ended.{Ended}
-use Rattle.journal_command.specs.declared.endings.Ended.TheVariants as ended
+use Rattle.journal_command.specs.declared.endings.JournalEnding.{JournalEnding}
+use Rattle.journal_command.specs.declared.endings.JournalEnding.TheVariants as ended
 use Rattle.journal_command.proofs.Holding.{Empty, AreProper, One}
 use Rattle.journal_command.proofs.Restarting.{goes}
 use Rattle.journal_command.proofs.Serving.{proper_keeping}
@@ -48,32 +48,32 @@ recorded_proper state held (r ∷ requests) h p =
     (recorded_proper (serve state r.message).after (held_behind state held r) requests
     (All-set (All IsHeldRequest) held (session_of r.message - 1) (keeping state held r).held k.1 h) (All-tail IsProper r requests p))
 
--- ---- a front of records' bytes is of a front of the records
+-- ---- a prefix of records' bytes is of a prefix of the records
 
-pub record IsOfFront (front : List (List ℕ)) (records : List (List Asked)) : Type 0 where
+pub record IsOfPrefix (prefix : List (List ℕ)) (records : List (List Asked)) : Type 0 where
   pub ones : List (List Asked)
   pub of_all : IsPrefix ones records
-  pub is : front ≡ entries_of ones
+  pub is : prefix ≡ entries_of ones
 
-front_of_entries : (front rest : List (List ℕ)) (records : List (List Asked)) → entries_of records ≡ front ++ rest → IsOfFront front records
-front_of_entries [] rest records e = record { ones = []; of_all = record { rest = records; is = refl }; is = refl }
-front_of_entries (x ∷ front) rest [] e = absurd (none e)
+prefix_of_entries : (prefix rest : List (List ℕ)) (records : List (List Asked)) → entries_of records ≡ prefix ++ rest → IsOfPrefix prefix records
+prefix_of_entries [] rest records e = record { ones = []; of_all = record { rest = records; is = refl }; is = refl }
+prefix_of_entries (x ∷ prefix) rest [] e = absurd (none e)
   where
-    none : [] ≡ x ∷ front ++ rest → ⊥
+    none : [] ≡ x ∷ prefix ++ rest → ⊥
     none h = cc
-front_of_entries (x ∷ front) rest (r ∷ records) e =
-    let f = front_of_entries front rest records (tails e) in
+prefix_of_entries (x ∷ prefix) rest (r ∷ records) e =
+    let f = prefix_of_entries prefix rest records (tails e) in
     record { ones = r ∷ f.ones; of_all = record { rest = f.of_all.rest; is = ap (λ l. r ∷ l) f.of_all.is }; is = ap (λ l. x ∷ l) f.is ∙ ap (λ y. y ∷ entries_of f.ones) (sym (heads e)) }
   where
-    heads : frames_in r ∷ entries_of records ≡ x ∷ front ++ rest → frames_in r ≡ x
+    heads : frames_in r ∷ entries_of records ≡ x ∷ prefix ++ rest → frames_in r ≡ x
     heads h = cc
 
-    tails : frames_in r ∷ entries_of records ≡ x ∷ front ++ rest → entries_of records ≡ front ++ rest
+    tails : frames_in r ∷ entries_of records ≡ x ∷ prefix ++ rest → entries_of records ≡ prefix ++ rest
     tails h = cc
 
-all_front : (xs ys : List (List Asked)) → All (All IsProper) (xs ++ ys) → All (All IsProper) xs
-all_front [] ys all = All-nil (All IsProper)
-all_front (x ∷ xs) ys all = All-cons (All IsProper) x xs (All-head (All IsProper) x (xs ++ ys) all) (all_front xs ys (All-tail (All IsProper) x (xs ++ ys) all))
+all_prefix : (xs ys : List (List Asked)) → All (All IsProper) (xs ++ ys) → All (All IsProper) xs
+all_prefix [] ys all = All-nil (All IsProper)
+all_prefix (x ∷ xs) ys all = All-cons (All IsProper) x xs (All-head (All IsProper) x (xs ++ ys) all) (all_prefix xs ys (All-tail (All IsProper) x (xs ++ ys) all))
 
 entries_append : (xs ys : List (List Asked)) → entries_of (xs ++ ys) ≡ entries_of xs ++ entries_of ys
 entries_append [] ys = refl
@@ -83,20 +83,20 @@ entries_append (x ∷ xs) ys = ap (λ (l : List (List ℕ)). frames_in x ∷ l) 
 messages_append : (xs ys : List (List Asked)) → messages_in (xs ++ ys) ≡ messages_in xs ++ messages_in ys
 messages_append xs ys = map_append messages_of xs ys
 
-front_of_messages : (start : State) (requests : List Asked) (front : List (List Asked)) → IsPrefix front (records_of start nothing_held requests)
-    → IsPrefix (messages_in front) (requests_recorded start nothing_held (messages_of requests))
-front_of_messages start requests front f = record {
+prefix_of_messages : (start : State) (requests : List Asked) (prefix : List (List Asked)) → IsPrefix prefix (records_of start nothing_held requests)
+    → IsPrefix (messages_in prefix) (requests_recorded start nothing_held (messages_of requests))
+prefix_of_messages start requests prefix f = record {
   rest = messages_in f.rest;
-  is = sym (records_forget (λ (a : Asked). a.message) (λ (r : Request). r) start requests) ∙ ap messages_in f.is ∙ messages_append front f.rest;
+  is = sym (records_forget (λ (a : Asked). a.message) (λ (r : Request). r) start requests) ∙ ap messages_in f.is ∙ messages_append prefix f.rest;
 }
 
 module _ (may : RequestsMayBeAsked) (law : PrefixesAreAccepted) where
-  -- the records that were found, and a front of those of a run
+  -- the records that were found, and a prefix of those of a run
   run_servable : (records : List (List Asked)) (requests : List Asked) (image : List ℕ) → AreServedRecords empty_state records (entries_of records) → All IsProper requests
       → HasPrefix (entries_of records) (entries_of (records_of (state_behind empty_state records) nothing_held requests)) image → IsServable image
   run_servable records requests image s p h =
       let all = records_of (state_behind empty_state records) nothing_held requests in
-      let f = front_of_entries h.front h.of_all.rest all h.of_all.is in
+      let f = prefix_of_entries h.prefix h.of_all.rest all h.of_all.is in
       let proper = recorded_proper (state_behind empty_state records) nothing_held requests (All-replicate (All IsHeldRequest) 64 [] (All-nil IsHeldRequest)) p in
       record {
         records = records ++ f.ones;
@@ -104,11 +104,11 @@ module _ (may : RequestsMayBeAsked) (law : PrefixesAreAccepted) where
             subst (λ (es : List (List ℕ)). ReadsAs (Records es) image)
             (ap (λ (l : List (List ℕ)). entries_of records ++ l) f.is ∙ sym (entries_append records f.ones)) h.reads;
         served = record {
-          proper = All-append (All IsProper) records f.ones s.proper (all_front f.ones f.of_all.rest (subst (All (All IsProper)) f.of_all.is proper));
+          proper = All-append (All IsProper) records f.ones s.proper (all_prefix f.ones f.of_all.rest (subst (All (All IsProper)) f.of_all.is proper));
           whole = refl;
           served = subst (AreServedAgain empty_state) (sym (messages_append records f.ones))
               (law empty_state (messages_in records) (messages_in f.ones) (messages_of requests) may.0 (record { counts = refl; none = refl }) s.served
-              (front_of_messages (state_behind empty_state records) requests f.ones f.of_all));
+              (prefix_of_messages (state_behind empty_state records) requests f.ones f.of_all));
         };
       }
 
@@ -119,11 +119,11 @@ module _ (may : RequestsMayBeAsked) (law : PrefixesAreAccepted) where
 
   of_run : (records : List (List Asked)) (requests : List Asked) (stand : Stand) → AreServedRecords empty_state records (entries_of records) → All IsProper requests → LeavesNow IsServable stand
       → (image : List ℕ) → IsOfRun (entries_of records) (entries_of (records_of (state_behind empty_state records) nothing_held requests)) stand image → IsServable image
-  of_run records requests stand s p all image h = elim h [ inl before ↦ some_servable stand all image before | inr front ↦ run_servable records requests image s p front ]
+  of_run records requests stand s p all image h = elim h [ inl before ↦ some_servable stand all image before | inr prefix ↦ run_servable records requests image s p prefix ]
 
   unserved_stays : (source left out out_after : Option (List ℕ)) (a c : Option Moments) → IsUnserved source left a c out out_after → WhereExposed StaysServable a c
   unserved_stays source left out out_after a c u =
-      told_map (λ old new. Leaves (IsSomeImage old.now) old new) StaysServable
+      exposed_map (λ old new. Leaves (IsSomeImage old.now) old new) StaysServable
       (λ old new m. λ all. leaves_weaker (IsSomeImage old.now) IsServable old new (some_servable old.now all) m) a c u.crashed
 
   durable_stays : (records : List (List Asked)) (taken : List ℕ) (out out_after : Option (List ℕ)) (a c : Option Moments) → AreServedRecords empty_state records (entries_of records)
@@ -131,23 +131,23 @@ module _ (may : RequestsMayBeAsked) (law : PrefixesAreAccepted) where
   durable_stays records taken out out_after a c s d =
       let requests = d.answered ++ d.tried in
       let more = entries_of (records_of (state_behind empty_state records) nothing_held requests) in
-      told_map (λ old new. Leaves (IsOfRun (entries_of records) more old.now) old new) StaysServable
+      exposed_map (λ old new. Leaves (IsOfRun (entries_of records) more old.now) old new) StaysServable
       (λ old new m. λ all. leaves_weaker (IsOfRun (entries_of records) more old.now) IsServable old new (of_run records requests old.now s d.begins.proper all) m) a c d.crashed
 
-  is_durable : (how : Ended) (records : List (List Asked)) (taken : List ℕ) (a c : Option Moments) (out out_after : Option (List ℕ))
+  is_durable : (how : JournalEnding) (records : List (List Asked)) (taken : List ℕ) (a c : Option Moments) (out out_after : Option (List ℕ))
       → KeepsRecords how records taken a c out out_after → IsDurable records taken a c out out_after
   is_durable ended.OutOfMemory records taken a c out out_after k = k
   is_durable ended.Done records taken a c out out_after k = k.kept.durable
   is_durable ended.ReadFault records taken a c out out_after k = k.kept.durable
   is_durable ended.TooLong records taken a c out out_after k = k.kept.durable
-  is_durable (ended.BadFrame place) records taken a c out out_after k = k.kept.durable
+  is_durable (ended.BadFrame offset) records taken a c out out_after k = k.kept.durable
   is_durable other records taken a c out out_after k = k.durable
 
-  run_stays : (how : Ended) (source left out out_after : Option (List ℕ)) (a c : Option Moments) → Runs how source left a c out out_after → WhereExposed StaysServable a c
+  run_stays : (how : JournalEnding) (source left out out_after : Option (List ℕ)) (a c : Option Moments) → Runs how source left a c out out_after → WhereExposed StaysServable a c
   run_stays how source left out out_after a c r = durable_stays r.records r.taken out out_after a c r.served (is_durable how r.records r.taken a c out out_after r.keeps)
 
-  pub stays_servable : (how : Ended) (source left out out_after : Option (List ℕ)) (a c : Option Moments) → ServesJournal how source left a c out out_after → WhereExposed StaysServable a c
-  stays_servable (ended.Damaged place) source left out out_after a c s = unserved_stays source left out out_after a c s.0
+  pub stays_servable : (how : JournalEnding) (source left out out_after : Option (List ℕ)) (a c : Option Moments) → ServesJournal how source left a c out out_after → WhereExposed StaysServable a c
+  stays_servable (ended.Damaged offset) source left out out_after a c s = unserved_stays source left out out_after a c s.0
   stays_servable ended.DiskFault source left out out_after a c s =
       elim s [ inl u ↦ unserved_stays source left out out_after a c u | inr r ↦ run_stays ended.DiskFault source left out out_after a c r ]
   stays_servable ended.OutOfMemory source left out out_after a c s =
@@ -156,7 +156,7 @@ module _ (may : RequestsMayBeAsked) (law : PrefixesAreAccepted) where
   stays_servable ended.ReadFault source left out out_after a c s = run_stays ended.ReadFault source left out out_after a c s
   stays_servable ended.WriteFault source left out out_after a c s = run_stays ended.WriteFault source left out out_after a c s
   stays_servable ended.TooLong source left out out_after a c s = run_stays ended.TooLong source left out out_after a c s
-  stays_servable (ended.BadFrame place) source left out out_after a c s = run_stays (ended.BadFrame place) source left out out_after a c s
+  stays_servable (ended.BadFrame offset) source left out out_after a c s = run_stays (ended.BadFrame offset) source left out out_after a c s
   stays_servable ended.JournalFull source left out out_after a c s = run_stays ended.JournalFull source left out out_after a c s
 
 -- ---- what is served again isn't refused
@@ -164,8 +164,8 @@ module _ (may : RequestsMayBeAsked) (law : PrefixesAreAccepted) where
 pub same_records : (file : List ℕ) (xs ys : List (List ℕ)) → ReadsAs (Records xs) file → ReadsAs (Records ys) file → xs ≡ ys
 same_records file xs ys p q = let e = one_reading (Records xs) (Records ys) file p q in cc
 
-no_damage : (file : List ℕ) (xs : List (List ℕ)) (place : ℕ) → ReadsAs (Records xs) file → ReadsAs (Damaged place) file → ⊥
-no_damage file xs place p q = let e = one_reading (Records xs) (Damaged place) file p q in cc
+no_damage : (file : List ℕ) (xs : List (List ℕ)) (offset : ℕ) → ReadsAs (Records xs) file → ReadsAs (Damaged offset) file → ⊥
+no_damage file xs offset p q = let e = one_reading (Records xs) (Damaged offset) file p q in cc
 
 module _ (reading : HasOneReading SpellsRequest) where
   pub same_requests : (xs ys : List Asked) → All IsProper xs → All IsProper ys → frames_in xs ≡ frames_in ys → xs ≡ ys
@@ -198,25 +198,25 @@ module _ (reading : HasOneReading SpellsRequest) where
       tails : frames_in r ∷ entries_of records ≡ frames_in b ∷ entries_of before ++ entry ∷ others → entries_of records ≡ entries_of before ++ entry ∷ others
       tails h = cc
 
-  pub not_bad : (place : ℕ) (old new : Moments) → IsServable old.now.seen → IsBad place old new → ⊥
-  not_bad place old new good bad =
+  pub not_bad : (offset : ℕ) (old new : Moments) → IsServable old.now.seen → IsBad offset old new → ⊥
+  not_bad offset old new good bad =
       elim bad [
-        | inl damaged ↦ no_damage old.now.seen (entries_of good.records) place good.reads damaged.0
+        | inl damaged ↦ no_damage old.now.seen (entries_of good.records) offset good.reads damaged.0
         | inr other ↦
             let r = other.refuses in
             refused_not empty_state r.before good.records r.entry r.others r.served.proper good.served.proper
             (same_records old.now.seen (entries_of good.records) other.entries good.reads other.read ∙ r.whole) good.served.served r.refused
       ]
 
-  pub isnt_damaged : (how : Ended) (source left out out_after : Option (List ℕ)) (a c : Option Moments) → ServesJournal how source left a c out out_after → IsntDamaged how a c
-  isnt_damaged (ended.Damaged place) source left out out_after a c s =
-      told_map (λ old new. IsImage old.now old.now.seen × IsBad place old new) (λ old new. LeavesNow IsServable old.now → ⊥)
-      (λ old new m. λ all. not_bad place old new (all old.now.seen m.0) m.1) a c s.1
+  pub isnt_damaged : (how : JournalEnding) (source left out out_after : Option (List ℕ)) (a c : Option Moments) → ServesJournal how source left a c out out_after → IsntDamaged how a c
+  isnt_damaged (ended.Damaged offset) source left out out_after a c s =
+      exposed_map (λ old new. IsImage old.now old.now.seen × IsBad offset old new) (λ old new. LeavesNow IsServable old.now → ⊥)
+      (λ old new m. λ all. not_bad offset old new (all old.now.seen m.0) m.1) a c s.1
   isnt_damaged ended.Done source left out out_after a c s = tt
   isnt_damaged ended.ReadFault source left out out_after a c s = tt
   isnt_damaged ended.WriteFault source left out out_after a c s = tt
   isnt_damaged ended.DiskFault source left out out_after a c s = tt
   isnt_damaged ended.OutOfMemory source left out out_after a c s = tt
   isnt_damaged ended.TooLong source left out out_after a c s = tt
-  isnt_damaged (ended.BadFrame place) source left out out_after a c s = tt
+  isnt_damaged (ended.BadFrame offset) source left out out_after a c s = tt
   isnt_damaged ended.JournalFull source left out out_after a c s = tt

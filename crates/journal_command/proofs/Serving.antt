@@ -8,8 +8,8 @@ use Rattle.journal_core.specs.Appends.{IsMounted}
 use Rattle.journal_core.specs.States.{JournalState}
 use Rattle.journal_core.specs.Records.{IsExecute, IsRecord}
 use Rattle.recording_laws.specs.Recorded.{Kept, has_transaction, held_at, is_done, kept_by, kept_of, kept_where, nothing_held, session_of, with_held}
-use Rattle.statement_analysis.specs.Sorts.{sort_of}
-use Rattle.statement_analysis.specs.declared.sorts.Sort.{Sort}
+use Rattle.statement_analysis.specs.Kinds.{kind_of}
+use Rattle.statement_analysis.specs.declared.kinds.TextKind.{TextKind}
 use Rattle.server_core.specs.Serve.{State, serve}
 use Rattle.wire_messages.specs.Exchanges.{Served}
 use Rattle.wire_messages.specs.declared.replies.Reply.{Reply}
@@ -30,26 +30,26 @@ when_false true x y e = cc
 when_false false x y e = refl
 
 -- a statement that is done, and one that isn't
-pub keeps_done : (state : State) (session : ℕ) (kind : Sort) (request : Request) (asked : Asked)
+pub keeps_done : (state : State) (session : ℕ) (kind : TextKind) (request : Request) (asked : Asked)
     → IsStatementOf session kind request → is_done (serve state request).replies ≡ true → (held : List (List Asked))
     → (kept_by request asked (serve state request) (held_at held (session_of request)) ≡ kept_of kind (held_at held session) asked) × (session_of request ≡ session)
 keeps_done state session kind (Describe other text declarations) asked a d held = absurd a
 keeps_done state session kind (Execute other version text params) asked a d held =
     let r = Execute other version text params in (
-      when_true (is_done (serve state r).replies) (kept_of (sort_of text) (held_at held other) asked) (kept_where (has_transaction (serve state r).after other) (held_at held other)) d
-          ∙ ap (λ (k : Sort). kept_of k (held_at held other) asked) (sym a.1)
+      when_true (is_done (serve state r).replies) (kept_of (kind_of text) (held_at held other) asked) (kept_where (has_transaction (serve state r).after other) (held_at held other)) d
+          ∙ ap (λ (k : TextKind). kept_of k (held_at held other) asked) (sym a.1)
           ∙ ap (λ (s : ℕ). kept_of kind (held_at held s) asked) (sym a.0),
       sym a.0,
     )
 
-pub keeps_open : (state : State) (session : ℕ) (kind : Sort) (request : Request) (asked : Asked)
+pub keeps_open : (state : State) (session : ℕ) (kind : TextKind) (request : Request) (asked : Asked)
     → IsStatementOf session kind request → is_done (serve state request).replies ≡ false → (held : List (List Asked))
     → (kept_by request asked (serve state request) (held_at held (session_of request)) ≡ kept_where
     (has_transaction (serve state request).after session) (held_at held session)) × (session_of request ≡ session)
 keeps_open state session kind (Describe other text declarations) asked a d held = absurd a
 keeps_open state session kind (Execute other version text params) asked a d held =
     let r = Execute other version text params in (
-      when_false (is_done (serve state r).replies) (kept_of (sort_of text) (held_at held other) asked) (kept_where (has_transaction (serve state r).after other) (held_at held other)) d
+      when_false (is_done (serve state r).replies) (kept_of (kind_of text) (held_at held other) asked) (kept_where (has_transaction (serve state r).after other) (held_at held other)) d
           ∙ ap (λ (s : ℕ). kept_where (has_transaction (serve state r).after s) (held_at held s)) (sym a.0),
       sym a.0,
     )
@@ -68,7 +68,7 @@ module _ (replies : List Reply) (asked : Asked) (session : ℕ) (old new : Durab
   led = sym (ap (λ (x : Served State). x.after) s)
 
   -- it was done
-  pub served_done : (kind : Sort) (entry : Option (List ℕ)) → IsStatementOf session kind asked.message → is_done replies ≡ true
+  pub served_done : (kind : TextKind) (entry : Option (List ℕ)) → IsStatementOf session kind asked.message → is_done replies ≡ true
       → ((held : List (List Asked)) → old.held ≡ map frames_of held → IsKept (kept_of kind (held_at held session) asked) held session entry new.held) → IsServed replies entry asked old new
   served_done kind entry a d k = record {
     replies = replied;
@@ -96,7 +96,7 @@ module _ (replies : List Reply) (asked : Asked) (session : ℕ) (old new : Durab
         );
   }
 
-  pub served_undone : (kind : Sort) (goes_on : Bool) → IsStatementOf session kind asked.message → is_done replies ≡ false → goes_on ≡ has_transaction new.state session
+  pub served_undone : (kind : TextKind) (goes_on : Bool) → IsStatementOf session kind asked.message → is_done replies ≡ false → goes_on ≡ has_transaction new.state session
       → ((held : List (List Asked)) → old.held ≡ map frames_of held → new.held ≡ map frames_of (with_held held session (kept_where goes_on (held_at held session)).held))
       → IsServed replies None asked old new
   served_undone kind goes_on a d o k =
@@ -127,8 +127,8 @@ proper_of state held (Describe session text declarations) asked all h = (Empty, 
 proper_of state held (Execute session version text params) asked all h =
     let r = Execute session version text params in
     let at = all_at held (session - 1) all in
-    proper_by (is_done (serve state r).replies) (kept_of (sort_of text) (held_at held session) asked) (kept_where (has_transaction (serve state r).after session) (held_at held session))
-    (proper_kept (sort_of text) (held_at held session) asked at (h tt)) (proper_open (has_transaction (serve state r).after session) (held_at held session) at)
+    proper_by (is_done (serve state r).replies) (kept_of (kind_of text) (held_at held session) asked) (kept_where (has_transaction (serve state r).after session) (held_at held session))
+    (proper_kept (kind_of text) (held_at held session) asked at (h tt)) (proper_open (has_transaction (serve state r).after session) (held_at held session) at)
 
 pub proper_keeping : (state : State) (held : List (List Asked)) (asked : Asked) → All (All IsHeldRequest) held → (IsExecute asked.message → IsHeldRequest asked)
     → AreProper (keeping state held asked).records × All IsHeldRequest (keeping state held asked).held

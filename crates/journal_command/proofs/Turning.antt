@@ -1,7 +1,7 @@
 -- Requests that are answered and recorded, and what stands where one isn't.
 use Rattle.std.proofs.Common.{◌≡◌, ◌⊎◌, inl, inr, ℕ, List, [], ◌∷◌, ◌++◌, length, map, Option, refl, sym, ap, subst, ◌∙◌, append-nil, arith}
 use Rattle.ae_edge.specs.Devices.{Adds, AddsPrefix}
-use Rattle.ae_edge.proofs.Interface.{adds_none, adds_then, adds_then_front, front_of, front_same}
+use Rattle.ae_edge.proofs.Interface.{adds_none, adds_then, adds_then_prefix, prefix_of, prefix_same}
 use Rattle.recording_laws.specs.Recorded.{nothing_held}
 use Rattle.server_core.specs.Serve.{State, serve}
 use Rattle.serve_command.specs.Requests.{AreAnswered}
@@ -15,7 +15,7 @@ use Rattle.journal_command.specs.Keeping.{Asked, entries_of, frames_of, held_aft
 use Rattle.journal_command.specs.Records.{HaveRoom, HasNoRoom, TriesEntries}
 use Rattle.journal_command.specs.Running.{HasKept, HasKeptAll, HasNoRoomFor, HasRoomFor}
 use Rattle.journal_command.specs.Stopping.{Outside, AreThere, MayBeThere}
-use Rattle.journal_command.proofs.Adding.{adds_more, adds_no_entry, added_tried, place_append, room_more, tries_more}
+use Rattle.journal_command.proofs.Adding.{adds_more, adds_no_entry, added_tried, offset_append, room_more, tries_more}
 use Rattle.journal_command.proofs.Recording.{entries_append, held_more, one_record, recorded_more}
 
 -- ---- what is on the disk
@@ -26,13 +26,13 @@ there_none old = record { added = adds_no_entry old.gate old.disk; gate = omega 
 there_more : (xs ys : List (List ℕ)) (a b c : Outside) → AreThere xs a b → AreThere ys b c → AreThere (xs ++ ys) a c
 there_more xs ys a b c p q = record {
   added = adds_more a.gate b.gate c.gate xs ys a.disk b.disk c.disk p.added q.added;
-  gate = omega (arith, p.gate, q.gate, place_append xs ys);
+  gate = omega (arith, p.gate, q.gate, offset_append xs ys);
   room = room_more a.gate b.gate xs ys p.gate p.room q.room;
 }
 
 -- ---- the requests that were answered
 
--- from a first state on they led to this one, the frames of their replies were put, and their records are on the disk
+-- from a first state on they led to this one, the frames of their replies were written, and their records are on the disk
 pub record IsSoFar (start : State) (answered : List Asked) (durable : DurableState) (first now : Outside) : Type 0 where
   pub left : durable.state ≡ state_after start answered
   pub held : durable.held ≡ map frames_of (held_after start nothing_held answered)
@@ -107,23 +107,23 @@ module _ (start : State) (answered : List Asked) (durable : DurableState) (first
   pub kept_so_far : (taken others : List ℕ) → Begins taken answered others → HasRoomFor start taken first now
   kept_so_far taken others begins =
       kept_whole taken answered others now begins
-      (front_of (reply_frames start answered) (reply_frames start answered) first.out now.out s.put (front_same (reply_frames start answered))) s.there
+      (prefix_of (reply_frames start answered) (reply_frames start answered) first.out now.out s.put (prefix_same (reply_frames start answered))) s.there
 
-  -- less than a frame stands behind them, or what is refused
+  -- less than a frame stands after them, or what is refused
   pub kept_all : (taken others : List ℕ) → Begins taken answered others → IsNotYet is_request_head others ⊎ IsRefused is_request_head SpellsRequest others → HasKeptAll start taken taken first now
   unfolding kept_so_far kept_whole
   kept_all taken others begins ends = record { kept = kept_so_far taken others begins; all = record { others = others; begins = begins; ends = ends }; none = refl }
 
   module _ (taken : List ℕ) (r : Asked) (others : List ℕ) (begins : Begins taken (answered ++ r ∷ []) others) (new : Outside) where
-    -- its records are on the disk, and some of its replies were put
+    -- its records are on the disk, and some of its replies were written
     pub kept_in_part : AreThere (entries_of (keeping durable.state held r).records) now new → AddsPrefix (answer_frames durable.state r) now.out new.out → HasRoomFor start taken first new
     kept_in_part t put =
         let of_start = subst (λ (x : State). AddsPrefix (answer_frames x r) now.out new.out) s.left put in
         kept_whole taken (answered ++ r ∷ []) others new begins
         (subst (λ (l : List ℕ). AddsPrefix l first.out new.out) (sym (frames_more start answered r))
-        (adds_then_front (reply_frames start answered) (answer_frames (state_after start answered) r) first.out now.out new.out s.put of_start)) (there_next r new t)
+        (adds_then_prefix (reply_frames start answered) (answer_frames (state_after start answered) r) first.out now.out new.out s.put of_start)) (there_next r new t)
 
-    -- its records may be on the disk, and nothing was put
+    -- its records may be on the disk, and nothing was written
     pub kept_before : MayBeThere (entries_of (keeping durable.state held r).records) now new → HasKept start taken first new
     kept_before t = record {
       answered = answered;
@@ -133,7 +133,7 @@ module _ (start : State) (answered : List Asked) (durable : DurableState) (first
       begins = begins;
       put =
           subst (λ (x : Option (List ℕ)). AddsPrefix (reply_frames start answered) first.out x) (sym t.put)
-          (front_of (reply_frames start answered) (reply_frames start answered) first.out now.out s.put (front_same (reply_frames start answered)));
+          (prefix_of (reply_frames start answered) (reply_frames start answered) first.out now.out s.put (prefix_same (reply_frames start answered)));
       kept = tried_next r new t;
       room = s.there.room;
     }

@@ -1,13 +1,13 @@
 -- A whole run: the journal is found, its records are served again, and then the input.
 use Rattle.std.proofs.Common.{◌≡◌, ◌⊎◌, inl, inr, ℕ, List, [], ◌∷◌, ◌++◌, take, Option, Bool, true, false, refl, sym, ap, subst, ◌∙◌, arith}
 use Rattle.ae_edge.specs.Devices.{WhereExposed}
-use Rattle.ae_edge.proofs.Interface.{told_then}
+use Rattle.ae_edge.proofs.Interface.{exposed_then}
 use Rattle.disk.specs.Crashes.{IsImage, Stand, kept}
 use Rattle.disk.specs.Durable.{StaysKept}
 use Rattle.disk.specs.Moments.{Moments, LeavesNow, Leaves}
 use Rattle.disk.proofs.Interface.{leaves_then, leaves_weaker}
 use Rattle.journal_core.specs.Appends.{EndsAt}
-use Rattle.journal_core.specs.Journals.{Reading, Records, ReadsAs, place_behind}
+use Rattle.journal_core.specs.Journals.{Reading, Records, ReadsAs, offset_behind}
 use Rattle.journal_core.specs.Mounts.{Finds, IsSomeImage, Mounts}
 use Rattle.journal_core.specs.States.{JournalState}
 use Rattle.journal_core.specs.declared.mounting.Mounted.TheVariants as mounted
@@ -23,9 +23,9 @@ use Rattle.journal_command.specs.Records.{AreTried, HasPrefix, HasLeast, HaveRoo
 use Rattle.journal_command.specs.Restarts.{AreServedRecords, RefusesAt, state_behind}
 use Rattle.journal_command.specs.Running.{HasKept, HasKeptAll, HasNoRoomFor, HasRoomFor, KeepsSo, ServesPieces}
 use Rattle.journal_command.specs.Stopping.{outside}
-use Rattle.journal_command.specs.declared.endings.Ended.{Ended}
-use Rattle.journal_command.specs.declared.endings.Ended.TheVariants as ended
-use Rattle.journal_command.proofs.Adding.{place_append}
+use Rattle.journal_command.specs.declared.endings.JournalEnding.{JournalEnding}
+use Rattle.journal_command.specs.declared.endings.JournalEnding.TheVariants as ended
+use Rattle.journal_command.proofs.Adding.{offset_append}
 use Rattle.journal_command.proofs.Recording.{entries_append}
 use Rattle.journal_command.proofs.Rereading.{still_of}
 
@@ -39,8 +39,8 @@ record HasMounted (journal : JournalState) (entries : List (List ℕ)) (old new 
 -- what the file of a mounted journal stands for is what its image stood for
 still_image : (journal : JournalState) (entries : List (List ℕ)) (x y : Moments) → Finds entries journal x y → (image : List ℕ) → image ≡ y.now.seen → IsSomeImage x.now image
 still_image journal entries x y f image is =
-    let there : image ≡ f.ends.front ++ 0 ∷ [] = is ∙ ap (λ (s : Stand). s.seen) f.ends.now in
-    let reads : ReadsAs (Records entries) image = subst (ReadsAs (Records entries)) (sym there) (end_reads entries f.ends.front f.ends.opens) in
+    let there : image ≡ f.ends.prefix ++ 0 ∷ [] = is ∙ ap (λ (s : Stand). s.seen) f.ends.now in
+    let reads : ReadsAs (Records entries) image = subst (ReadsAs (Records entries)) (sym there) (end_reads entries f.ends.prefix f.ends.opens) in
     record { of = x.now.seen; was = f.was_image; alike = λ reading r. subst (λ (o : Reading). ReadsAs o image) (one_reading (Records entries) reading x.now.seen f.read r) reads }
 
 pub still_moments : (journal : JournalState) (x y z : Moments) → Mounts (mounted.Ready journal) x y → StaysKept y z → Leaves (IsSomeImage x.now) x z
@@ -70,13 +70,13 @@ still_unserved : (journal : JournalState) (source left out out_after : Option (L
 still_unserved journal source left out out_after a b c w s = record {
   untaken = s.untaken;
   unput = s.unput;
-  crashed = told_then (Mounts (mounted.Ready journal)) StaysKept (λ old new. Leaves (IsSomeImage old.now) old new) (still_moments journal) a b c w s.stays;
+  crashed = exposed_then (Mounts (mounted.Ready journal)) StaysKept (λ old new. Leaves (IsSomeImage old.now) old new) (still_moments journal) a b c w s.stays;
 }
 
-pub refused_at : (journal : JournalState) (place : ℕ) (x y z : Moments) → Mounts (mounted.Ready journal) x y
-    → ((es : List (List ℕ)) → EndsAt journal.gate es y → RefusesAt empty_state es place) × StaysKept y z
-    → IsImage x.now x.now.seen × IsBad place x z
-refused_at journal place x y z m r =
+pub refused_at : (journal : JournalState) (offset : ℕ) (x y z : Moments) → Mounts (mounted.Ready journal) x y
+    → ((es : List (List ℕ)) → EndsAt journal.gate es y → RefusesAt empty_state es offset) × StaysKept y z
+    → IsImage x.now x.now.seen × IsBad offset x z
+refused_at journal offset x y z m r =
     let f = m.2 in (
       f.was_image,
       inr (record {
@@ -90,7 +90,7 @@ refused_at journal place x y z m r =
 -- ---- or the input was
 
 module _ (may : RequestsMayBeAsked) (journal : JournalState) (entries : List (List ℕ)) (a b : Option Moments)
-    (w : WhereExposed (HasMounted journal entries) a b) (sound : journal.gate ≡ place_behind entries) where
+    (w : WhereExposed (HasMounted journal entries) a b) (sound : journal.gate ≡ offset_behind entries) where
   module _ (records : List (List Asked)) (served : AreServedRecords empty_state records entries) (source left out out_after : Option (List ℕ)) (c : Option Moments) (gate : ℕ) where
     abbrev start : State
     start = state_behind empty_state records
@@ -111,7 +111,7 @@ module _ (may : RequestsMayBeAsked) (journal : JournalState) (entries : List (Li
     crashed : (answered all : List Asked) → WhereExposed (Tried answered all) b c
         → WhereExposed (λ old new. Leaves (IsOfRun (entries_of records) (entries_of (records_of start nothing_held all)) old.now) old new) a c
     crashed answered all q =
-        told_then (HasMounted journal entries) (Tried answered all)
+        exposed_then (HasMounted journal entries) (Tried answered all)
         (λ old new. Leaves (IsOfRun (entries_of records) (entries_of (records_of start nothing_held all)) old.now) old new) (moments answered all) a b c w q
 
     least : (answered all : List Asked) → WhereExposed (Tried answered all) b c
@@ -119,17 +119,17 @@ module _ (may : RequestsMayBeAsked) (journal : JournalState) (entries : List (Li
     least answered all q =
         let least = entries_of (records_of start nothing_held answered) in
         let more = entries_of (records_of start nothing_held all) in
-        told_then (HasMounted journal entries) (Tried answered all) (λ old new. LeavesNow (HasLeast (entries_of records) least more) new.now)
+        exposed_then (HasMounted journal entries) (Tried answered all) (λ old new. LeavesNow (HasLeast (entries_of records) least more) new.now)
         (λ x y z m t. subst (λ (es : List (List ℕ)). LeavesNow (HasLeast es least more) z.now) served.whole (t entries m.finds.ends).now) a b c w q
 
     found : (answered all : List Asked) → WhereExposed (Tried answered all) b c → WhereExposed (λ old new. IsImage old.now old.now.seen × ReadsAs (Records (entries_of records)) old.now.seen) a c
     found answered all q =
-        told_then (HasMounted journal entries) (Tried answered all) (λ old new. IsImage old.now old.now.seen × ReadsAs (Records (entries_of records)) old.now.seen)
+        exposed_then (HasMounted journal entries) (Tried answered all) (λ old new. IsImage old.now old.now.seen × ReadsAs (Records (entries_of records)) old.now.seen)
         (λ x y z m t. (m.finds.was_image, subst (λ (es : List (List ℕ)). ReadsAs (Records es) x.now.seen) served.whole m.finds.read)) a b c w q
 
     room : (requests : List Asked) → HaveRoom journal.gate (entries_of (records_of start nothing_held requests))
-        → HaveRoom (place_behind (entries_of records)) (entries_of (records_of start nothing_held requests))
-    room requests h = subst (λ (n : ℕ). HaveRoom n (entries_of (records_of start nothing_held requests))) (sound ∙ ap place_behind served.whole) h
+        → HaveRoom (offset_behind (entries_of records)) (entries_of (records_of start nothing_held requests))
+    room requests h = subst (λ (n : ℕ). HaveRoom n (entries_of (records_of start nothing_held requests))) (sound ∙ ap offset_behind served.whole) h
 
     is_durable : (taken : List ℕ) → HasKept start taken (outside journal.gate b out) (outside gate c out_after) → IsDurable records taken a c out out_after
     is_durable taken k = record {
@@ -162,31 +162,31 @@ module _ (may : RequestsMayBeAsked) (journal : JournalState) (entries : List (Li
         arith,
         k.full,
         sound,
-        ap place_behind served.whole,
-        ap place_behind (entries_append records (records_of start nothing_held k.kept.answered)),
-        place_append (entries_of records) (entries_of (records_of start nothing_held k.kept.answered)),
+        ap offset_behind served.whole,
+        ap offset_behind (entries_append records (records_of start nothing_held k.kept.answered)),
+        offset_append (entries_of records) (entries_of (records_of start nothing_held k.kept.answered)),
       );
     }
 
-    has_kept : (how : Ended) (taken : List ℕ) → KeepsSo how start taken (outside journal.gate b out) (outside gate c out_after)
+    has_kept : (how : JournalEnding) (taken : List ℕ) → KeepsSo how start taken (outside journal.gate b out) (outside gate c out_after)
         → HasKept start taken (outside journal.gate b out) (outside gate c out_after)
     has_kept ended.OutOfMemory taken k = k
     has_kept ended.Done taken k = k.kept.kept
     has_kept ended.ReadFault taken k = k.kept.kept
     has_kept ended.TooLong taken k = k.kept.kept
-    has_kept (ended.BadFrame place) taken k = k.kept.kept
+    has_kept (ended.BadFrame offset) taken k = k.kept.kept
     has_kept other taken k = k.kept
 
-    keeps : (how : Ended) (taken : List ℕ) → KeepsSo how start taken (outside journal.gate b out) (outside gate c out_after) → KeepsRecords how records taken a c out out_after
+    keeps : (how : JournalEnding) (taken : List ℕ) → KeepsSo how start taken (outside journal.gate b out) (outside gate c out_after) → KeepsRecords how records taken a c out out_after
     keeps ended.Done taken k = keeps_all taken taken k
     keeps ended.ReadFault taken k = keeps_all taken taken k
     keeps ended.TooLong taken k = keeps_all (take most_stream_bytes taken) taken k
-    keeps (ended.BadFrame place) taken k = keeps_all taken taken k
+    keeps (ended.BadFrame offset) taken k = keeps_all taken taken k
     keeps ended.JournalFull taken k = is_full taken k
     keeps ended.OutOfMemory taken k = is_durable taken k
     keeps other taken k = isnt_full taken k
 
-    runs : (how : Ended) → ServesPieces how start source left (outside journal.gate b out) (outside gate c out_after) → Runs how source left a c out out_after
+    runs : (how : JournalEnding) → ServesPieces how start source left (outside journal.gate b out) (outside gate c out_after) → Runs how source left a c out out_after
     runs how s =
         let k = has_kept how s.taken s.keeps in
         record {
@@ -202,61 +202,61 @@ module _ (may : RequestsMayBeAsked) (journal : JournalState) (entries : List (Li
 
 -- ---- by how it ended
 
-is_memory : Ended → Bool
+is_memory : JournalEnding → Bool
 is_memory ended.OutOfMemory = true
 is_memory other = false
 
 false_true : false ≡ true → ⊥
 false_true e = cc
 
-not_so : (how : Ended) → is_memory how ≡ false → how ≡ ended.OutOfMemory → ⊥
+not_so : (how : JournalEnding) → is_memory how ≡ false → how ≡ ended.OutOfMemory → ⊥
 unfolding is_memory
 not_so how f e = false_true (sym f ∙ ap is_memory e)
 
 module _ (may : RequestsMayBeAsked) (journal : JournalState) (a b : Option Moments) (w : WhereExposed (Mounts (mounted.Ready journal)) a b)
     (source left out out_after : Option (List ℕ)) (c : Option Moments) where
   -- a run, or no memory for one
-  data Came (how : Ended) : Type 0 where
+  data Came (how : JournalEnding) : Type 0 where
     Ran : Runs how source left a c out out_after → Came how
     Stood : how ≡ ended.OutOfMemory → IsUnserved source left a c out out_after → Came how
 
-  came : (how : Ended) → ServesRestarted how journal.gate source left b c out out_after → Came how
+  came : (how : JournalEnding) → ServesRestarted how journal.gate source left b c out out_after → Came how
   came how r =
       let q = r.restarted in
       let entries = entries_of q.records in
       let there : WhereExposed (HasMounted journal entries) a r.between =
-      told_then (Mounts (mounted.Ready journal)) (λ old new. ((es : List (List ℕ)) → EndsAt journal.gate es old → es ≡ entries) × StaysKept old new)
+      exposed_then (Mounts (mounted.Ready journal)) (λ old new. ((es : List (List ℕ)) → EndsAt journal.gate es old → es ≡ entries) × StaysKept old new)
       (HasMounted journal entries) (still_mounted journal entries) a b r.between w q.all in
       let stays = still_of (λ es. es ≡ entries) journal.gate b r.between q.all in
       let from = subst (λ (st : State). ServesFrom how st journal.gate source left r.between c out out_after) q.after r.serves in
       elim from [
-        | inl s ↦ Ran (runs may journal entries a r.between there q.place q.records q.served source left out out_after c s.0 how s.1)
+        | inl s ↦ Ran (runs may journal entries a r.between there q.offset q.records q.served source left out out_after c s.0 how s.1)
         | inr e ↦ Stood e.0
             (still_unserved journal source left out out_after a b c w (record { untaken = e.1; unput = e.3; stays = subst (λ (x : Option Moments). WhereExposed StaysKept b x) (sym e.2) stays }))
       ]
 
-  ran : (how : Ended) → is_memory how ≡ false → ServesRestarted how journal.gate source left b c out out_after → Runs how source left a c out out_after
+  ran : (how : JournalEnding) → is_memory how ≡ false → ServesRestarted how journal.gate source left b c out out_after → Runs how source left a c out out_after
   ran how f r = elim (came how r) [ Ran runs_so ↦ runs_so | Stood e u ↦ absurd (not_so how f e) ]
 
-  ran_or : (how : Ended) → ServesRestarted how journal.gate source left b c out out_after ⊎ StandsStill source left b c out out_after
+  ran_or : (how : JournalEnding) → ServesRestarted how journal.gate source left b c out out_after ⊎ StandsStill source left b c out out_after
       → IsUnserved source left a c out out_after ⊎ Runs how source left a c out out_after
   ran_or how s = elim s [
     | inl r ↦ elim (came how r) [ Ran runs_so ↦ inr runs_so | Stood e u ↦ inl u ]
     | inr still ↦ inl (still_unserved journal source left out out_after a b c w still)
   ]
 
-  pub serves_journal : (how : Ended) → ServesFound how journal.gate source left b c out out_after → ServesJournal how source left a c out out_after
+  pub serves_journal : (how : JournalEnding) → ServesFound how journal.gate source left b c out out_after → ServesJournal how source left a c out out_after
   unfolding is_memory
-  serves_journal (ended.Damaged place) s = (
+  serves_journal (ended.Damaged offset) s = (
     still_unserved journal source left out out_after a b c w s.0,
-    told_then (Mounts (mounted.Ready journal)) (λ old new. ((es : List (List ℕ)) → EndsAt journal.gate es old → RefusesAt empty_state es place) × StaysKept old new)
-        (λ old new. IsImage old.now old.now.seen × IsBad place old new) (refused_at journal place) a b c w s.1,
+    exposed_then (Mounts (mounted.Ready journal)) (λ old new. ((es : List (List ℕ)) → EndsAt journal.gate es old → RefusesAt empty_state es offset) × StaysKept old new)
+        (λ old new. IsImage old.now old.now.seen × IsBad offset old new) (refused_at journal offset) a b c w s.1,
   )
   serves_journal ended.Done s = ran ended.Done refl s
   serves_journal ended.ReadFault s = ran ended.ReadFault refl s
   serves_journal ended.WriteFault s = ran ended.WriteFault refl s
   serves_journal ended.TooLong s = ran ended.TooLong refl s
-  serves_journal (ended.BadFrame place) s = ran (ended.BadFrame place) refl s
+  serves_journal (ended.BadFrame offset) s = ran (ended.BadFrame offset) refl s
   serves_journal ended.JournalFull s = ran ended.JournalFull refl s
   serves_journal ended.DiskFault s = ran_or ended.DiskFault s
   serves_journal ended.OutOfMemory s = ran_or ended.OutOfMemory s

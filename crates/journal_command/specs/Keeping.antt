@@ -5,8 +5,8 @@ use Rattle.journal_core.specs.Records.{IsExecute}
 use Rattle.serve_command.specs.Serving.{IsProper}
 use Rattle.recording_laws.specs.Recorded.{Kept, held_at, kept_by, recorded, session_of, with_held}
 use Rattle.serve_command.specs.ServeAll.{messages_of}
-use Rattle.statement_analysis.specs.declared.sorts.Sort.{Sort}
-use Rattle.statement_analysis.specs.declared.sorts.Sort.TheVariants as sort
+use Rattle.statement_analysis.specs.declared.kinds.TextKind.{TextKind}
+use Rattle.statement_analysis.specs.declared.kinds.TextKind.TheVariants as kind
 use Rattle.server_core.specs.Serve.{State, serve}
 use Rattle.wire_messages.specs.declared.requests.Request.{Request}
 use Rattle.wire_payloads.specs.declared.versioned.Versioned.{Versioned}
@@ -46,15 +46,15 @@ pub record KeptFrames : Type 0 where
   pub entry : Option (List ℕ)
   pub held : HeldFrames
 
-abbrev pub kept_frames : Sort → HeldFrames → List ℕ → KeptFrames
-kept_frames sort.Reads held frame = record { entry = None; held = held }
-kept_frames sort.Changes held frame =
+abbrev pub kept_frames : TextKind → HeldFrames → List ℕ → KeptFrames
+kept_frames kind.Reads held frame = record { entry = None; held = held }
+kept_frames kind.Changes held frame =
     if length held.frames == 0 then record { entry = Some frame; held = held } else record { entry = None; held = record { frames = held.frames ++ frame; changes = true } }
-kept_frames sort.Defines held frame = record { entry = Some frame; held = held }
-kept_frames sort.Begins held frame = record { entry = None; held = record { frames = frame; changes = false } }
-kept_frames sort.Commits held frame = record { entry = if held.changes then Some (held.frames ++ frame) else None; held = no_frames }
-kept_frames sort.RollsBack held frame = record { entry = None; held = no_frames }
-kept_frames sort.NoStatement held frame = record { entry = None; held = held }
+kept_frames kind.Defines held frame = record { entry = Some frame; held = held }
+kept_frames kind.Begins held frame = record { entry = None; held = record { frames = frame; changes = false } }
+kept_frames kind.Commits held frame = record { entry = if held.changes then Some (held.frames ++ frame) else None; held = no_frames }
+kept_frames kind.RollsBack held frame = record { entry = None; held = no_frames }
+kept_frames kind.NoStatement held frame = record { entry = None; held = held }
 
 -- ---- requests
 
@@ -68,25 +68,25 @@ messages_in records = map messages_of records
 
 -- what a request adds to the records, and what is held of its session after it
 abbrev pub keeping : State → List (List Asked) → Asked → Kept Asked
-keeping state held asked = kept_by asked.message asked (serve state asked.message) (held_at held (session_of asked.message))
+keeping state held request = kept_by request.message request (serve state request.message) (held_at held (session_of request.message))
 
 -- what is held of all sessions after it
 abbrev pub held_behind : State → List (List Asked) → Asked → List (List Asked)
-held_behind state held asked = with_held held (session_of asked.message) (keeping state held asked).held
+held_behind state held request = with_held held (session_of request.message) (keeping state held request).held
 
 abbrev pub held_after : State → List (List Asked) → List Asked → List (List Asked)
 held_after state held [] = held
-held_after state held (asked ∷ requests) = held_after (serve state asked.message).after (held_behind state held asked) requests
+held_after state held (request ∷ requests) = held_after (serve state request.message).after (held_behind state held request) requests
 
 -- the records of requests that are served from a state, of whose transactions so much is held
 abbrev pub records_of : State → List (List Asked) → List Asked → List (List Asked)
-records_of state held requests = recorded (λ asked. asked.message) state held requests
+records_of state held requests = recorded (λ request. request.message) state held requests
 
 -- ---- calls
 
--- room was made for a request of a session: its frame stands behind what is held
-pub record HasRoom (held : List (List Asked)) (session : ℕ) (asked : Asked) (room : RoomMade) (keeper : List HeldFrames) : Type 0 where
-  pub frame : room.frame ≡ asked_frame asked
+-- room was made for a request of a session: its frame stands after what is held
+pub record HasRoom (held : List (List Asked)) (session : ℕ) (request : Asked) (room : RoomMade) (keeper : List HeldFrames) : Type 0 where
+  pub frame : room.frame ≡ asked_frame request
   pub before : room.before ≡ length (frames_in (held_at held session))
   pub made : keeper ≡ slice_set (map frames_of held) (session - 1) (with_frame (frames_of (held_at held session)) room.frame)
 
@@ -97,7 +97,7 @@ pub record IsKept (one : Kept Asked) (all : List (List Asked)) (session : ℕ) (
 
 -- a request has a frame, and is one to execute
 abbrev pub IsHeldRequest : Asked → Type 0
-IsHeldRequest asked = IsProper asked × IsExecute asked.message
+IsHeldRequest request = IsProper request × IsExecute request.message
 
 -- frames of such requests are held
 pub record IsHolding (keeper : List HeldFrames) : Type 0 where

@@ -7,27 +7,27 @@ use Rattle.journal_core.specs.Appends.{EndsAt, most_bytes}
 use Rattle.journal_core.specs.Journals.{Records, ReadsAs}
 use Rattle.journal_core.specs.Mounts.{IsSomeImage}
 
--- An image has these entries, and then a front of the others.
+-- An image has these entries, and then a prefix of the others.
 pub record HasPrefix (entries all : List (List ℕ)) (image : List ℕ) : Type 0 where
-  pub front : List (List ℕ)
-  pub of_all : IsPrefix front all
-  pub reads : ReadsAs (Records (entries ++ front)) image
+  pub prefix : List (List ℕ)
+  pub of_all : IsPrefix prefix all
+  pub reads : ReadsAs (Records (entries ++ prefix)) image
 
--- and that front holds at least these
+-- and that prefix holds at least these
 pub record HasLeast (entries least all : List (List ℕ)) (image : List ℕ) : Type 0 where
-  pub front : List (List ℕ)
-  pub at_least : IsPrefix least front
-  pub of_all : IsPrefix front all
-  pub reads : ReadsAs (Records (entries ++ front)) image
+  pub prefix : List (List ℕ)
+  pub at_least : IsPrefix least prefix
+  pub of_all : IsPrefix prefix all
+  pub reads : ReadsAs (Records (entries ++ prefix)) image
 
 -- ---- entries are added
 
--- each crash since then leaves the entries before, and then a front of these; and now all of them
+-- each crash since then leaves the entries before, and then a prefix of these; and now all of them
 pub record AreAdded (gate : ℕ) (entries more : List (List ℕ)) (old new : Moments) : Type 0 where
   pub moments : Leaves (HasPrefix entries more) old new
   pub ends : EndsAt gate (entries ++ more) new
 
--- whatever the entries before are, whose last gate stands at the first place
+-- whatever the entries before are, whose last gate stands at the first offset
 abbrev pub AddsEntries : ℕ → ℕ → List (List ℕ) → Option Moments → Option Moments → Type 0
 AddsEntries gate after more = WhereExposed (λ old new. (entries : List (List ℕ)) → EndsAt gate entries old → AreAdded after entries more old new)
 
@@ -39,12 +39,12 @@ pub record AreTried (entries least all : List (List ℕ)) (old new : Moments) : 
 abbrev pub TriesEntries : ℕ → List (List ℕ) → List (List ℕ) → Option Moments → Option Moments → Type 0
 TriesEntries gate least all = WhereExposed (λ old new. (entries : List (List ℕ)) → EndsAt gate entries old → AreTried entries least all old new)
 
--- the file has room for each of these entries, one behind the other from a gate on
+-- the file has room for each of these entries, one after the other from a gate on
 abbrev pub HaveRoom : ℕ → List (List ℕ) → Type 0
 HaveRoom gate [] = Unit {0}
 HaveRoom gate (entry ∷ entries) = (gate + 10 + length entry ≤ most_bytes) × HaveRoom (gate + 9 + length entry) entries
 
--- the file has no room for the one entry behind a gate
+-- the file has no room for the one entry after a gate
 pub record HasNoRoom (gate : ℕ) (more : List (List ℕ)) : Type 0 where
   pub entry : List ℕ
   pub is : more ≡ entry ∷ []
@@ -53,6 +53,6 @@ pub record HasNoRoom (gate : ℕ) (more : List (List ℕ)) : Type 0 where
 -- ---- a whole run
 
 -- What a crash leaves since the start of a run: the records of some image that the disk had then; or those that were found, and
--- then a front of the run's.
+-- then a prefix of the run's.
 abbrev pub IsOfRun : List (List ℕ) → List (List ℕ) → Stand → List ℕ → Type 0
 IsOfRun entries all stand image = IsSomeImage stand image ⊎ HasPrefix entries all image

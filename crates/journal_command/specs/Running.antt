@@ -1,26 +1,26 @@
--- Requests of an input that are answered and recorded: what is put for them, and what a crash leaves of their records.
+-- Requests of an input that are answered and recorded: the replies, and what a crash leaves of their records.
 use Rattle.std.specs.Prelude.{◌≡◌, ◌⊎◌, ℕ, ◌+◌, ◌≤◌, ◌<◌, List, [], ◌∷◌, ◌++◌, length, take, Option}
 use Rattle.ae_edge.specs.Devices.{AddsPrefix, Removes}
 use Rattle.journal_core.specs.Appends.{most_bytes}
-use Rattle.journal_core.specs.Journals.{place_behind}
+use Rattle.journal_core.specs.Journals.{offset_behind}
 use Rattle.server_core.specs.Laws.{AreServedSeriallyFrom}
 use Rattle.server_core.specs.Serve.{State}
 use Rattle.server_core.specs.States.{any_cell}
 use Rattle.recording_laws.specs.Recorded.{nothing_held}
 use Rattle.serve_command.specs.ServeAll.{messages_of, reply_frames}
 use Rattle.serve_command.specs.Serving.{Begins, AnswersFirst, Ends, most_stream_bytes}
-use Rattle.serve_command.specs.declared.commands.Served.TheVariants as served
+use Rattle.serve_command.specs.declared.commands.ServeEnding.TheVariants as served
 use Rattle.transactions.specs.WellKept.{HasNoTransactions, IsStore}
 use Rattle.wire_frames.specs.Frames.{IsNotYet, IsRefused, is_request_head}
 use Rattle.wire_encoding.specs.Spelling.{SpellsRequest}
 use Rattle.journal_command.specs.Keeping.{Asked, entries_of, frames_in, records_of}
 use Rattle.journal_command.specs.Records.{HaveRoom, TriesEntries}
 use Rattle.journal_command.specs.Stopping.{Outside}
-use Rattle.journal_command.specs.declared.endings.Ended.{Ended}
-use Rattle.journal_command.specs.declared.endings.Ended.TheVariants as ended
+use Rattle.journal_command.specs.declared.endings.JournalEnding.{JournalEnding}
+use Rattle.journal_command.specs.declared.endings.JournalEnding.TheVariants as ended
 
--- Replies were put to the requests that were answered, to the last of them perhaps not all; and the next one was tried, if any.
--- A crash leaves a front of the records of all of these, and now those of the answered ones at least, each of which had room.
+-- Replies were written to the requests that were answered, to the last of them perhaps not all; and the next one was tried, if any.
+-- A crash leaves a prefix of the records of all of these, and now those of the answered ones at least, each of which had room.
 pub record HasKept (start : State) (taken : List ℕ) (old new : Outside) : Type 0 where
   pub answered : List Asked
   pub tried : List Asked
@@ -41,9 +41,9 @@ pub record HasNoRoomFor (start : State) (taken : List ℕ) (old new : Outside) :
   pub kept : HasKept start taken old new
   pub last : List Asked
   pub is : records_of start nothing_held (kept.answered ++ kept.tried) ≡ records_of start nothing_held kept.answered ++ last ∷ []
-  pub full : most_bytes < old.gate + place_behind (entries_of (records_of start nothing_held kept.answered)) + 10 + length (frames_in last)
+  pub full : most_bytes < old.gate + offset_behind (entries_of (records_of start nothing_held kept.answered)) + 10 + length (frames_in last)
 
--- These are all requests of some bytes: less than a frame stands behind them, or what is refused.
+-- These are all requests of some bytes: less than a frame stands after them, or what is refused.
 pub record AreAllOf (bytes : List ℕ) (requests : List Asked) : Type 0 where
   pub others : List ℕ
   pub begins : Begins bytes requests others
@@ -57,32 +57,32 @@ pub record HasKeptAll (start : State) (bytes taken : List ℕ) (old new : Outsid
 
 -- ---- by how it ended
 
--- what was put of the bytes taken, from a first state on: as without a journal; and where the disk fails or the file is full, the
+-- what was written of the bytes taken, from a first state on: as without a journal; and where the disk fails or the file is full, the
 -- frames of all replies to the requests before
-abbrev pub PutsSo : Ended → State → List ℕ → Option (List ℕ) → Option (List ℕ) → Option (List ℕ) → Type 0
+abbrev pub PutsSo : JournalEnding → State → List ℕ → Option (List ℕ) → Option (List ℕ) → Option (List ℕ) → Type 0
 PutsSo ended.Done start taken left old new = Ends start served.Done taken left old new
 PutsSo ended.ReadFault start taken left old new = Ends start served.ReadFault taken left old new
 PutsSo ended.WriteFault start taken left old new = Ends start served.WriteFault taken left old new
 PutsSo ended.OutOfMemory start taken left old new = Ends start served.OutOfMemory taken left old new
 PutsSo ended.TooLong start taken left old new = Ends start served.TooLong taken left old new
-PutsSo (ended.BadFrame place) start taken left old new = Ends start (served.BadFrame place) taken left old new
+PutsSo (ended.BadFrame offset) start taken left old new = Ends start (served.BadFrame offset) taken left old new
 PutsSo ended.DiskFault start taken left old new = (length taken ≤ most_stream_bytes) × AnswersFirst start taken old new
 PutsSo ended.JournalFull start taken left old new = (length taken ≤ most_stream_bytes) × AnswersFirst start taken old new
-PutsSo (ended.Damaged place) start taken left old new = ⊥
+PutsSo (ended.Damaged offset) start taken left old new = ⊥
 
 -- what is kept of them: at an end to which all requests within the limit were answered, the records of all these
-abbrev pub KeepsSo : Ended → State → List ℕ → Outside → Outside → Type 0
+abbrev pub KeepsSo : JournalEnding → State → List ℕ → Outside → Outside → Type 0
 KeepsSo ended.Done start taken old new = HasKeptAll start taken taken old new
 KeepsSo ended.ReadFault start taken old new = HasKeptAll start taken taken old new
 KeepsSo ended.TooLong start taken old new = HasKeptAll start (take most_stream_bytes taken) taken old new
-KeepsSo (ended.BadFrame place) start taken old new = HasKeptAll start taken taken old new
+KeepsSo (ended.BadFrame offset) start taken old new = HasKeptAll start taken taken old new
 KeepsSo ended.JournalFull start taken old new = HasNoRoomFor start taken old new
 KeepsSo ended.OutOfMemory start taken old new = HasKept start taken old new
 KeepsSo other start taken old new = HasRoomFor start taken old new
 
 -- So much was taken of the input, from a first state on. If it can stand and no transaction was open there, then whichever of its
 -- requests were answered, transactions took effect one after another, each whole at its COMMIT.
-pub record ServesPieces (how : Ended) (start : State) (source left : Option (List ℕ)) (old new : Outside) : Type 0 where
+pub record ServesPieces (how : JournalEnding) (start : State) (source left : Option (List ℕ)) (old new : Outside) : Type 0 where
   pub taken : List ℕ
   pub lost : Removes taken source left
   pub puts : PutsSo how start taken left old.out new.out

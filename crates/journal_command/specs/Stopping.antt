@@ -1,13 +1,13 @@
--- What stands where a request isn't answered whole: on the disk, and in the output.
+-- The disk and the output if a request isn't answered whole.
 use Rattle.std.specs.Prelude.{◌≡◌, ◌⊎◌, ℕ, ◌+◌, List, [], Option}
 use Rattle.ae_edge.specs.Devices.{AddsPrefix, Rose}
 use Rattle.disk.specs.Moments.{Moments}
-use Rattle.journal_core.specs.Journals.{place_behind}
+use Rattle.journal_core.specs.Journals.{offset_behind}
 use Rattle.journal_command.specs.Records.{AddsEntries, TriesEntries, HaveRoom, HasNoRoom}
 use Rattle.journal_command.specs.declared.endings.Stop.{Stop}
 use Rattle.journal_command.specs.declared.endings.Stop.TheVariants as stop
 
--- the place of the last gate, and what is told of the disk and of the output
+-- the offset of the last gate, and what is exposed of the disk and of the output
 pub record Outside : Type 0 where
   pub gate : ℕ
   pub disk : Option Moments
@@ -16,13 +16,13 @@ pub record Outside : Type 0 where
 abbrev pub outside : ℕ → Option Moments → Option (List ℕ) → Outside
 outside gate disk out = record { gate = gate; disk = disk; out = out }
 
--- these entries are on the disk, where the file had room for them, and the last gate stands behind them
+-- these entries are on the disk, where the file had room for them, and the last gate stands after them
 pub record AreThere (more : List (List ℕ)) (old new : Outside) : Type 0 where
   pub added : AddsEntries old.gate new.gate more old.disk new.disk
-  pub gate : new.gate ≡ old.gate + place_behind more
+  pub gate : new.gate ≡ old.gate + offset_behind more
   pub room : HaveRoom old.gate more
 
--- they may be, and nothing was put
+-- they may be, and nothing was written
 pub record MayBeThere (more : List (List ℕ)) (old new : Outside) : Type 0 where
   pub tried : TriesEntries old.gate [] more old.disk new.disk
   pub put : new.out ≡ old.out

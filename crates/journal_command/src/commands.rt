@@ -8,7 +8,7 @@ ghost use Rattle.journal_command.specs.Journaling.{ServesFound, ServesFrom, Serv
 ghost use Rattle.journal_command.specs.Servable.{IsntDamaged, StaysServable};
 
 use crate::durable::Durable;
-use crate::endings::Ended;
+use crate::endings::JournalEnding;
 use crate::restarts::{Restarted, serve_records};
 use ae_edge::sinks::Sink;
 use ae_edge::sources::Source;
@@ -22,7 +22,7 @@ use server_core::server::Server;
 use std::alloc::Global;
 use wire_frames::{frames_are_read_back, one_reading, streams_are_read_once};
 
-/// Serves the input with a server that stands where the records have led.
+/// Serves the input with a server in the state to which the records have led.
 fn serve_from<S: Source, W: Sink, D: Disk>(
     alloc: Global,
     input: &mut S,
@@ -30,18 +30,18 @@ fn serve_from<S: Source, W: Sink, D: Disk>(
     disk: &mut D,
     server: Server,
     journal: Journal,
-) -> Ended
+) -> JournalEnding
     requires ready { journal.failed ≡ false }
     requires mounted { IfSome (D.seen disk.old).content (IsMounted journal.gate) }
     ensures serves { ServesFrom result server journal.gate (S.seen input.old).content
         (S.seen input.new).content (D.seen disk.old).content (D.seen disk.new).content
         (W.seen out.old).content (W.seen out.new).content }
     ensures same { (D.seen disk.new).names ≡ (D.seen disk.old).names }
-    ensures read { result ≡ Ended.ReadFault
+    ensures read { result ≡ JournalEnding.ReadFault
         → Rose (S.seen input.old).faults (S.seen input.new).faults }
-    ensures write { result ≡ Ended.WriteFault
+    ensures write { result ≡ JournalEnding.WriteFault
         → Rose (W.seen out.old).faults (W.seen out.new).faults }
-    ensures stored { result ≡ Ended.DiskFault
+    ensures stored { result ≡ JournalEnding.DiskFault
         → Rose (D.seen disk.old).faults (D.seen disk.new).faults }
 {
     requests_are_serial_from();
@@ -49,9 +49,9 @@ fn serve_from<S: Source, W: Sink, D: Disk>(
         Ok(mut durable) => {
             let ending = serve_input(alloc, input, out, disk, &mut durable);
             drop(durable);
-            Ended::from(ending)
+            JournalEnding::from(ending)
         }
-        Err(_) => Ended::OutOfMemory,
+        Err(_) => JournalEnding::OutOfMemory,
     }
 }
 
@@ -62,26 +62,26 @@ fn serve_found<S: Source, W: Sink, D: Disk>(
     out: &mut W,
     disk: &mut D,
     journal: Journal,
-) -> Ended
+) -> JournalEnding
     requires ready { journal.failed ≡ false }
     requires mounted { IfSome (D.seen disk.old).content (IsMounted journal.gate) }
     ensures serves { ServesFound result journal.gate (S.seen input.old).content
         (S.seen input.new).content (D.seen disk.old).content (D.seen disk.new).content
         (W.seen out.old).content (W.seen out.new).content }
     ensures same { (D.seen disk.new).names ≡ (D.seen disk.old).names }
-    ensures read { result ≡ Ended.ReadFault
+    ensures read { result ≡ JournalEnding.ReadFault
         → Rose (S.seen input.old).faults (S.seen input.new).faults }
-    ensures write { result ≡ Ended.WriteFault
+    ensures write { result ≡ JournalEnding.WriteFault
         → Rose (W.seen out.old).faults (W.seen out.new).faults }
-    ensures stored { result ≡ Ended.DiskFault
+    ensures stored { result ≡ JournalEnding.DiskFault
         → Rose (D.seen disk.old).faults (D.seen disk.new).faults }
 {
     let mut server = Server::new(alloc);
     match serve_records(alloc, disk, &journal, &mut server) {
         Restarted::Served => serve_from(alloc, input, out, disk, server, journal),
-        Restarted::Refused(place) => Ended::Damaged(place),
-        Restarted::DiskFault => Ended::DiskFault,
-        Restarted::OutOfMemory => Ended::OutOfMemory,
+        Restarted::Refused(offset) => JournalEnding::Damaged(offset),
+        Restarted::DiskFault => JournalEnding::DiskFault,
+        Restarted::OutOfMemory => JournalEnding::OutOfMemory,
     }
 }
 
@@ -91,39 +91,39 @@ fn serve_mounted<S: Source, W: Sink, D: Disk>(
     input: &mut S,
     out: &mut W,
     disk: &mut D,
-) -> Ended
+) -> JournalEnding
     ensures content { ServesJournal result (S.seen input.old).content (S.seen input.new).content
         (D.seen disk.old).content (D.seen disk.new).content
         (W.seen out.old).content (W.seen out.new).content }
     ensures same { (D.seen disk.new).names ≡ (D.seen disk.old).names }
-    ensures read { result ≡ Ended.ReadFault
+    ensures read { result ≡ JournalEnding.ReadFault
         → Rose (S.seen input.old).faults (S.seen input.new).faults }
-    ensures write { result ≡ Ended.WriteFault
+    ensures write { result ≡ JournalEnding.WriteFault
         → Rose (W.seen out.old).faults (W.seen out.new).faults }
-    ensures stored { result ≡ Ended.DiskFault
+    ensures stored { result ≡ JournalEnding.DiskFault
         → Rose (D.seen disk.old).faults (D.seen disk.new).faults }
 {
     requests_may_be_asked();
     match Journal::mount(alloc, disk) {
         Mounted::Ready(journal) => serve_found(alloc, input, out, disk, journal),
-        Mounted::Damaged(place) => Ended::Damaged(place),
-        Mounted::DiskFault => Ended::DiskFault,
-        Mounted::OutOfMemory => Ended::OutOfMemory,
+        Mounted::Damaged(offset) => JournalEnding::Damaged(offset),
+        Mounted::DiskFault => JournalEnding::DiskFault,
+        Mounted::OutOfMemory => JournalEnding::OutOfMemory,
     }
 }
 
 /// Finds the journal on a disk and serves its records again; then reads requests from the input,
-/// frame after frame, and puts the frames of the replies to the output. What a request changes is
-/// on the disk before its replies are put: all the records of a transaction at its COMMIT.
+/// frame after frame, and writes the frames of the replies to the output. The change of a request
+/// is on the disk before its replies are written: all the records of a transaction at its COMMIT.
 pub fn serve_journal<S: Source, W: Sink, D: Disk>(
     alloc: Global,
     input: &mut S,
     out: &mut W,
     disk: &mut D,
-) -> Ended
-    // What was taken of the input, what was put for it and what a crash leaves of its records, by
-    // how it ended, and that transactions took effect one after another; or why the file's records
-    // weren't served again.
+) -> JournalEnding
+    // What was taken of the input, what was written for it and what a crash leaves of its records,
+    // by how it ended, and that transactions took effect one after another; or why the file's
+    // records weren't served again.
     ensures content { ServesJournal result (S.seen input.old).content (S.seen input.new).content
         (D.seen disk.old).content (D.seen disk.new).content
         (W.seen out.old).content (W.seen out.new).content }
@@ -139,11 +139,11 @@ pub fn serve_journal<S: Source, W: Sink, D: Disk>(
     ensures undamaged { IsntDamaged result (D.seen disk.old).content (D.seen disk.new).content }
     ensures same { (D.seen disk.new).names ≡ (D.seen disk.old).names }
     // The faults of the outside come only where a count rose.
-    ensures read { result ≡ Ended.ReadFault
+    ensures read { result ≡ JournalEnding.ReadFault
         → Rose (S.seen input.old).faults (S.seen input.new).faults }
-    ensures write { result ≡ Ended.WriteFault
+    ensures write { result ≡ JournalEnding.WriteFault
         → Rose (W.seen out.old).faults (W.seen out.new).faults }
-    ensures stored { result ≡ Ended.DiskFault
+    ensures stored { result ≡ JournalEnding.DiskFault
         → Rose (D.seen disk.old).faults (D.seen disk.new).faults }
 {
     one_reading();

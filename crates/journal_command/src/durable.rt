@@ -25,14 +25,14 @@ use journal_core::journal::{Appended, Journal};
 use serve_command::answering::Answering;
 use serve_command::answers::put_replies;
 use server_core::server::Server;
-use statement_analysis::sorts::Sort;
+use statement_analysis::kinds::TextKind;
 use std::alloc::{AllocError, Global};
 use std::marker::Model;
 use wire_messages::replies::Reply;
 use wire_messages::requests::Request;
 use wire_payloads::versioned::Versioned;
 
-/// A server, what is held of its sessions' transactions, and the journal.
+/// A server, the records of its sessions' open transactions, and the journal.
 pub(crate) struct Durable {
     server: Server,
     keeper: Keeper,
@@ -81,7 +81,7 @@ impl Durable {
         })
     }
 
-    /// Whether what is held of a session stays, after a request with these replies.
+    /// Whether the record of a session's transaction stays, after a request with these replies.
     fn goes_on(&self, session: SessionId, replies: &[Reply<'_>]) -> bool
         ensures { result
             ≡ (records.is_done replies.now || records.has_transaction self.now.state session) }
@@ -94,17 +94,17 @@ impl Durable {
         &mut self,
         alloc: Global,
         session: SessionId,
-        asked: &Versioned<Request<'_>>,
+        request: &Versioned<Request<'_>>,
     ) -> Result<Answer, AllocError>
-        requires asked { IsReadOf session asked.now.message }
+        requires request { IsReadOf session request.now.message }
         requires holds { IsHolding self.old.held }
-        ensures served { IfOk result (λ answer. IsServed answer.replies answer.entry asked.now
+        ensures served { IfOk result (λ answer. IsServed answer.replies answer.entry request.now
             self.old self.new) }
         ensures none { IfOk result (λ answer. answer.entry ≡ None) }
         ensures holds { OnOk result (IsHolding self.new.held) }
         ensures journal { self.new.journal ≡ self.old.journal }
     {
-        let replies = self.server.serve(alloc, &asked.message)?;
+        let replies = self.server.serve(alloc, &request.message)?;
         let stays = self.goes_on(session, replies.as_slice());
         self.keeper.stay(alloc, session, stays);
         Ok(Answer {
@@ -118,21 +118,21 @@ impl Durable {
         &mut self,
         alloc: Global,
         session: SessionId,
-        asked: &Versioned<Request<'_>>,
-        sort: Sort,
+        request: &Versioned<Request<'_>>,
+        kind: TextKind,
     ) -> Result<Answer, AllocError>
-        requires asked { IsStatementOf session sort asked.now.message }
+        requires request { IsStatementOf session kind request.now.message }
         requires holds { IsHolding self.old.held }
-        ensures served { IfOk result (λ answer. IsServed answer.replies answer.entry asked.now
+        ensures served { IfOk result (λ answer. IsServed answer.replies answer.entry request.now
             self.old self.new) }
         ensures proper { IfOk result (λ answer. IfSome answer.entry IsRecord) }
         ensures holds { OnOk result (IsHolding self.new.held) }
         ensures journal { self.new.journal ≡ self.old.journal }
     {
-        let room = self.keeper.reserve(alloc, session, asked)?;
-        let replies = self.server.serve(alloc, &asked.message)?;
+        let room = self.keeper.reserve(alloc, session, request)?;
+        let replies = self.server.serve(alloc, &request.message)?;
         if is_done(replies.as_slice()) {
-            let entry = self.keeper.keep(alloc, session, room, sort);
+            let entry = self.keeper.keep(alloc, session, room, kind);
             Ok(Answer { replies, entry })
         } else {
             let stays = self.server.has_transaction(session);
@@ -145,22 +145,28 @@ impl Durable {
     }
 
     /// Serves a request, and holds or hands out what is to be recorded of it.
-    fn serve(&mut self, alloc: Global, asked: &Versioned<Request<'_>>) -> Result<Answer, AllocError>
+    fn serve(
+        &mut self,
+        alloc: Global,
+        request: &Versioned<Request<'_>>,
+    ) -> Result<Answer, AllocError>
         requires { IsHolding self.old.held }
-        ensures served { IfOk result (λ answer. IsServed answer.replies answer.entry asked.now
+        ensures served { IfOk result (λ answer. IsServed answer.replies answer.entry request.now
             self.old self.new) }
         ensures proper { IfOk result (λ answer. IfSome answer.entry IsRecord) }
         ensures holds { OnOk result (IsHolding self.new.held) }
         ensures journal { self.new.journal ≡ self.old.journal }
     {
-        match &asked.message {
+        match &request.message {
             Request::Describe { .. } => Ok(Answer {
-                replies: self.server.serve(alloc, &asked.message)?,
+                replies: self.server.serve(alloc, &request.message)?,
                 entry: None,
             }),
-            Request::Execute { session, text, .. } => match self.server.sort_of(alloc, text)? {
-                Sort::Reads | Sort::NoStatement => self.serve_read(alloc, *session, asked),
-                sort => self.serve_change(alloc, *session, asked, sort),
+            Request::Execute { session, text, .. } => match self.server.kind_of(alloc, text)? {
+                TextKind::Reads | TextKind::NoStatement => self.serve_read(
+                    alloc, *session, request,
+                ),
+                kind => self.serve_change(alloc, *session, request, kind),
             },
         }
     }
@@ -185,7 +191,7 @@ impl Durable {
         }
     }
 
-    /// Puts the replies of an answer in a version, once its record is on the disk.
+    /// Writes the replies of an answer in a version, once its record is on the disk.
     fn append_and_put<W: Sink, D: Disk>(
         &mut self,
         alloc: Global,
@@ -248,16 +254,16 @@ impl<D: Disk> Answering<D> for Durable {
 
     ghost names = { λ disk. (D.seen disk).names };
 
-    /// The record is on the disk before a byte of the replies is put.
+    /// The record is on the disk before a byte of the replies is written.
     fn answer<W: Sink>(
         &mut self,
         alloc: Global,
-        asked: &Versioned<Request<'_>>,
+        request: &Versioned<Request<'_>>,
         out: &mut W,
         disk: &mut D,
     ) -> Result<(), Stop> {
-        match self.serve(alloc, asked) {
-            Ok(answer) => self.append_and_put(alloc, asked.version, &answer, out, disk),
+        match self.serve(alloc, request) {
+            Ok(answer) => self.append_and_put(alloc, request.version, &answer, out, disk),
             Err(_) => Err(Stop::OutOfMemory),
         }
     }

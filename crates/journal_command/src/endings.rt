@@ -4,7 +4,7 @@ use serve_command::inputs::Ending;
 
 /// How the command ended.
 #[derive(Clone, Copy, PartialEq, Eq, Debug)]
-pub enum Ended {
+pub enum JournalEnding {
     /// The input was read to its end, and each of its requests answered.
     Done,
     /// A call of the input failed.
@@ -18,7 +18,7 @@ pub enum Ended {
     TooLong,
     /// What begins at this byte, from 0, is no request, or the input ends inside its frame.
     BadFrame(u64),
-    /// Behind the gate at this byte of the file, from 0, stands no record that such a run has left.
+    /// After the gate at this offset of the file there is no record that such a run has left.
     Damaged(u64),
     /// The file has no room for the record of a request, which isn't answered.
     JournalFull,
@@ -33,23 +33,23 @@ pub(crate) enum Stop {
     OutOfMemory,
 }
 
-impl From<Ending<Stop>> for Ended {
+impl From<Ending<Stop>> for JournalEnding {
     ghost use Rattle.std.specs.Prelude.{◌≡◌};
     ghost use Rattle.journal_command.specs.Endings.{ended_by};
 
     ghost from_gives = { λ ending ended. ended ≡ ended_by ending };
 
-    fn from(ending: Ending<Stop>) -> Ended {
+    fn from(ending: Ending<Stop>) -> JournalEnding {
         match ending {
-            Ending::Done => Ended::Done,
-            Ending::ReadFault => Ended::ReadFault,
-            Ending::TooLong => Ended::TooLong,
-            Ending::BadFrame(place) => Ended::BadFrame(place),
-            Ending::OutOfMemory => Ended::OutOfMemory,
-            Ending::Stopped(Stop::WriteFault) => Ended::WriteFault,
-            Ending::Stopped(Stop::DiskFault) => Ended::DiskFault,
-            Ending::Stopped(Stop::JournalFull) => Ended::JournalFull,
-            Ending::Stopped(Stop::OutOfMemory) => Ended::OutOfMemory,
+            Ending::Done => JournalEnding::Done,
+            Ending::ReadFault => JournalEnding::ReadFault,
+            Ending::TooLong => JournalEnding::TooLong,
+            Ending::BadFrame(offset) => JournalEnding::BadFrame(offset),
+            Ending::OutOfMemory => JournalEnding::OutOfMemory,
+            Ending::Stopped(Stop::WriteFault) => JournalEnding::WriteFault,
+            Ending::Stopped(Stop::DiskFault) => JournalEnding::DiskFault,
+            Ending::Stopped(Stop::JournalFull) => JournalEnding::JournalFull,
+            Ending::Stopped(Stop::OutOfMemory) => JournalEnding::OutOfMemory,
         }
     }
 }

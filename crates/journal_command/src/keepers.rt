@@ -8,7 +8,7 @@ ghost use Rattle.journal_command.specs.Keeping.{Asked, HasRoom, HeldFrames, IsKe
 
 use ae_base::blobs::Blob;
 use ae_base::sessions::SessionId;
-use statement_analysis::sorts::Sort;
+use statement_analysis::kinds::TextKind;
 use std::alloc::{AllocError, Global};
 use std::marker::Model;
 use std::mem;
@@ -39,7 +39,8 @@ impl Model for Held {
     ghost view = { λ h. record { frames = h.frames.items; changes = h.changes } };
 }
 
-/// The frame of a request, which also stands behind what is held; so many bytes stood there before.
+/// The frame of a request, which was also appended to the record; the record had this many bytes
+/// before.
 #[derive(Drop)]
 pub(crate) struct Room {
     frame: Vec<u8>,
@@ -97,7 +98,7 @@ impl Held {
     fn change(&mut self, room: Room) -> Option<Blob>
         ensures { (held : HeldFrames) → self.old ≡ with_frame held room.frame
             → room.before ≡ length held.frames
-            → kept_frames Sort.Changes held room.frame
+            → kept_frames TextKind.Changes held room.frame
             ≡ record { entry = result; held = self.new } }
     {
         if room.before > 0 {
@@ -112,7 +113,7 @@ impl Held {
     /// A COMMIT: the record, where a change is held.
     fn commit(&mut self, alloc: Global) -> Option<Blob>
         ensures { (held : HeldFrames) (frame : List ℕ) → self.old ≡ with_frame held frame
-            → kept_frames Sort.Commits held frame ≡ record { entry = result; held = self.new } }
+            → kept_frames TextKind.Commits held frame ≡ record { entry = result; held = self.new } }
     {
         let complete = self.changes;
         let frames = self.take(alloc);
@@ -124,29 +125,29 @@ impl Held {
     }
 
     /// Keeps a request that was done: the record that it completes, if it does. It takes no memory.
-    fn keep(&mut self, alloc: Global, room: Room, sort: Sort) -> Option<Blob>
+    fn keep(&mut self, alloc: Global, room: Room, kind: TextKind) -> Option<Blob>
         ensures { (held : HeldFrames) → self.old ≡ with_frame held room.frame
             → room.before ≡ length held.frames
-            → kept_frames sort held room.frame
+            → kept_frames kind held room.frame
             ≡ record { entry = result; held = self.new } }
     {
-        match sort {
-            Sort::Changes => self.change(room),
-            Sort::Defines => {
+        match kind {
+            TextKind::Changes => self.change(room),
+            TextKind::Defines => {
                 self.give_back(&room);
                 Some(Blob::from_vec(room.frame))
             }
-            Sort::Begins => {
+            TextKind::Begins => {
                 self.frames = room.frame;
                 self.changes = false;
                 None
             }
-            Sort::Commits => self.commit(alloc),
-            Sort::RollsBack => {
+            TextKind::Commits => self.commit(alloc),
+            TextKind::RollsBack => {
                 drop(self.take(alloc));
                 None
             }
-            Sort::Reads | Sort::NoStatement => {
+            TextKind::Reads | TextKind::NoStatement => {
                 self.give_back(&room);
                 None
             }
@@ -176,7 +177,7 @@ impl Model for Keeper {
     ghost invariant = { λ k. length k.sessions.items ≡ 64 };
 }
 
-fn place_of(session: SessionId) -> usize
+fn slot_index_of(session: SessionId) -> usize
     ensures value { result ≡ session - 1 }
     ensures within { result < 64 }
 {
@@ -200,16 +201,16 @@ impl Keeper {
         &mut self,
         alloc: Global,
         session: SessionId,
-        asked: &Versioned<Request<'_>>,
+        request: &Versioned<Request<'_>>,
     ) -> Result<Room, AllocError>
         ensures made { IfOk result (λ room. (held : List (List Asked))
             → self.old ≡ map frames_of held
-            → HasRoom held session asked.now room self.new) }
+            → HasRoom held session request.now room self.new) }
         ensures same { OnErr result (self.new ≡ self.old) }
-        ensures meets { OnOk result (IsProper asked.now) }
+        ensures meets { OnOk result (IsProper request.now) }
     {
-        let frame = encode_request(alloc, asked.version, &asked.message)?;
-        self.sessions[place_of(session)].reserve(frame)
+        let frame = encode_request(alloc, request.version, &request.message)?;
+        self.sessions[slot_index_of(session)].reserve(frame)
     }
 
     /// Keeps a request that was done, for which room was made: the record that it completes, if it
@@ -219,13 +220,13 @@ impl Keeper {
         alloc: Global,
         session: SessionId,
         room: Room,
-        sort: Sort,
+        kind: TextKind,
     ) -> Option<Blob>
         ensures { (held : List (List Asked)) (request : Asked)
             → HasRoom held session request room self.old
-            → IsKept (kept_of sort (held_at held session) request) held session result self.new }
+            → IsKept (kept_of kind (held_at held session) request) held session result self.new }
     {
-        self.sessions[place_of(session)].keep(alloc, room, sort)
+        self.sessions[slot_index_of(session)].keep(alloc, room, kind)
     }
 
     /// Keeps nothing of a request that wasn't done, for which room was made. Of a session that has
@@ -237,9 +238,9 @@ impl Keeper {
             (with_held held session (kept_where stays (held_at held session)).held) }
     {
         if stays {
-            self.sessions[place_of(session)].give_back(room);
+            self.sessions[slot_index_of(session)].give_back(room);
         } else {
-            drop(self.sessions[place_of(session)].take(alloc));
+            drop(self.sessions[slot_index_of(session)].take(alloc));
         }
     }
 
@@ -252,6 +253,6 @@ impl Keeper {
         if stays {
             return;
         }
-        drop(self.sessions[place_of(session)].take(alloc));
+        drop(self.sessions[slot_index_of(session)].take(alloc));
     }
 }

@@ -1,5 +1,5 @@
-//! The command `serve --journal`: a server that is durable. What a request changes is on the disk
-//! before its replies are put, and is served again at the next start.
+//! The command `serve --journal`: a server that is durable. The change of a request is on the disk
+//! before its replies are written, and is served again at the next start.
 #![tactic(auto)]
 
 pub mod commands;

@@ -3,7 +3,7 @@
 ghost use Rattle.std.specs.Prelude.{◌≡◌, ◌<◌, ◌≤◌, ◌^◌, IfSome};
 ghost use Rattle.ae_edge.specs.Devices.{Calls};
 ghost use Rattle.journal_core.specs.Appends.{IsMounted};
-ghost use Rattle.journal_core.specs.Journals.{place_behind};
+ghost use Rattle.journal_core.specs.Journals.{offset_behind};
 ghost use Rattle.journal_command.specs.Restarts.{AnswersPrefix, CountsRestarted, Restarts, ServesAgain, ServesEntry};
 
 use crate::replies::is_done;
@@ -17,41 +17,41 @@ use wire_frames::{Decoded, decode_request, one_reading};
 
 /// The result of serving a record's first request.
 #[derive(Clone, Copy)]
-enum Front {
-    /// It was done; its frame has so many bytes.
+enum FirstServed {
+    /// It was done; its frame has this many bytes.
     Done(usize),
-    /// It was answered otherwise, or none stands there.
+    /// It was answered otherwise, or there is none.
     Refused,
     OutOfMemory,
 }
 
-/// Serves the request at the front again; its replies are dropped.
-fn serve_front(alloc: Global, bytes: &[u8], server: &mut Server) -> Front
+/// Serves the first request again; its replies are dropped.
+fn serve_prefix(alloc: Global, bytes: &[u8], server: &mut Server) -> FirstServed
     ensures { AnswersPrefix result bytes.now server.old server.new }
 {
     match decode_request(alloc, bytes) {
-        Decoded::One(asked, used) => match server.serve(alloc, &asked.message) {
+        Decoded::One(request, used) => match server.serve(alloc, &request.message) {
             Ok(replies) => {
                 if is_done(replies.as_slice()) {
-                    Front::Done(used)
+                    FirstServed::Done(used)
                 } else {
-                    Front::Refused
+                    FirstServed::Refused
                 }
             }
-            Err(_) => Front::OutOfMemory,
+            Err(_) => FirstServed::OutOfMemory,
         },
-        Decoded::NotYet => Front::Refused,
-        Decoded::Bad => Front::Refused,
-        Decoded::OutOfMemory => Front::OutOfMemory,
+        Decoded::NotYet => FirstServed::Refused,
+        Decoded::Bad => FirstServed::Refused,
+        Decoded::OutOfMemory => FirstServed::OutOfMemory,
     }
 }
 
-/// What came of records.
+/// The result of serving records.
 #[derive(Clone, Copy)]
 pub enum Again {
-    /// Each was served: its requests were done, and no transaction is open behind it.
+    /// Each was served: its requests were done, and no transaction is open after it.
     Served,
-    /// The first of which this isn't so stands behind the gate at this place.
+    /// The first record of which this isn't so is after the gate at this offset.
     Refused(u64),
     OutOfMemory,
 }
@@ -63,10 +63,10 @@ fn serve_entry(alloc: Global, entry: &[u8], server: &mut Server) -> Again
     one_reading();
     let mut rest = entry;
     'frames: while !rest.is_empty() {
-        match serve_front(alloc, rest, server) {
-            Front::Done(used) => rest = &rest[used..],
-            Front::Refused => return Again::Refused(0),
-            Front::OutOfMemory => return Again::OutOfMemory,
+        match serve_prefix(alloc, rest, server) {
+            FirstServed::Done(used) => rest = &rest[used..],
+            FirstServed::Refused => return Again::Refused(0),
+            FirstServed::OutOfMemory => return Again::OutOfMemory,
         }
     }
     if server.is_idle() {
@@ -78,26 +78,26 @@ fn serve_entry(alloc: Global, entry: &[u8], server: &mut Server) -> Again
 
 /// Serves records again, one after another.
 pub fn serve_again(alloc: Global, entries: &[Blob], server: &mut Server) -> Again
-    requires { place_behind entries.now < 2 ^ 64 }
+    requires { offset_behind entries.now < 2 ^ 64 }
     ensures { ServesAgain result entries.now server.old server.new }
 {
-    let mut place = 0u64;
+    let mut offset = 0u64;
     'entries: for entry in entries {
         match serve_entry(alloc, entry.as_slice(), server) {
-            Again::Served => place += 9 + entry.len() as u64,
-            Again::Refused(_) => return Again::Refused(place),
+            Again::Served => offset += 9 + entry.len() as u64,
+            Again::Refused(_) => return Again::Refused(offset),
             Again::OutOfMemory => return Again::OutOfMemory,
         }
     }
     Again::Served
 }
 
-/// What came of the records of a journal.
+/// The result of serving the records of a journal.
 #[derive(Clone, Copy)]
 pub enum Restarted {
-    /// Each was served: its requests were done, and no transaction is open behind it.
+    /// Each was served: its requests were done, and no transaction is open after it.
     Served,
-    /// The first of which this isn't so stands behind the gate at this place; or the disk gives
+    /// The first record of which this isn't so is after the gate at this offset; or the disk gives
     /// other bytes there than it gave to `mount`.
     Refused(u64),
     /// A call of the disk failed.
@@ -117,16 +117,16 @@ pub fn serve_records<D: Disk>(
         (CountsRestarted result) (D.seen disk.old) (D.seen disk.new) }
     ensures mounted { IfSome (D.seen disk.new).content (IsMounted journal.now.gate) }
 {
-    let mut place = 0u64;
+    let mut offset = 0u64;
     'entries: loop {
-        match journal.entry_at(alloc, disk, place) {
+        match journal.entry_at(alloc, disk, offset) {
             Entry::Next(entry) => match serve_entry(alloc, entry.as_slice(), server) {
-                Again::Served => place += 9 + entry.len() as u64,
-                Again::Refused(_) => return Restarted::Refused(place),
+                Again::Served => offset += 9 + entry.len() as u64,
+                Again::Refused(_) => return Restarted::Refused(offset),
                 Again::OutOfMemory => return Restarted::OutOfMemory,
             },
             Entry::End => return Restarted::Served,
-            Entry::Other => return Restarted::Refused(place),
+            Entry::Other => return Restarted::Refused(offset),
             Entry::Failed => return Restarted::DiskFault,
             Entry::OutOfMemory => return Restarted::OutOfMemory,
         }

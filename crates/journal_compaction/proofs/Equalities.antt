@@ -50,11 +50,11 @@ item_of f xs i x lt p = ap f p ∙ sym (get_or-map f xs i x (f x) lt)
 pub more_same : {X Y : Type 0} (f : X → Y) (xs ys : List X) (i : ℕ) (x y : X) → take i (map f xs) ≡ take i (map f ys)
     → length xs ≡ length ys → i < length xs → x ≡ get_or xs i x → y ≡ get_or ys i y → f x ≡ f y
     → take (i + 1) (map f xs) ≡ take (i + 1) (map f ys)
-more_same f xs ys i x y front long lt p q e =
+more_same f xs ys i x y prefix long lt p q e =
     let less : i < length ys = omega (arith, lt, long) in
     let lx : i < length (map f xs) = omega (arith, lt, length-map xs f) in
     let ly : i < length (map f ys) = omega (arith, less, length-map ys f) in
-    take_more_same (map f xs) (map f ys) i (f x) lx ly front (sym (item_of f xs i x lt p) ∙ e ∙ item_of f ys i y less q ∙ get_or_default (map f ys) i (f y) (f x) ly)
+    take_more_same (map f xs) (map f ys) i (f x) lx ly prefix (sym (item_of f xs i x lt p) ∙ e ∙ item_of f ys i y less q ∙ get_or_default (map f ys) i (f y) (f x) ly)
 
 pub differ_in : {X Y : Type 0} (f : X → Y) (xs ys : List X) (i : ℕ) (x y : X) → map f xs ≡ map f ys
     → length xs ≡ length ys → i < length xs → x ≡ get_or xs i x → y ≡ get_or ys i y → (f x ≡ f y → ⊥) → ⊥

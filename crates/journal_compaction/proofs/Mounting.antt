@@ -2,7 +2,7 @@
 use Rattle.std.proofs.Common.{◌≡◌, ℕ, List, Option, Some, None, inl, refl, sym, subst, arith}
 use Rattle.std.specs.Prelude.{IfSome}
 use Rattle.ae_edge.specs.Devices.{WhereExposed}
-use Rattle.ae_edge.proofs.Interface.{told_map, told_then}
+use Rattle.ae_edge.proofs.Interface.{exposed_map, exposed_then}
 use Rattle.disk.specs.Crashes.{Stand, IsImage, kept}
 use Rattle.disk.specs.Durable.{StaysKept}
 use Rattle.disk.specs.Moments.{Moments, Leaves}
@@ -31,37 +31,37 @@ Stays old new = Leaves (IsSomeImage old.now) old new
 
 serves_stays : (result : Found) (journal : JournalState) (b c : Option Moments) → Serves result journal b c → WhereExposed StaysKept b c
 serves_stays (found.Served held server) journal b c s = still_of (λ entries. entries ≡ entries_of s.1.records) journal.gate b c s.1.all
-serves_stays (found.Damaged place) journal b c s = still_of (λ entries. RefusesAt empty_state entries place) journal.gate b c s
+serves_stays (found.Damaged offset) journal b c s = still_of (λ entries. RefusesAt empty_state entries offset) journal.gate b c s
 serves_stays found.DiskFault journal b c s = s
 serves_stays found.OutOfMemory journal b c s = s
 
 pub served_untouched : (result : Found) (journal : JournalState) (a b c : Option Moments) → WhereExposed (Mounts (mounted.Ready journal)) a b → Serves result journal b c
     → WhereExposed (λ old new. Leaves (IsSomeImage old.now) old new) a c
-served_untouched result journal a b c w s = told_then (Mounts (mounted.Ready journal)) StaysKept Stays (still_moments journal) a b c w (serves_stays result journal b c s)
+served_untouched result journal a b c w s = exposed_then (Mounts (mounted.Ready journal)) StaysKept Stays (still_moments journal) a b c w (serves_stays result journal b c s)
 
 pub found_so : (result : Found) (journal : JournalState) (a b c : Option Moments) → WhereExposed (Mounts (mounted.Ready journal)) a b → Serves result journal b c → Finds result a c
 found_so (found.Served held server) journal a b c w s =
     let r = s.1 in (
       entries_of r.records,
       record { records = r.records; served = r.served; after = r.after },
-      told_then (Mounts (mounted.Ready journal)) (λ old new. ((es : List (List ℕ)) → EndsAt journal.gate es old → es ≡ entries_of r.records) × StaysKept old new)
+      exposed_then (Mounts (mounted.Ready journal)) (λ old new. ((es : List (List ℕ)) → EndsAt journal.gate es old → es ≡ entries_of r.records) × StaysKept old new)
           (λ old new. IsImage old.now old.now.seen × ReadsAs (Records (entries_of r.records)) old.now.seen)
           (λ x y z m q. (m.2.was_image, subst (λ (es : List (List ℕ)). ReadsAs (Records es) x.now.seen) (q.0 m.1 m.2.ends) m.2.read)) a b c w r.all,
     )
-found_so (found.Damaged place) journal a b c w s =
-    told_then (Mounts (mounted.Ready journal)) (λ old new. ((es : List (List ℕ)) → EndsAt journal.gate es old → RefusesAt empty_state es place) × StaysKept old new)
-    (λ old new. IsImage old.now old.now.seen × IsBad place old new) (refused_at journal place) a b c w s
+found_so (found.Damaged offset) journal a b c w s =
+    exposed_then (Mounts (mounted.Ready journal)) (λ old new. ((es : List (List ℕ)) → EndsAt journal.gate es old → RefusesAt empty_state es offset) × StaysKept old new)
+    (λ old new. IsImage old.now old.now.seen × IsBad offset old new) (refused_at journal offset) a b c w s
 found_so found.DiskFault journal a b c w s = tt
 found_so found.OutOfMemory journal a b c w s = tt
 
 -- ---- it was damaged
 
-pub damaged_untouched : (place : ℕ) (a b : Option Moments) → WhereExposed (Mounts (mounted.Damaged place)) a b → WhereExposed (λ old new. Leaves (IsSomeImage old.now) old new) a b
-damaged_untouched place a b m = told_map (Mounts (mounted.Damaged place)) Stays (λ old new x. x.0) a b m
+pub damaged_untouched : (offset : ℕ) (a b : Option Moments) → WhereExposed (Mounts (mounted.Damaged offset)) a b → WhereExposed (λ old new. Leaves (IsSomeImage old.now) old new) a b
+damaged_untouched offset a b m = exposed_map (Mounts (mounted.Damaged offset)) Stays (λ old new x. x.0) a b m
 
-pub damaged_so : (place : ℕ) (a b : Option Moments) → WhereExposed (Mounts (mounted.Damaged place)) a b → IsFoundBad place a b
-damaged_so place a b m =
-    told_map (Mounts (mounted.Damaged place)) (λ old new. IsImage old.now old.now.seen × IsBad place old new) (λ old new x. (x.2, inl (x.1, x.3))) a b m
+pub damaged_so : (offset : ℕ) (a b : Option Moments) → WhereExposed (Mounts (mounted.Damaged offset)) a b → IsFoundBad offset a b
+damaged_so offset a b m =
+    exposed_map (Mounts (mounted.Damaged offset)) (λ old new. IsImage old.now old.now.seen × IsBad offset old new) (λ old new x. (x.2, inl (x.1, x.3))) a b m
 
 -- ---- its entries are read once more
 
@@ -69,8 +69,8 @@ pub still_first : (gate : ℕ) (a : Option Moments) → IfSome a (IsMounted gate
 still_first gate (Some a) m = stays_same a (mounted_kept gate a m)
 still_first gate None m = tt
 
-pub still_on : (found : Entry) (place gate : ℕ) (a b c : Option Moments) → WhereExposed StaysKept a b → WhereExposed (Continues found place gate) b c → WhereExposed StaysKept a c
-still_on found place gate = told_then StaysKept (Continues found place gate) StaysKept (λ x y z p q. stays_then x y z p q.1)
+pub still_on : (found : Entry) (offset gate : ℕ) (a b c : Option Moments) → WhereExposed StaysKept a b → WhereExposed (Continues found offset gate) b c → WhereExposed StaysKept a c
+still_on found offset gate = exposed_then StaysKept (Continues found offset gate) StaysKept (λ x y z p q. stays_then x y z p q.1)
 
 -- a crash leaves a file that is on the disk
 kept_there : (file : List ℕ) → IsImage (kept file) file

@@ -30,12 +30,12 @@ module _ (law : HasOneReading SpellsRequest) where
   same_served : (entries : List (List ℕ)) (xs ys : List (List Asked)) → AreServedRecords empty_state xs entries → AreServedRecords empty_state ys entries → xs ≡ ys
   same_served entries xs ys p q = same_all xs ys p.proper q.proper (sym p.whole ∙ q.whole)
 
-  none_refused : (fewer : List (List ℕ)) (others : List (List Asked)) → AreServedRecords empty_state others fewer → (place : ℕ) → RefusesAt empty_state fewer place → ⊥
-  none_refused fewer others s place r = refused_not law empty_state r.before others r.entry r.others r.served.proper s.proper (sym s.whole ∙ r.whole) s.served r.refused
+  none_refused : (fewer : List (List ℕ)) (others : List (List Asked)) → AreServedRecords empty_state others fewer → (offset : ℕ) → RefusesAt empty_state fewer offset → ⊥
+  none_refused fewer others s offset r = refused_not law empty_state r.before others r.entry r.others r.served.proper s.proper (sym s.whole ∙ r.whole) s.served r.refused
 
   pub the_same : CompactedIsTheSame
   the_same entries fewer k = (
-    λ place. none_refused fewer k.others k.written place,
+    λ offset. none_refused fewer k.others k.written offset,
     λ records others r w.
         ap (λ (l : List (List Asked)). (state_behind empty_state l).shared.world) (same_served fewer others k.others w k.written)
         ∙ k.same

@@ -1,9 +1,9 @@
--- The command `compact`: what stands in the new file, by how it ended.
+-- The command `compact`: the content of the new file, by its ending.
 use Rattle.std.specs.Prelude.{◌≡◌, ◌<◌, ◌+◌, ℕ, List, length, Option, Result, Ok, Err}
 use Rattle.ae_edge.specs.Devices.{Rose, WhereExposed}
 use Rattle.disk.specs.Moments.{Moments}
 use Rattle.journal_core.specs.Appends.{most_bytes}
-use Rattle.journal_core.specs.Journals.{place_behind}
+use Rattle.journal_core.specs.Journals.{offset_behind}
 use Rattle.server_core.specs.Serve.{State}
 use Rattle.journal_compaction.specs.Compactions.{IsCompaction}
 use Rattle.journal_compaction.specs.Checking.{LeadsTo}
@@ -11,8 +11,8 @@ use Rattle.journal_compaction.specs.Finding.{IsFoundBad, IsRead, LedTo}
 use Rattle.journal_compaction.specs.Writing.{HasJournal}
 use Rattle.journal_compaction.specs.declared.records.Unmade.{Unmade}
 use Rattle.journal_compaction.specs.declared.records.Unmade.TheVariants as unmade
-use Rattle.journal_compaction.specs.declared.commands.Compacted.{Compacted}
-use Rattle.journal_compaction.specs.declared.commands.Compacted.TheVariants as ended
+use Rattle.journal_compaction.specs.declared.commands.CompactEnding.{CompactEnding}
+use Rattle.journal_compaction.specs.declared.commands.CompactEnding.TheVariants as ended
 
 -- ---- the old file was read
 
@@ -42,11 +42,11 @@ pub record IsFound (disk disk_after : Option Moments) : Type 0 where
 pub record IsTooLong (disk disk_after : Option Moments) : Type 0 where
   pub there : IsFound disk disk_after
   pub made : List (List ℕ)
-  pub long : most_bytes < place_behind made + 1
+  pub long : most_bytes < offset_behind made + 1
 
-abbrev pub Compacts : Compacted → Option Moments → Option Moments → Option Moments → Option Moments → Type 0
+abbrev pub Compacts : CompactEnding → Option Moments → Option Moments → Option Moments → Option Moments → Type 0
 Compacts ended.Done disk disk_after new new_after = IsCompacted disk disk_after new new_after
-Compacts (ended.Damaged place) disk disk_after new new_after = IsFoundBad place disk disk_after × (new_after ≡ new)
+Compacts (ended.Damaged offset) disk disk_after new new_after = IsFoundBad offset disk disk_after × (new_after ≡ new)
 Compacts ended.DiskFault disk disk_after new new_after = new_after ≡ new
 Compacts ended.NewDiskFault disk disk_after new new_after = IsTried disk disk_after
 Compacts ended.JournalFull disk disk_after new new_after = IsTooLong disk disk_after × (new_after ≡ new)
@@ -56,12 +56,12 @@ Compacts ended.OutOfMemory disk disk_after new new_after = Unit {0}
 -- ---- of entries that lead to a state
 
 -- what is written in place of them
-abbrev pub Writes : Compacted → State → Option Moments → Option Moments → Type 0
+abbrev pub Writes : CompactEnding → State → Option Moments → Option Moments → Type 0
 Writes ended.Done state new new_after = (fewer : List (List ℕ)) × LeadsTo fewer state × WhereExposed (λ old now. HasJournal fewer now) new new_after
-Writes (ended.Damaged place) state new new_after = ⊥
+Writes (ended.Damaged offset) state new new_after = ⊥
 Writes ended.DiskFault state new new_after = new_after ≡ new
 Writes ended.NewDiskFault state new new_after = (fewer : List (List ℕ)) × LeadsTo fewer state
-Writes ended.JournalFull state new new_after = ((made : List (List ℕ)) × (most_bytes < place_behind made + 1)) × (new_after ≡ new)
+Writes ended.JournalFull state new new_after = ((made : List (List ℕ)) × (most_bytes < offset_behind made + 1)) × (new_after ≡ new)
 Writes ended.Refused state new new_after = new_after ≡ new
 Writes ended.OutOfMemory state new new_after = Unit {0}
 
@@ -77,13 +77,13 @@ CountsMade (Ok made) old new = new ≡ old
 CountsMade (Err why) old new = CountsUnmade why old new
 
 -- the counts of faults of the old file's disk and of the new one's stay, but where a call failed
-abbrev pub CountsCompacted : Compacted → ℕ → ℕ → ℕ → ℕ → Type 0
+abbrev pub CountsCompacted : CompactEnding → ℕ → ℕ → ℕ → ℕ → Type 0
 CountsCompacted ended.DiskFault disk disk_after new new_after = Rose disk disk_after × (new_after ≡ new)
 CountsCompacted ended.NewDiskFault disk disk_after new new_after = Rose new new_after × (disk_after ≡ disk)
 CountsCompacted other disk disk_after new new_after = (disk_after ≡ disk) × (new_after ≡ new)
 
 -- where the old file isn't touched, no call of it fails
-abbrev pub CountsNew : Compacted → ℕ → ℕ → Type 0
+abbrev pub CountsNew : CompactEnding → ℕ → ℕ → Type 0
 CountsNew ended.DiskFault new new_after = ⊥
 CountsNew ended.NewDiskFault new new_after = Rose new new_after
 CountsNew other new new_after = new_after ≡ new

@@ -26,25 +26,25 @@ IsRead entries = WhereExposed (λ old new. IsImage old.now old.now.seen × Reads
 
 -- it was damaged, or has a record that isn't served again
 abbrev pub IsFoundBad : ℕ → Option Moments → Option Moments → Type 0
-IsFoundBad place = WhereExposed (λ old new. IsImage old.now old.now.seen × IsBad place old new)
+IsFoundBad offset = WhereExposed (λ old new. IsImage old.now old.now.seen × IsBad offset old new)
 
 abbrev pub Finds : Found → Option Moments → Option Moments → Type 0
 Finds (found.Served journal server) old new = (entries : List (List ℕ)) × LedTo entries server × IsRead entries old new
-Finds (found.Damaged place) old new = IsFoundBad place old new
+Finds (found.Damaged offset) old new = IsFoundBad offset old new
 Finds found.DiskFault old new = Unit {0}
 Finds found.OutOfMemory old new = Unit {0}
 
 -- the journal's records can be read
 abbrev pub IsReadable : Found → Option Moments → Type 0
 IsReadable (found.Served journal server) disk = IfSome disk (IsMounted journal.gate)
-IsReadable (found.Damaged place) disk = Unit {0}
+IsReadable (found.Damaged offset) disk = Unit {0}
 IsReadable found.DiskFault disk = Unit {0}
 IsReadable found.OutOfMemory disk = Unit {0}
 
 -- what comes of the records of a journal that is mounted
 abbrev pub Serves : Found → JournalState → Option Moments → Option Moments → Type 0
 Serves (found.Served held server) journal old new = (held ≡ journal) × AreRestarted journal.gate empty_state server old new
-Serves (found.Damaged place) journal old new = OfEntries (λ entries. RefusesAt empty_state entries place) journal.gate old new
+Serves (found.Damaged offset) journal old new = OfEntries (λ entries. RefusesAt empty_state entries offset) journal.gate old new
 Serves found.DiskFault journal old new = WhereExposed StaysKept old new
 Serves found.OutOfMemory journal old new = WhereExposed StaysKept old new
 

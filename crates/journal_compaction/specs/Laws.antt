@@ -13,4 +13,4 @@ LeadToOneWorld entries fewer =
 
 -- no entry of a compaction is refused, and it leads to the world of the entries that were read
 abbrev pub CompactedIsTheSame : Type 0
-CompactedIsTheSame = (entries fewer : List (List ℕ)) → IsCompaction entries fewer → ((place : ℕ) → ¬ RefusesAt empty_state fewer place) × LeadToOneWorld entries fewer
+CompactedIsTheSame = (entries fewer : List (List ℕ)) → IsCompaction entries fewer → ((offset : ℕ) → ¬ RefusesAt empty_state fewer offset) × LeadToOneWorld entries fewer

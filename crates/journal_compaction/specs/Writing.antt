@@ -11,16 +11,16 @@ pub record HasJournal (entries : List (List ℕ)) (disk : Moments) : Type 0 wher
   pub now : disk.now ≡ kept (journal_of entries)
   pub from_now : LeavesNow (ReadsAs (Records entries)) disk.now
 
--- the file ends at a place
+-- the file ends at an offset
 abbrev pub HasAt : ℕ → Moments → Type 0
 HasAt at disk = length disk.now.seen ≡ at
 
--- open gates with these entries behind them
+-- open gates with these entries after them
 abbrev pub opened : List (List ℕ) → List ℕ
 opened [] = []
 opened (entry ∷ entries) = 1 ∷ framed entry ++ opened entries
 
--- once it is done, bytes stand behind what reads gave
+-- once it is done, bytes stand after what reads gave
 abbrev pub PutsBehind : Stored → List ℕ → Moments → Moments → Type 0
 PutsBehind stored.Done bytes old new = new.now.seen ≡ old.now.seen ++ bytes
 PutsBehind stored.Failed bytes old new = Unit {0}

@@ -2,7 +2,7 @@
 
 ghost use Rattle.std.specs.Prelude.{◌≡◌, ◌<◌, ◌^◌, IfOk, IsTrue};
 ghost use Rattle.std.specs.List.{All};
-ghost use Rattle.journal_core.specs.Journals.{place_behind};
+ghost use Rattle.journal_core.specs.Journals.{offset_behind};
 ghost use Rattle.journal_core.specs.Records.{IsRecord};
 ghost use Rattle.journal_compaction.specs.Checking.{LeadsTo};
 
@@ -26,9 +26,9 @@ pub(crate) fn are_records(alloc: Global, entries: &[Blob]) -> Result<bool, Alloc
 }
 
 /// Whether records that are served from the beginning lead to the world of a server, as a start
-/// serves them: each is done, and no transaction is open behind it.
+/// serves them: each is done, and no transaction is open after it.
 pub(crate) fn lead_to(alloc: Global, records: &[Blob], server: &Server) -> Result<bool, AllocError>
-    requires { place_behind records.now < 2 ^ 64 }
+    requires { offset_behind records.now < 2 ^ 64 }
     ensures { IfOk result (λ lead. IsTrue lead → LeadsTo records.now server.now) }
 {
     let mut fresh = Server::new(alloc);

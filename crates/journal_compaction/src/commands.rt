@@ -6,7 +6,7 @@ ghost use Rattle.ae_edge.specs.Devices.{WhereExposed};
 ghost use Rattle.disk.specs.Durable.{StaysKept};
 ghost use Rattle.disk.specs.Moments.{Leaves};
 ghost use Rattle.journal_core.specs.Appends.{IsMounted};
-ghost use Rattle.journal_core.specs.Journals.{place_behind};
+ghost use Rattle.journal_core.specs.Journals.{offset_behind};
 ghost use Rattle.journal_core.specs.Mounts.{IsSomeImage};
 ghost use Rattle.journal_core.specs.Records.{IsRecord};
 ghost use Rattle.journal_compaction.specs.Checking.{LeadsTo};
@@ -26,10 +26,10 @@ use std::fmt;
 
 /// How the command ended.
 #[derive(Clone, Copy, PartialEq, Eq, Debug)]
-pub enum Compacted {
+pub enum CompactEnding {
     /// The new file is on the disk.
     Done,
-    /// Behind the gate at this byte of the old file, from 0, stands no record that is served again.
+    /// After the gate at this offset of the old file there is no record that is served again.
     Damaged(u64),
     /// A call of the old file's disk failed.
     DiskFault,
@@ -42,23 +42,23 @@ pub enum Compacted {
     OutOfMemory,
 }
 
-impl Compacted {
+impl CompactEnding {
     /// The number with which the program ends.
     pub fn number(&self) -> u8
         ensures { result ≡ number_of self.now }
     {
         match self {
-            Compacted::Done => 0,
-            Compacted::OutOfMemory => 5,
-            Compacted::Damaged(_) => 13,
-            Compacted::DiskFault | Compacted::NewDiskFault => 14,
-            Compacted::JournalFull => 15,
-            Compacted::Refused => 16,
+            CompactEnding::Done => 0,
+            CompactEnding::OutOfMemory => 5,
+            CompactEnding::Damaged(_) => 13,
+            CompactEnding::DiskFault | CompactEnding::NewDiskFault => 14,
+            CompactEnding::JournalFull => 15,
+            CompactEnding::Refused => 16,
         }
     }
 }
 
-impl fmt::Display for Compacted {
+impl fmt::Display for CompactEnding {
     ghost use Rattle.std.specs.Prelude.{Some};
     ghost use Rattle.journal_compaction.specs.Endings.{said_of};
 
@@ -66,20 +66,20 @@ impl fmt::Display for Compacted {
 
     fn fmt<W: fmt::Write>(&self, f: &mut fmt::Formatter<W>) -> fmt::Result {
         match self {
-            Compacted::Done => Ok(()),
-            Compacted::OutOfMemory => writeln!(f, "ae_compact: out of memory"),
-            Compacted::Damaged(place) => writeln!(f, "ae_compact: bad journal at {place}"),
-            Compacted::DiskFault => writeln!(f, "ae_compact: disk fault"),
-            Compacted::NewDiskFault => writeln!(f, "ae_compact: disk fault in the new file"),
-            Compacted::JournalFull => writeln!(f, "ae_compact: journal full"),
-            Compacted::Refused => writeln!(f, "ae_compact: refused"),
+            CompactEnding::Done => Ok(()),
+            CompactEnding::OutOfMemory => writeln!(f, "ae_compact: out of memory"),
+            CompactEnding::Damaged(offset) => writeln!(f, "ae_compact: bad journal at {offset}"),
+            CompactEnding::DiskFault => writeln!(f, "ae_compact: disk fault"),
+            CompactEnding::NewDiskFault => writeln!(f, "ae_compact: disk fault in the new file"),
+            CompactEnding::JournalFull => writeln!(f, "ae_compact: journal full"),
+            CompactEnding::Refused => writeln!(f, "ae_compact: refused"),
         }
     }
 }
 
 /// Whether records may be those of a journal, and lead to the world of a server.
 fn hold(alloc: Global, records: &[Blob], server: &Server) -> Result<bool, AllocError>
-    requires { place_behind records.now < 2 ^ 64 }
+    requires { offset_behind records.now < 2 ^ 64 }
     ensures { IfOk result (λ hold. IsTrue hold
         → All IsRecord records.now × LeadsTo records.now server.now) }
 {
@@ -87,22 +87,27 @@ fn hold(alloc: Global, records: &[Blob], server: &Server) -> Result<bool, AllocE
 }
 
 /// Makes the file of a disk the journal of records that lead to the world of a server.
-fn write_tested<E: Disk>(alloc: Global, records: &[Blob], server: &Server, new: &mut E) -> Compacted
+fn write_tested<E: Disk>(
+    alloc: Global,
+    records: &[Blob],
+    server: &Server,
+    new: &mut E,
+) -> CompactEnding
     ensures writes { Writes result server.now (E.seen new.old).content (E.seen new.new).content }
     ensures same { (E.seen new.new).names ≡ (E.seen new.old).names }
     ensures counts { CountsNew result (E.seen new.old).faults (E.seen new.new).faults }
 {
     let Some(gate) = last_gate(records) else {
-        return Compacted::JournalFull;
+        return CompactEnding::JournalFull;
     };
     match hold(alloc, records, server) {
         Ok(true) => match write_journal(alloc, new, records, gate) {
-            Stored::Done => Compacted::Done,
-            Stored::Failed => Compacted::NewDiskFault,
-            Stored::OutOfMemory => Compacted::OutOfMemory,
+            Stored::Done => CompactEnding::Done,
+            Stored::Failed => CompactEnding::NewDiskFault,
+            Stored::OutOfMemory => CompactEnding::OutOfMemory,
         },
-        Ok(false) => Compacted::Refused,
-        Err(_) => Compacted::OutOfMemory,
+        Ok(false) => CompactEnding::Refused,
+        Err(_) => CompactEnding::OutOfMemory,
     }
 }
 
@@ -114,7 +119,7 @@ fn replace<D: Disk, E: Disk>(
     journal: &Journal,
     server: &Server,
     new: &mut E,
-) -> Compacted
+) -> CompactEnding
     requires mounted { IfSome (D.seen disk.old).content (IsMounted journal.now.gate) }
     ensures writes { Writes result server.now (E.seen new.old).content (E.seen new.new).content }
     ensures stays { WhereExposed StaysKept (D.seen disk.old).content (D.seen disk.new).content }
@@ -125,15 +130,15 @@ fn replace<D: Disk, E: Disk>(
 {
     match compacted(alloc, disk, journal, server) {
         Ok(records) => write_tested(alloc, records.as_slice(), server, new),
-        Err(Unmade::Stopped(Stop::Refused)) => Compacted::Refused,
-        Err(Unmade::Stopped(Stop::OutOfMemory)) => Compacted::OutOfMemory,
-        Err(Unmade::DiskFault) => Compacted::DiskFault,
+        Err(Unmade::Stopped(Stop::Refused)) => CompactEnding::Refused,
+        Err(Unmade::Stopped(Stop::OutOfMemory)) => CompactEnding::OutOfMemory,
+        Err(Unmade::DiskFault) => CompactEnding::DiskFault,
     }
 }
 
 /// Reads the journal on a disk as a server does at its start, and makes the file of another disk a
 /// journal that leads to the same tables: its definitions, and INSERTs of the rows.
-pub fn compact<D: Disk, E: Disk>(alloc: Global, disk: &mut D, new: &mut E) -> Compacted
+pub fn compact<D: Disk, E: Disk>(alloc: Global, disk: &mut D, new: &mut E) -> CompactEnding
     // Served again as a start serves them, the records of the new file lead to the world to which
     // those of the old one lead: its catalog, with its version and the numbers of its keys, and the
     // same rows of each table in the same order. Or why there are none.
@@ -151,8 +156,8 @@ pub fn compact<D: Disk, E: Disk>(alloc: Global, disk: &mut D, new: &mut E) -> Co
 {
     match find(alloc, disk) {
         Found::Served(journal, server) => replace(alloc, disk, &journal, &server, new),
-        Found::Damaged(place) => Compacted::Damaged(place),
-        Found::DiskFault => Compacted::DiskFault,
-        Found::OutOfMemory => Compacted::OutOfMemory,
+        Found::Damaged(offset) => CompactEnding::Damaged(offset),
+        Found::DiskFault => CompactEnding::DiskFault,
+        Found::OutOfMemory => CompactEnding::OutOfMemory,
     }
 }

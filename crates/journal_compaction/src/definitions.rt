@@ -19,7 +19,7 @@ use std::alloc::{AllocError, Global};
 use wire_frames::{Decoded, decode_request, one_reading};
 use wire_messages::requests::Request;
 
-/// Whether a text is a definition, also one that a transaction may make.
+/// Whether a text is a definition, including REPLACE BY.
 fn defines(alloc: Global, text: &str) -> Result<bool, AllocError> {
     match parse(alloc, text) {
         Ok(statement) => {
@@ -43,7 +43,7 @@ fn is_definition(alloc: Global, request: &Request<'_>) -> Result<bool, AllocErro
     }
 }
 
-/// Puts the frames of a record that ask for a definition at the end, each as a record of its own.
+/// Appends the frames of a record that ask for a definition, each as a record of its own.
 /// One of a transaction raises the version outside it too: until the COMMIT no other was made.
 fn push_defining(alloc: Global, entry: &[u8], records: &mut Seq<Blob>) -> Result<(), Stop> {
     one_reading();
@@ -63,7 +63,7 @@ fn push_defining(alloc: Global, entry: &[u8], records: &mut Seq<Blob>) -> Result
     Ok(())
 }
 
-/// Puts the definitions of all records of a journal at the end, in their order. Each record is read
+/// Appends the definitions of all records of a journal, in their order. Each record is read
 /// from the disk, and only its definitions are kept.
 pub(crate) fn push_definitions<D: Disk>(
     alloc: Global,
@@ -76,11 +76,11 @@ pub(crate) fn push_definitions<D: Disk>(
     ensures same { (D.seen disk.new).names ≡ (D.seen disk.old).names }
     ensures counts { CountsMade result (D.seen disk.old).faults (D.seen disk.new).faults }
 {
-    let mut place = 0u64;
+    let mut offset = 0u64;
     'entries: loop {
-        match journal.entry_at(alloc, disk, place) {
+        match journal.entry_at(alloc, disk, offset) {
             Entry::Next(entry) => {
-                place += 9 + entry.len() as u64;
+                offset += 9 + entry.len() as u64;
                 match push_defining(alloc, entry.as_slice(), records) {
                     Ok(()) => {}
                     Err(stop) => return Err(Unmade::Stopped(stop)),

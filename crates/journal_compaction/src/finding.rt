@@ -17,9 +17,9 @@ use std::alloc::Global;
 /// What was found on a disk.
 #[derive(Drop)]
 pub(crate) enum Found {
-    /// Its journal, and a server that stands where the records lead to.
+    /// Its journal, and a server in the state to which the records lead.
     Served(Journal, Server),
-    /// Behind the gate at this byte of the file, from 0, stands no record that is served again.
+    /// After the gate at this offset of the file there is no record that is served again.
     Damaged(u64),
     /// A call of the disk failed.
     DiskFault,
@@ -37,7 +37,7 @@ fn serve_found<D: Disk>(alloc: Global, disk: &mut D, journal: Journal) -> Found
     let mut server = Server::new(alloc);
     match serve_records(alloc, disk, &journal, &mut server) {
         Restarted::Served => Found::Served(journal, server),
-        Restarted::Refused(place) => Found::Damaged(place),
+        Restarted::Refused(offset) => Found::Damaged(offset),
         Restarted::DiskFault => Found::DiskFault,
         Restarted::OutOfMemory => Found::OutOfMemory,
     }
@@ -54,7 +54,7 @@ pub(crate) fn find<D: Disk>(alloc: Global, disk: &mut D) -> Found
 {
     match Journal::mount(alloc, disk) {
         Mounted::Ready(journal) => serve_found(alloc, disk, journal),
-        Mounted::Damaged(place) => Found::Damaged(place),
+        Mounted::Damaged(offset) => Found::Damaged(offset),
         Mounted::DiskFault => Found::DiskFault,
         Mounted::OutOfMemory => Found::OutOfMemory,
     }

@@ -53,7 +53,7 @@ fn param<'a>(
     })
 }
 
-/// Puts the parameters that send a row at the end.
+/// Appends the parameters that send a row.
 fn push_row<'a>(
     alloc: Global,
     columns: &[ColumnDef],
@@ -109,7 +109,7 @@ fn rows_of_one(width: usize) -> usize {
     (MOST_PARAMS / width.max(1)).max(1)
 }
 
-/// Puts INSERTs of the rows of a table at the end, in their order: as many rows to each as its
+/// Appends INSERTs of the rows of a table, in their order: as many rows to each as its
 /// parameters hold.
 pub(crate) fn push_inserts(
     alloc: Global,

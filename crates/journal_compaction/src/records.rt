@@ -1,4 +1,4 @@
-//! The records of which a journal is made anew.
+//! The records from which a journal is made anew.
 
 ghost use Rattle.std.specs.Prelude.{◌≡◌, IfSome};
 ghost use Rattle.ae_edge.specs.Devices.{WhereExposed};
@@ -40,7 +40,7 @@ pub(crate) enum Unmade {
     DiskFault,
 }
 
-/// Puts INSERTs of the rows of all tables at the end, in the order of the catalog.
+/// Appends INSERTs of the rows of all tables, in the order of the catalog.
 fn push_rows(alloc: Global, world: &World<Cell>, records: &mut Seq<Blob>) -> Result<(), Stop> {
     let catalog = world.catalog();
     for (def, table) in catalog.tables().iter().zip(world.contents()) {

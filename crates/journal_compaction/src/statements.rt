@@ -14,7 +14,7 @@ pub(crate) fn param_name(alloc: Global, number: usize) -> Result<Txt, AllocError
     Ok(Txt::from_string(name))
 }
 
-/// Puts a name in brackets, in which a closing bracket is written twice.
+/// Writes a name in brackets, in which a closing bracket is written twice.
 fn push_name(text: &mut String, name: &Name) -> Result<(), AllocError> {
     text.push('[')?;
     for c in name.as_str().chars() {
@@ -26,7 +26,7 @@ fn push_name(text: &mut String, name: &Name) -> Result<(), AllocError> {
     text.push(']')
 }
 
-/// Puts the names of columns in parentheses.
+/// Writes the names of columns in parentheses.
 fn push_columns(text: &mut String, columns: &Seq<ColumnDef>) -> Result<(), AllocError> {
     for (i, column) in columns.as_slice().iter().enumerate() {
         text.push_str(if i == 0 { "(" } else { ", " })?;
@@ -35,7 +35,7 @@ fn push_columns(text: &mut String, columns: &Seq<ColumnDef>) -> Result<(), Alloc
     text.push(')')
 }
 
-/// Puts a row of so many parameters in parentheses, of which the first has a number.
+/// Writes a row of so many parameters in parentheses, of which the first has a number.
 fn push_row(text: &mut String, first: usize, width: usize) -> Result<(), AllocError> {
     for i in 0..width {
         text.push_str(if i == 0 { "(@p" } else { ", @p" })?;

@@ -23,7 +23,7 @@ fn same_catalogs(catalog: &Catalog, other: &Catalog) -> bool
         && equal_items(catalog.tables(), other.tables())
 }
 
-/// Whether rows that are lent are the same.
+/// Whether borrowed rows are the same.
 fn same_lent(rows: &[&Row<Cell>], others: &[&Row<Cell>]) -> bool
     ensures { IsTrue result ↔ (map (λ row. row.now) rows.now ≡ map (λ row. row.now) others.now) }
 {

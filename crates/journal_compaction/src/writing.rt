@@ -5,7 +5,7 @@ ghost use Rattle.std.specs.List.{All};
 ghost use Rattle.ae_edge.specs.Devices.{WhereExposed};
 ghost use Rattle.disk.specs.Calls.{CountsStored};
 ghost use Rattle.journal_core.specs.Appends.{most_bytes};
-ghost use Rattle.journal_core.specs.Journals.{framed, place_behind};
+ghost use Rattle.journal_core.specs.Journals.{framed, offset_behind};
 ghost use Rattle.journal_core.specs.Records.{IsRecord};
 ghost use Rattle.journal_compaction.specs.Writing.{HasAt, PutsBehind, WritesJournal, opened};
 
@@ -17,10 +17,10 @@ use std::alloc::{AllocError, Global};
 // The most bytes that the file of a journal has.
 const MOST_BYTES: u64 = 1_099_511_627_776;
 
-/// The place of the last gate of a journal of some records, where its file isn't too long.
+/// The offset of the last gate of a journal of some records, where its file isn't too long.
 pub(crate) fn last_gate(records: &[Blob]) -> Option<u64>
-    ensures { MatchOption result (most_bytes < place_behind records.now + 1)
-        (λ gate. (gate ≡ place_behind records.now) × (gate + 1 ≤ most_bytes)) }
+    ensures { MatchOption result (most_bytes < offset_behind records.now + 1)
+        (λ gate. (gate ≡ offset_behind records.now) × (gate + 1 ≤ most_bytes)) }
 {
     let mut gate = 0u64;
     'records: for entry in records {
@@ -36,7 +36,7 @@ pub(crate) fn last_gate(records: &[Blob]) -> Option<u64>
     if gate < MOST_BYTES { Some(gate) } else { None }
 }
 
-/// The bytes of a record in the file, behind an open gate.
+/// The bytes of a record in the file, after an open gate.
 fn opened_record(alloc: Global, entry: &[u8]) -> Result<Vec<u8>, AllocError>
     ensures { IfOk result (λ bytes. bytes.items ≡ 1 ∷ framed entry.now) }
 {
@@ -47,7 +47,7 @@ fn opened_record(alloc: Global, entry: &[u8]) -> Result<Vec<u8>, AllocError>
     Ok(bytes)
 }
 
-/// Puts bytes at the end of the file.
+/// Appends bytes to the file.
 fn put_behind<E: Disk>(disk: &mut E, at: u64, bytes: &[u8]) -> Stored
     requires end { IfSome (E.seen disk.old).content (HasAt at) }
     requires room { at + length bytes.now < 2 ^ 64 }
@@ -59,7 +59,7 @@ fn put_behind<E: Disk>(disk: &mut E, at: u64, bytes: &[u8]) -> Stored
     disk.write(at, bytes)
 }
 
-/// Puts a record behind an open gate at the end of the file.
+/// Appends a record after an open gate to the file.
 fn put_record<E: Disk>(alloc: Global, disk: &mut E, at: u64, entry: &[u8]) -> Stored
     requires end { IfSome (E.seen disk.old).content (HasAt at) }
     requires room { at + 10 + length entry.now < 2 ^ 64 }
@@ -74,10 +74,10 @@ fn put_record<E: Disk>(alloc: Global, disk: &mut E, at: u64, entry: &[u8]) -> St
     }
 }
 
-/// Puts records at the end of an empty file, each behind an open gate.
+/// Writes records to an empty file, each after an open gate.
 fn put_records<E: Disk>(alloc: Global, disk: &mut E, records: &[Blob]) -> Stored
     requires empty { IfSome (E.seen disk.old).content (HasAt 0) }
-    requires room { place_behind records.now + 1 ≤ most_bytes }
+    requires room { offset_behind records.now + 1 ≤ most_bytes }
     ensures content { WhereExposed (PutsBehind result (opened records.now))
         (E.seen disk.old).content (E.seen disk.new).content }
     ensures same { (E.seen disk.new).names ≡ (E.seen disk.old).names }
@@ -94,10 +94,10 @@ fn put_records<E: Disk>(alloc: Global, disk: &mut E, records: &[Blob]) -> Stored
     Stored::Done
 }
 
-/// Puts records and a closed gate behind them at the end of an empty file.
+/// Writes records and a closed gate after them to an empty file.
 fn put_journal<E: Disk>(alloc: Global, disk: &mut E, records: &[Blob], gate: u64) -> Stored
     requires empty { IfSome (E.seen disk.old).content (HasAt 0) }
-    requires gate { gate ≡ place_behind records.now }
+    requires gate { gate ≡ offset_behind records.now }
     requires room { gate + 1 ≤ most_bytes }
     ensures content { WhereExposed (PutsBehind result (opened records.now ++ 0 ∷ []))
         (E.seen disk.old).content (E.seen disk.new).content }
@@ -115,7 +115,7 @@ fn put_journal<E: Disk>(alloc: Global, disk: &mut E, records: &[Blob], gate: u64
 fn write_empty<E: Disk>(alloc: Global, disk: &mut E, records: &[Blob], gate: u64) -> Stored
     requires records { All IsRecord records.now }
     requires empty { IfSome (E.seen disk.old).content (HasAt 0) }
-    requires gate { gate ≡ place_behind records.now }
+    requires gate { gate ≡ offset_behind records.now }
     requires room { gate + 1 ≤ most_bytes }
     ensures content { WhereExposed (WritesJournal result records.now)
         (E.seen disk.old).content (E.seen disk.new).content }
@@ -138,7 +138,7 @@ pub(crate) fn write_journal<E: Disk>(
     gate: u64,
 ) -> Stored
     requires records { All IsRecord records.now }
-    requires gate { gate ≡ place_behind records.now }
+    requires gate { gate ≡ offset_behind records.now }
     requires room { gate + 1 ≤ most_bytes }
     ensures content { WhereExposed (WritesJournal result records.now)
         (E.seen disk.old).content (E.seen disk.new).content }

@@ -3,7 +3,7 @@ use Rattle.std.proofs.Common.{◌≡◌, inl, inr, ℕ, ◌-◌, ◌≤◌, ◌<
 use Rattle.std.specs.Prelude.{IfSome}
 use Rattle.std.proofs.lemmas.List.{take_all}
 use Rattle.ae_edge.specs.Devices.{WhereExposed}
-use Rattle.ae_edge.proofs.Interface.{told_map, told_then}
+use Rattle.ae_edge.proofs.Interface.{exposed_map, exposed_then}
 use Rattle.disk.specs.Calls.{Syncs}
 use Rattle.disk.specs.Crashes.{Stand, kept}
 use Rattle.disk.specs.Durable.{IsKept, StaysKept}
@@ -11,8 +11,8 @@ use Rattle.disk.specs.Moments.{Moments, LeavesNow, Leaves, OnlySyncs, NoCall}
 use Rattle.disk.specs.declared.disks.Given.TheVariants as given
 use Rattle.disk.specs.declared.disks.Stored.{Stored}
 use Rattle.disk.specs.declared.disks.Stored.TheVariants as stored
-use Rattle.disk.proofs.Interface.{leaves_none, leaves_pass, leaves_then, leaves_weaker, syncs_pass, syncs_then, told_after, told_from, told_from_then}
-use Rattle.journal_core.specs.Journals.{framed, place_behind, Opens, Reading, Records, Damaged, ReadsAs, ReadsAlike}
+use Rattle.disk.proofs.Interface.{leaves_none, leaves_pass, leaves_then, leaves_weaker, syncs_pass, syncs_then, exposed_after, exposed_from, exposed_from_then}
+use Rattle.journal_core.specs.Journals.{framed, offset_behind, Opens, Reading, Records, Damaged, ReadsAs, ReadsAlike}
 use Rattle.journal_core.specs.Mounts.{IsLeft, IsSomeImage, Mounts}
 use Rattle.journal_core.specs.Reading.{IsKeptTo, ReadsPart}
 use Rattle.journal_core.specs.Scanning.{IsParsed, Scans}
@@ -27,17 +27,17 @@ use Rattle.journal_core.proofs.Mending.{none_open}
 use Rattle.journal_core.proofs.Parts.{kept_then}
 use Rattle.journal_core.proofs.Readings.{length_framed, one_reading}
 
--- the gate behind some records
-pub front_place : (entries : List (List ℕ)) (front : List ℕ) → Opens entries front → length front ≡ place_behind entries
-front_place [] front opens = ap length opens
-front_place (e ∷ entries) front opens =
-    omega (arith, ap length opens.1.whole, length-append (framed e) opens.0, length_framed e, front_place entries opens.0 opens.2)
+-- the gate after some records
+pub prefix_offset : (entries : List (List ℕ)) (prefix : List ℕ) → Opens entries prefix → length prefix ≡ offset_behind entries
+prefix_offset [] prefix opens = ap length opens
+prefix_offset (e ∷ entries) prefix opens =
+    omega (arith, ap length opens.1.whole, length-append (framed e) opens.0, length_framed e, prefix_offset entries opens.0 opens.2)
 
 -- what was parsed is what the file stands for
 pub parsed_reads : (entries : List (List ℕ)) (gate : ℕ) (file : List ℕ) → IsParsed entries gate file → ReadsAs (Records entries) file
 parsed_reads entries gate file p = elim p.whole [
-  | inl q ↦ inl (q.0, none_open entries p.front p.opens q.1)
-  | inr q ↦ inr (record { front = p.front; rest = q.0; opens = p.opens; whole = q.1 })
+  | inl q ↦ inl (q.0, none_open entries p.prefix p.opens q.1)
+  | inr q ↦ inr (record { prefix = p.prefix; rest = q.0; opens = p.opens; whole = q.1 })
 ]
 
 -- a file that stands for these records stands for what another does that stands for them
@@ -76,7 +76,7 @@ seen_alike file a b c is s w =
 
 read_settled : (found : Mounted) (a b c : Moments) → StaysKept a b → Settles found a.now.seen b c → SettlesFile found a c
 read_settled (mounted.Ready journal) a b c s w = (w.0, record { moments = seen_alike a.now.seen a b c refl s w.1.moments; read = w.1.read; ends = w.1.ends; left = w.1.left })
-read_settled (mounted.Damaged place) a b c s w = (seen_alike a.now.seen a b c refl s w.0, w.1, left_then a b c s.calls (ap (λ (x : Stand). x.seen) s.now) w.2)
+read_settled (mounted.Damaged offset) a b c s w = (seen_alike a.now.seen a b c refl s w.0, w.1, left_then a b c s.calls (ap (λ (x : Stand). x.seen) s.now) w.2)
 read_settled mounted.DiskFault a b c s w = seen_alike a.now.seen a b c refl s w
 read_settled mounted.OutOfMemory a b c s w = seen_alike a.now.seen a b c refl s w
 
@@ -88,13 +88,13 @@ stays_settled found a b c s w = read_settled found a b c s (subst (λ (x : Stand
 stays_alike : (a b : Moments) → StaysKept a b → Leaves (ReadsAlike a.now.seen) a b
 stays_alike a b s = leaves_weaker (λ image. image ≡ a.now.seen) (ReadsAlike a.now.seen) a b (λ image e. subst (ReadsAlike a.now.seen) (sym e) (alike_same a.now.seen)) s.moments
 
-pub stays_alike_told : (a b : Option Moments) → WhereExposed StaysKept a b → WhereExposed (λ x y. Leaves (ReadsAlike x.now.seen) x y) a b
-stays_alike_told = told_map StaysKept (λ x y. Leaves (ReadsAlike x.now.seen) x y) stays_alike
+pub stays_alike_exposed : (a b : Option Moments) → WhereExposed StaysKept a b → WhereExposed (λ x y. Leaves (ReadsAlike x.now.seen) x y) a b
+stays_alike_exposed = exposed_map StaysKept (λ x y. Leaves (ReadsAlike x.now.seen) x y) stays_alike
 
 -- ---- a file of at most one byte
 
 short_parsed : (file : List ℕ) → length file ≤ 1 → IsParsed [] 0 file
-short_parsed file short = record { front = []; opens = refl; gate_is = refl; whole = inl (short, refl) }
+short_parsed file short = record { prefix = []; opens = refl; gate_is = refl; whole = inl (short, refl) }
 
 short_file : (file : List ℕ) (a b : Moments) → IsShort a → ReadsPart (given.Bytes file) 0 1 a b → file ≡ a.now.seen
 short_file file a b k r = r.0 ∙ take_all 1 a.now.seen k.short
@@ -104,13 +104,13 @@ short_settled result file a b c k r w =
     read_settled (mended_by result 0) a b c r.1
     (settled_by result 0 a.now.seen [] (short_parsed a.now.seen k.short) b c (subst (λ (f : List ℕ). Repairs result 0 f b c) (short_file file a b k r) w))
 
-pub short_settled_told : (result : Stored) (file : List ℕ) (a b c : Option Moments) → IfSome a IsShort
+pub short_settled_exposed : (result : Stored) (file : List ℕ) (a b c : Option Moments) → IfSome a IsShort
     → WhereExposed (ReadsPart (given.Bytes file) 0 1) a b → WhereExposed (Repairs result 0 file) b c → WhereExposed (SettlesFile (mended_by result 0)) a c
-short_settled_told result file = told_from_then IsShort (ReadsPart (given.Bytes file) 0 1) (Repairs result 0 file) (SettlesFile (mended_by result 0)) (short_settled result file)
+short_settled_exposed result file = exposed_from_then IsShort (ReadsPart (given.Bytes file) 0 1) (Repairs result 0 file) (SettlesFile (mended_by result 0)) (short_settled result file)
 
-pub short_kept_told : (file : List ℕ) (a b : Option Moments) → IfSome a IsShort → WhereExposed (ReadsPart (given.Bytes file) 0 1) a b → IfSome b (λ d. d.now ≡ kept file)
-short_kept_told file =
-    told_after IsShort (ReadsPart (given.Bytes file) 0 1) (λ d. d.now ≡ kept file) (λ a b k r. r.1.now ∙ k.kept ∙ ap kept (sym (short_file file a b k r)))
+pub short_kept_exposed : (file : List ℕ) (a b : Option Moments) → IfSome a IsShort → WhereExposed (ReadsPart (given.Bytes file) 0 1) a b → IfSome b (λ d. d.now ≡ kept file)
+short_kept_exposed file =
+    exposed_after IsShort (ReadsPart (given.Bytes file) 0 1) (λ d. d.now ≡ kept file) (λ a b k r. r.1.now ∙ k.kept ∙ ap kept (sym (short_file file a b k r)))
 
 -- ---- a longer one
 
@@ -119,22 +119,22 @@ whole_settled gate result a b c s w =
     read_settled (mended_by result gate) a b c s.1
     (settled_by result gate a.now.seen s.0.0 s.0.1 b c (subst (λ (x : Stand). Repairs result gate x.seen b c) s.1.now w))
 
-pub whole_settled_told : (gate : ℕ) (result : Stored) (a b c : Option Moments) → WhereExposed (Scans (scanned.Whole gate)) a b
+pub whole_settled_exposed : (gate : ℕ) (result : Stored) (a b c : Option Moments) → WhereExposed (Scans (scanned.Whole gate)) a b
     → WhereExposed (RepairsSeen result gate) b c → WhereExposed (SettlesFile (mended_by result gate)) a c
-whole_settled_told gate result = told_then (Scans (scanned.Whole gate)) (RepairsSeen result gate) (SettlesFile (mended_by result gate)) (whole_settled gate result)
+whole_settled_exposed gate result = exposed_then (Scans (scanned.Whole gate)) (RepairsSeen result gate) (SettlesFile (mended_by result gate)) (whole_settled gate result)
 
-damaged : (last place : ℕ) (a b : Moments) → IsKeptTo last a → Scans (scanned.Broken place) a b → SettlesFile (mounted.Damaged place) a b
-damaged last place a b k s = (stays_alike a b s.1, s.0, record { calls = s.1.calls; now = s.1.now ∙ k.kept })
+damaged : (last offset : ℕ) (a b : Moments) → IsKeptTo last a → Scans (scanned.Broken offset) a b → SettlesFile (mounted.Damaged offset) a b
+damaged last offset a b k s = (stays_alike a b s.1, s.0, record { calls = s.1.calls; now = s.1.now ∙ k.kept })
 
-pub damaged_told : (last place : ℕ) (a b : Option Moments) → IfSome a (IsKeptTo last) → WhereExposed (Scans (scanned.Broken place)) a b → WhereExposed (SettlesFile (mounted.Damaged place)) a b
-damaged_told last place = told_from (IsKeptTo last) (Scans (scanned.Broken place)) (SettlesFile (mounted.Damaged place)) (damaged last place)
+pub damaged_exposed : (last offset : ℕ) (a b : Option Moments) → IfSome a (IsKeptTo last) → WhereExposed (Scans (scanned.Broken offset)) a b → WhereExposed (SettlesFile (mounted.Damaged offset)) a b
+damaged_exposed last offset = exposed_from (IsKeptTo last) (Scans (scanned.Broken offset)) (SettlesFile (mounted.Damaged offset)) (damaged last offset)
 
-pub unscanned_told : (found : Scanned) (a b : Option Moments) → WhereExposed (Scans found) a b → WhereExposed (λ x y. Leaves (ReadsAlike x.now.seen) x y) a b
-unscanned_told found = told_map (Scans found) (λ x y. Leaves (ReadsAlike x.now.seen) x y) (λ a b s. stays_alike a b s.1)
+pub unscanned_exposed : (found : Scanned) (a b : Option Moments) → WhereExposed (Scans found) a b → WhereExposed (λ x y. Leaves (ReadsAlike x.now.seen) x y) a b
+unscanned_exposed found = exposed_map (Scans found) (λ x y. Leaves (ReadsAlike x.now.seen) x y) (λ a b s. stays_alike a b s.1)
 
-pub scanned_kept_told : (last gate : ℕ) (a b : Option Moments) → IfSome a (IsKeptTo last) → WhereExposed (Scans (scanned.Whole gate)) a b → IfSome b (IsKeptTo last)
-scanned_kept_told last gate =
-    told_after (IsKeptTo last) (Scans (scanned.Whole gate)) (IsKeptTo last)
+pub scanned_kept_exposed : (last gate : ℕ) (a b : Option Moments) → IfSome a (IsKeptTo last) → WhereExposed (Scans (scanned.Whole gate)) a b → IfSome b (IsKeptTo last)
+scanned_kept_exposed last gate =
+    exposed_after (IsKeptTo last) (Scans (scanned.Whole gate)) (IsKeptTo last)
     (λ a b k s. record { kept = kept_then a b k.kept s.1; reaches = ap (λ (x : Stand). length x.seen) s.1.now ∙ k.reaches })
 
 -- ---- by its length
@@ -142,16 +142,16 @@ scanned_kept_told last gate =
 abbrev IsMeasured : ℕ → Moments → Moments → Type 0
 IsMeasured size a b = StaysKept a b × (size ≡ length b.now.seen)
 
-pub sized_settled_told : (size : ℕ) (found : Mounted) (a b c : Option Moments) → WhereExposed (IsMeasured size) a b → WhereExposed (SettlesFile found) b c → WhereExposed (SettlesFile found) a c
-sized_settled_told size found = told_then (IsMeasured size) (SettlesFile found) (SettlesFile found) (λ a b c m w. stays_settled found a b c m.0 w)
+pub sized_settled_exposed : (size : ℕ) (found : Mounted) (a b c : Option Moments) → WhereExposed (IsMeasured size) a b → WhereExposed (SettlesFile found) b c → WhereExposed (SettlesFile found) a c
+sized_settled_exposed size found = exposed_then (IsMeasured size) (SettlesFile found) (SettlesFile found) (λ a b c m w. stays_settled found a b c m.0 w)
 
-pub sized_short_told : (size : ℕ) → size ≤ 1 → (a b : Option Moments) → IfSome a IsKept → WhereExposed (IsMeasured size) a b → IfSome b IsShort
-sized_short_told size short =
-    told_after IsKept (IsMeasured size) IsShort (λ a b k m. record { kept = kept_then a b k m.0; short = omega (arith, short, m.1) })
+pub sized_short_exposed : (size : ℕ) → size ≤ 1 → (a b : Option Moments) → IfSome a IsKept → WhereExposed (IsMeasured size) a b → IfSome b IsShort
+sized_short_exposed size short =
+    exposed_after IsKept (IsMeasured size) IsShort (λ a b k m. record { kept = kept_then a b k m.0; short = omega (arith, short, m.1) })
 
-pub sized_long_told : (size : ℕ) → 1 < size → (a b : Option Moments) → IfSome a IsKept → WhereExposed (IsMeasured size) a b → IfSome b (IsKeptTo (size - 1))
-sized_long_told size long =
-    told_after IsKept (IsMeasured size) (IsKeptTo (size - 1)) (λ a b k m. record { kept = kept_then a b k m.0; reaches = omega (arith, long, m.1) })
+pub sized_long_exposed : (size : ℕ) → 1 < size → (a b : Option Moments) → IfSome a IsKept → WhereExposed (IsMeasured size) a b → IfSome b (IsKeptTo (size - 1))
+sized_long_exposed size long =
+    exposed_after IsKept (IsMeasured size) (IsKeptTo (size - 1)) (λ a b k m. record { kept = kept_then a b k m.0; reaches = omega (arith, long, m.1) })
 
 -- ---- after the first sync
 
@@ -176,22 +176,22 @@ mounted_read (mounted.Ready journal) a b c y w =
       seen_images a b c y w.1.moments,
       entries,
       record {
-        gate = ends.gate_is ∙ front_place entries ends.front ends.opens;
+        gate = ends.gate_is ∙ prefix_offset entries ends.prefix ends.opens;
         was_image = y.was_image;
         read = subst (ReadsAs (Records entries)) seen w.1.read;
         ends = ends;
-        from_now = kept_leaves (ReadsAs (Records entries)) (ends.front ++ 0 ∷ []) c.now ends.now (end_reads entries ends.front ends.opens);
+        from_now = kept_leaves (ReadsAs (Records entries)) (ends.prefix ++ 0 ∷ []) c.now ends.now (end_reads entries ends.prefix ends.opens);
         file = w.1.left ∙ ap (λ (f : List ℕ). take journal.gate f ++ 0 ∷ []) seen;
       },
     )
-mounted_read (mounted.Damaged place) a b c y w = (
+mounted_read (mounted.Damaged offset) a b c y w = (
   seen_images a b c y w.0,
-  subst (ReadsAs (Damaged place)) (ap (λ (s : Stand). s.seen) y.here) w.1,
+  subst (ReadsAs (Damaged offset)) (ap (λ (s : Stand). s.seen) y.here) w.1,
   y.was_image,
   left_then a b c (syncs_pass (λ before after. after ≡ kept before.seen) a a b NoCall y (inr y.here)) (ap (λ (s : Stand). s.seen) y.here) w.2,
 )
 mounted_read mounted.DiskFault a b c y w = seen_images a b c y w
 mounted_read mounted.OutOfMemory a b c y w = seen_images a b c y w
 
-pub mounted_read_told : (found : Mounted) (a b c : Option Moments) → WhereExposed (Syncs stored.Done) a b → WhereExposed (SettlesFile found) b c → WhereExposed (Mounts found) a c
-mounted_read_told found = told_then (Syncs stored.Done) (SettlesFile found) (Mounts found) (mounted_read found)
+pub mounted_read_exposed : (found : Mounted) (a b c : Option Moments) → WhereExposed (Syncs stored.Done) a b → WhereExposed (SettlesFile found) b c → WhereExposed (Mounts found) a c
+mounted_read_exposed found = exposed_then (Syncs stored.Done) (SettlesFile found) (Mounts found) (mounted_read found)

@@ -11,13 +11,14 @@ use Rattle.wire_messages.specs.declared.requests.Request.{Request}
 use Rattle.wire_payloads.specs.declared.versioned.Versioned.{Versioned}
 use Rattle.wire_encoding.specs.Spelling.{SpellsRequest}
 use Rattle.journal_core.specs.Records.{IsExecute, IsExecuteFrame, IsRecord, Prefixes}
-use Rattle.journal_core.specs.declared.records.Front.TheVariants as front
+use Rattle.journal_core.specs.declared.records.FirstRequest.TheVariants as first_request
 
 -- ---- one frame
 
 -- a request that was read is the one that the front spells
-pub other_read : (asked : Versioned Request) (used : ℕ) (bytes : List ℕ) → (IsExecute asked.message → ⊥) → ReadsEach SpellsRequest (decoded.One asked used) bytes → Prefixes front.Other bytes
-other_read asked used bytes other only = λ frame rest f e. other (subst (λ (a : Versioned Request). IsExecute a.message) (sym (only f.asked frame rest f.spelled e).0) f.is)
+pub other_read : (request : Versioned Request) (used : ℕ) (bytes : List ℕ) → (IsExecute request.message → ⊥) → ReadsEach SpellsRequest (decoded.One request used) bytes
+    → Prefixes first_request.Other bytes
+other_read request used bytes other only = λ frame rest f e. other (subst (λ (a : Versioned Request). IsExecute a.message) (sym (only f.request frame rest f.spelled e).0) f.is)
 
 frame_long : (frame : List ℕ) → IsExecuteFrame frame → 0 < length frame
 frame_long frame f = omega (arith, ap length f.spelled.1)
@@ -46,23 +47,23 @@ more_read bytes rest used h f =
 
 -- ---- no record
 
--- what is left behind the frames that were read is the rest of the same frames
-same_front : HasOneReading SpellsRequest → (ones frames : List (List ℕ)) (rest : List ℕ) → All IsExecuteFrame ones → All IsExecuteFrame frames → concat ones ++ rest ≡ concat frames
+-- what is left after the frames that were read is the rest of the same frames
+same_prefix : HasOneReading SpellsRequest → (ones frames : List (List ℕ)) (rest : List ℕ) → All IsExecuteFrame ones → All IsExecuteFrame frames → concat ones ++ rest ≡ concat frames
     → (more : List (List ℕ)) × All IsExecuteFrame more × (rest ≡ concat more)
-same_front law [] frames rest p q e = (frames, q, e)
-same_front law (x ∷ ones) [] rest p q e =
+same_prefix law [] frames rest p q e = (frames, q, e)
+same_prefix law (x ∷ ones) [] rest p q e =
     absurd (omega (arith, frame_long x (All-head IsExecuteFrame x ones p), ap length e, length-append (x ++ concat ones) rest, length-append x (concat ones)))
-same_front law (x ∷ ones) (y ∷ frames) rest p q e =
+same_prefix law (x ∷ ones) (y ∷ frames) rest p q e =
     let fx = All-head IsExecuteFrame x ones p in
     let fy = All-head IsExecuteFrame y frames q in
     let whole : x ++ (concat ones ++ rest) ≡ y ++ concat frames = sym (append_assoc x (concat ones) rest) ∙ e in
-    let same : x ≡ y = (law fx.asked fy.asked x y (concat ones ++ rest) (concat frames) fx.spelled fy.spelled whole).1 in
+    let same : x ≡ y = (law fx.request fy.request x y (concat ones ++ rest) (concat frames) fx.spelled fy.spelled whole).1 in
     let tails : concat ones ++ rest ≡ concat frames = append_cancel_left x (concat ones ++ rest) (concat frames) (whole ∙ ap (λ (w : List ℕ). w ++ concat frames) (sym same)) in
-    same_front law ones frames rest (All-tail IsExecuteFrame x ones p) (All-tail IsExecuteFrame y frames q) tails
+    same_prefix law ones frames rest (All-tail IsExecuteFrame x ones p) (All-tail IsExecuteFrame y frames q) tails
 
-pub none_other : HasOneReading SpellsRequest → (bytes rest : List ℕ) → HasRead bytes rest → rest ≢ [] → Prefixes front.Other rest → IsRecord bytes → ⊥
+pub none_other : HasOneReading SpellsRequest → (bytes rest : List ℕ) → HasRead bytes rest → rest ≢ [] → Prefixes first_request.Other rest → IsRecord bytes → ⊥
 none_other law bytes rest h some other r =
-    let m = same_front law h.done r.frames rest h.each r.each (sym h.whole ∙ r.whole) in
+    let m = same_prefix law h.done r.frames rest h.each r.each (sym h.whole ∙ r.whole) in
     first m.0 m.1 m.2
   where
     first : (more : List (List ℕ)) → All IsExecuteFrame more → rest ≡ concat more → ⊥

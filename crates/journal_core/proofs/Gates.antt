@@ -37,7 +37,7 @@ use Rattle.journal_core.specs.Scanning.{IsParsed}
 use Rattle.journal_core.proofs.Readings.{length_framed}
 use Rattle.journal_core.proofs.Crash.{opens_more}
 
--- the first eight bytes of what begins with a record, and those behind them
+-- the first eight bytes of what begins with a record, and those after them
 parts_of : (bytes entry more : List ℕ) → length entry < 2 ^ 64 → bytes ≡ framed entry ++ more → (from_be_bytes w64 (take 8 bytes) ≡ length entry) × (drop 8 bytes ≡ entry ++ more)
 unfolding framed
 parts_of bytes entry more small e =
@@ -75,57 +75,58 @@ none_other bytes len is other has =
 
 -- ---- a whole file
 
--- the records so far stand before the gate at this place
+-- the records so far stand before the gate at this offset
 pub record Reads (entries : List (List ℕ)) (gate : ℕ) (file : List ℕ) : Type 0 where
   pub opens : Opens entries (take gate file)
   pub inside : gate < length file
 
-front_is : (file : List ℕ) (gate : ℕ) → gate < length file → file ≡ take gate file ++ get_or file gate 0 ∷ drop (gate + 1) file
-front_is file gate inside = sym (take-append-drop gate file) ∙ ap (λ (w : List ℕ). take gate file ++ w) (drop_more file gate 0 inside)
+prefix_is : (file : List ℕ) (gate : ℕ) → gate < length file → file ≡ take gate file ++ get_or file gate 0 ∷ drop (gate + 1) file
+prefix_is file gate inside = sym (take-append-drop gate file) ∙ ap (λ (w : List ℕ). take gate file ++ w) (drop_more file gate 0 inside)
 
 pub next_gate : (entries : List (List ℕ)) (gate : ℕ) (file entry : List ℕ) (next : ℕ) (rest : List ℕ)
     → Reads entries gate file → get_or file gate 0 ≢ 0 → IsEntry entry → drop (gate + 1) file ≡ framed entry ++ next ∷ rest
     → Reads (entries ++ entry ∷ []) (gate + (9 + length entry)) file
 next_gate entries gate file entry next rest r is_open is e =
-    let front = take gate file in
+    let prefix = take gate file in
     let g = get_or file gate 0 in
-    let n : length front ≡ gate = length-take-le gate file (omega (arith, r.inside)) in
-    let whole : file ≡ (front ++ g ∷ framed entry) ++ next ∷ rest = front_is file gate r.inside ∙ ap (λ (w : List ℕ). front ++ g ∷ w) e ∙ sym (append_assoc front (g ∷ framed entry) (next ∷ rest)) in
-    let long : length (front ++ g ∷ framed entry) ≡ gate + (9 + length entry) = omega (arith, n, length-append front (g ∷ framed entry), length_framed entry) in
-    let taken : take (gate + (9 + length entry)) file ≡ front ++ g ∷ framed entry = ap
-    (λ (w : List ℕ). take (gate + (9 + length entry)) w) whole ∙ take_at (front ++ g ∷ framed entry) (next ∷ rest) (gate + (9 + length entry)) long in
+    let n : length prefix ≡ gate = length-take-le gate file (omega (arith, r.inside)) in
+    let whole : file ≡ (prefix ++ g ∷ framed entry) ++ next ∷ rest = prefix_is file gate r.inside ∙ ap (λ (w : List ℕ). prefix ++ g ∷ w) e
+    ∙ sym (append_assoc prefix (g ∷ framed entry) (next ∷ rest)) in
+    let long : length (prefix ++ g ∷ framed entry) ≡ gate + (9 + length entry) = omega (arith, n, length-append prefix (g ∷ framed entry), length_framed entry) in
+    let taken : take (gate + (9 + length entry)) file ≡ prefix ++ g ∷ framed entry = ap
+    (λ (w : List ℕ). take (gate + (9 + length entry)) w) whole ∙ take_at (prefix ++ g ∷ framed entry) (next ∷ rest) (gate + (9 + length entry)) long in
     record {
-      opens = subst (Opens (entries ++ entry ∷ [])) (sym taken) (opens_more entries front g entry r.opens is_open is);
-      inside = omega (arith, long, ap length whole, length-append (front ++ g ∷ framed entry) (next ∷ rest));
+      opens = subst (Opens (entries ++ entry ∷ [])) (sym taken) (opens_more entries prefix g entry r.opens is_open is);
+      inside = omega (arith, long, ap length whole, length-append (prefix ++ g ∷ framed entry) (next ∷ rest));
     }
 
 pub closed_gate : (entries : List (List ℕ)) (gate : ℕ) (file : List ℕ) → Reads entries gate file → get_or file gate 0 ≡ 0 → IsParsed entries gate file
 closed_gate entries gate file r shut = record {
-  front = take gate file;
+  prefix = take gate file;
   opens = r.opens;
   gate_is = sym (length-take-le gate file (omega (arith, r.inside)));
-  whole = inr (drop (gate + 1) file, front_is file gate r.inside ∙ ap (λ (g : ℕ). take gate file ++ g ∷ drop (gate + 1) file) shut);
+  whole = inr (drop (gate + 1) file, prefix_is file gate r.inside ∙ ap (λ (g : ℕ). take gate file ++ g ∷ drop (gate + 1) file) shut);
 }
 
--- an open gate, behind which no record stands
+-- an open gate, after which no record stands
 pub broken_gate : (entries : List (List ℕ)) (gate : ℕ) (file : List ℕ) → 2 ≤ length file → Reads entries gate file
     → get_or file gate 0 ≢ 0 → ¬ HasRecord (drop (gate + 1) file) → ReadsAs (Damaged gate) file
 broken_gate entries gate file long r is_open none = (
   long,
   record {
     entries = entries;
-    front = take gate file;
+    prefix = take gate file;
     gate = get_or file gate 0;
     rest = drop (gate + 1) file;
     opens = r.opens;
-    place_is = sym (length-take-le gate file (omega (arith, r.inside)));
+    offset_is = sym (length-take-le gate file (omega (arith, r.inside)));
     is_open = is_open;
-    whole = front_is file gate r.inside;
+    whole = prefix_is file gate r.inside;
     none = none;
   },
 )
 
--- a front of bytes is bytes
+-- a prefix of bytes is bytes
 pub takes_fit : (n : ℕ) (bytes : List ℕ) → ((i : ℕ) → get_or bytes i 0 < 256) → (i : ℕ) → get_or (take n bytes) i 0 < 256
 takes_fit zero bytes fits i = omega arith
 takes_fit (suc n) [] fits i = omega arith

@@ -1,15 +1,15 @@
--- What stands at a gate, by its first nine bytes and the record behind them.
+-- What stands at a gate, by its first nine bytes and the record after them.
 use Rattle.std.proofs.Common.{◌≡◌, ◌≢◌, inl, inr, ℕ, suc, ◌+◌, ◌-◌, ◌≤◌, ◌<◌, ◌^◌, min, List, ◌∷◌, length, take, drop, get_or, Option, refl, sym, ap, ◌∙◌, subst, arith}
 use Rattle.std.specs.Int.{w64, from_be_bytes}
 use Rattle.std.specs.Prelude.{IfSome}
 use Rattle.std.proofs.lemmas.Bool.{cases_lt}
 use Rattle.std.proofs.lemmas.List.{drop-drop, drop_more, length-drop, length-take-le, take_all}
 use Rattle.ae_edge.specs.Devices.{WhereExposed}
-use Rattle.ae_edge.proofs.Interface.{told_map}
+use Rattle.ae_edge.proofs.Interface.{exposed_map}
 use Rattle.disk.specs.Crashes.{Stand}
 use Rattle.disk.specs.Moments.{Moments}
 use Rattle.disk.specs.declared.disks.Given.TheVariants as given
-use Rattle.disk.proofs.Interface.{told_after, told_from, told_from_then}
+use Rattle.disk.proofs.Interface.{exposed_after, exposed_from, exposed_from_then}
 use Rattle.journal_core.specs.Journals.{HasRecord}
 use Rattle.journal_core.specs.Records.{IsRecord}
 use Rattle.journal_core.specs.Reading.{HasEntryAt, HasLength, IsAt, IsHead, IsKeptTo, IsRecordAt, LacksLength, OpensWith, ReadsPart, ReadsRecord, Stands}
@@ -46,7 +46,7 @@ module _ (file : List ℕ) (gate last : ℕ) (reaches : length file ≡ last + 1
   length_rest : length rest ≡ last - gate
   length_rest = omega (arith, reaches, before, length-drop (gate + 1) file)
 
-  -- the bytes that were read are the gate and eight behind it, where there are so many
+  -- the bytes that were read are the gate and eight after it, where there are so many
   head_bytes : (count : ℕ) (bytes : List ℕ) → count ≡ min (last - gate) 8 + 1 → bytes ≡ take count (drop gate file) → bytes ≡ get_or file gate 0 ∷ take 8 rest
   head_bytes count bytes n is =
       let inside : gate < length file = omega (arith, reaches, before) in
@@ -79,7 +79,7 @@ module _ (file : List ℕ) (gate last : ℕ) (reaches : length file ≡ last + 1
     is_broken (inl none) = absurd (omega (arith, ap length is, ap length none))
     is_broken (inr o) = let p = open_of (LacksLength (last - gate)) o in (p.0, no_length p.1)
 
-    -- the record behind the length
+    -- the record after the length
     module _ (len : ℕ) (opens : IsHead (head.Open len) bytes (last - gate)) where
       has : (get_or file gate 0 ≢ 0) × HasLength len (last - gate) (take 8 rest)
       has = open_of (HasLength len (last - gate)) opens
@@ -104,54 +104,55 @@ module _ (file : List ℕ) (gate last : ℕ) (reaches : length file ≡ last + 1
 -- ---- where it is told
 
 module _ (gate last count : ℕ) (before : gate ≤ last) (n : count ≡ min (last - gate) 8 + 1) (bytes : List ℕ) where
-  told : (a b : Moments) → IsKeptTo last a → ReadsPart (given.Bytes bytes) gate count a b → bytes ≡ get_or a.now.seen gate 0 ∷ take 8 (drop (gate + 1) a.now.seen)
-  told a b k r = head_bytes a.now.seen gate last k.reaches before count bytes n r.0
+  exposed : (a b : Moments) → IsKeptTo last a → ReadsPart (given.Bytes bytes) gate count a b → bytes ≡ get_or a.now.seen gate 0 ∷ take 8 (drop (gate + 1) a.now.seen)
+  exposed a b k r = head_bytes a.now.seen gate last k.reaches before count bytes n r.0
 
-  pub closed_told : (behind : ℕ) → IsHead head.Closed bytes behind → (a b : Option Moments) → IfSome a (IsKeptTo last)
+  pub closed_exposed : (behind : ℕ) → IsHead head.Closed bytes behind → (a b : Option Moments) → IfSome a (IsKeptTo last)
       → WhereExposed (ReadsPart (given.Bytes bytes) gate count) a b → WhereExposed (Stands stood.Closed gate) a b
-  closed_told behind h = told_from (IsKeptTo last) (ReadsPart (given.Bytes bytes) gate count) (Stands stood.Closed gate)
-      (λ a b k r. (is_closed a.now.seen gate last k.reaches before bytes (told a b k r) behind h, r.1))
+  closed_exposed behind h = exposed_from (IsKeptTo last) (ReadsPart (given.Bytes bytes) gate count) (Stands stood.Closed gate)
+      (λ a b k r. (is_closed a.now.seen gate last k.reaches before bytes (exposed a b k r) behind h, r.1))
 
-  pub broken_told : IsHead head.Broken bytes (last - gate) → (a b : Option Moments) → IfSome a (IsKeptTo last)
+  pub broken_exposed : IsHead head.Broken bytes (last - gate) → (a b : Option Moments) → IfSome a (IsKeptTo last)
       → WhereExposed (ReadsPart (given.Bytes bytes) gate count) a b → WhereExposed (Stands stood.Broken gate) a b
-  broken_told h = told_from (IsKeptTo last) (ReadsPart (given.Bytes bytes) gate count) (Stands stood.Broken gate)
-      (λ a b k r. (is_broken a.now.seen gate last k.reaches before bytes (told a b k r) h, r.1))
+  broken_exposed h = exposed_from (IsKeptTo last) (ReadsPart (given.Bytes bytes) gate count) (Stands stood.Broken gate)
+      (λ a b k r. (is_broken a.now.seen gate last k.reaches before bytes (exposed a b k r) h, r.1))
 
-  pub open_told : (len : ℕ) → IsHead (head.Open len) bytes (last - gate) → len < 2 ^ 64 → (result : Stood) (a b c : Option Moments) → IfSome a (IsKeptTo last)
+  pub open_exposed : (len : ℕ) → IsHead (head.Open len) bytes (last - gate) → len < 2 ^ 64 → (result : Stood) (a b c : Option Moments) → IfSome a (IsKeptTo last)
       → WhereExposed (ReadsPart (given.Bytes bytes) gate count) a b → WhereExposed (ReadsRecord result (gate + 9) len) b c → WhereExposed (Stands result gate) a c
-  open_told len h fits result = told_from_then (IsKeptTo last) (ReadsPart (given.Bytes bytes) gate count) (ReadsRecord result (gate + 9) len) (Stands result gate)
+  open_exposed len h fits result = exposed_from_then (IsKeptTo last) (ReadsPart (given.Bytes bytes) gate count) (ReadsRecord result (gate + 9) len) (Stands result gate)
       (λ a b c k r q. (
-        at_gate a.now.seen gate last k.reaches before bytes (told a b k r) len h fits result (subst (λ (s : Stand). IsRecordAt result (gate + 9) len s.seen) r.1.now q.0),
+        at_gate a.now.seen gate last k.reaches before bytes (exposed a b k r) len h fits result (subst (λ (s : Stand). IsRecordAt result (gate + 9) len s.seen) r.1.now q.0),
         stays_then a b c r.1 q.1,
       ))
 
 -- the disk is as it was before a part was read
-pub part_kept_told : (last at len : ℕ) (bytes : List ℕ) (a b : Option Moments) → IfSome a (IsKeptTo last) → WhereExposed (ReadsPart (given.Bytes bytes) at len) a b → IfSome b (IsKeptTo last)
-part_kept_told last at len bytes = told_after (IsKeptTo last) (ReadsPart (given.Bytes bytes) at len) (IsKeptTo last)
+pub part_kept_exposed : (last at len : ℕ) (bytes : List ℕ) (a b : Option Moments) → IfSome a (IsKeptTo last) → WhereExposed (ReadsPart (given.Bytes bytes) at len) a b → IfSome b (IsKeptTo last)
+part_kept_exposed last at len bytes = exposed_after (IsKeptTo last) (ReadsPart (given.Bytes bytes) at len) (IsKeptTo last)
     (λ a b k r. record { kept = kept_then a b k.kept r.1; reaches = ap (λ (s : Stand). length s.seen) r.1.now ∙ k.reaches })
 
 -- ---- a part that may be a record
 
-pub is_told : (at len : ℕ) (entry : List ℕ) (a b : Option Moments) → IsRecord entry → WhereExposed (ReadsPart (given.Bytes entry) at len) a b → WhereExposed (ReadsRecord (stood.Open entry) at len) a b
-is_told at len entry a b is = told_map (ReadsPart (given.Bytes entry) at len) (ReadsRecord (stood.Open entry) at len) (λ x y r. ((is, r.0), r.1)) a b
+pub is_exposed : (at len : ℕ) (entry : List ℕ) (a b : Option Moments) → IsRecord entry → WhereExposed (ReadsPart (given.Bytes entry) at len) a b
+    → WhereExposed (ReadsRecord (stood.Open entry) at len) a b
+is_exposed at len entry a b is = exposed_map (ReadsPart (given.Bytes entry) at len) (ReadsRecord (stood.Open entry) at len) (λ x y r. ((is, r.0), r.1)) a b
 
-pub isnt_told : (at len : ℕ) (entry : List ℕ) (a b : Option Moments) → (IsRecord entry → ⊥)
+pub isnt_exposed : (at len : ℕ) (entry : List ℕ) (a b : Option Moments) → (IsRecord entry → ⊥)
     → WhereExposed (ReadsPart (given.Bytes entry) at len) a b → WhereExposed (ReadsRecord stood.Broken at len) a b
-isnt_told at len entry a b other = told_map (ReadsPart (given.Bytes entry) at len) (ReadsRecord stood.Broken at len) (λ x y r. ((λ p. other (subst IsRecord (sym r.0) p)), r.1)) a b
+isnt_exposed at len entry a b other = exposed_map (ReadsPart (given.Bytes entry) at len) (ReadsRecord stood.Broken at len) (λ x y r. ((λ p. other (subst IsRecord (sym r.0) p)), r.1)) a b
 
-pub unheld_told : (at len : ℕ) (entry : List ℕ) (a b : Option Moments) → WhereExposed (ReadsPart (given.Bytes entry) at len) a b → WhereExposed (ReadsRecord stood.OutOfMemory at len) a b
-unheld_told at len entry = told_map (ReadsPart (given.Bytes entry) at len) (ReadsRecord stood.OutOfMemory at len) (λ x y r. (tt, r.1))
+pub unheld_exposed : (at len : ℕ) (entry : List ℕ) (a b : Option Moments) → WhereExposed (ReadsPart (given.Bytes entry) at len) a b → WhereExposed (ReadsRecord stood.OutOfMemory at len) a b
+unheld_exposed at len entry = exposed_map (ReadsPart (given.Bytes entry) at len) (ReadsRecord stood.OutOfMemory at len) (λ x y r. (tt, r.1))
 
-pub lost_told : (at len : ℕ) (a b : Option Moments) → WhereExposed (ReadsPart given.Failed at len) a b → WhereExposed (ReadsRecord stood.Failed at len) a b
-lost_told at len = told_map (ReadsPart given.Failed at len) (ReadsRecord stood.Failed at len) (λ x y r. (tt, r))
+pub lost_exposed : (at len : ℕ) (a b : Option Moments) → WhereExposed (ReadsPart given.Failed at len) a b → WhereExposed (ReadsRecord stood.Failed at len) a b
+lost_exposed at len = exposed_map (ReadsPart given.Failed at len) (ReadsRecord stood.Failed at len) (λ x y r. (tt, r))
 
-pub unread_told : (at len : ℕ) (a b : Option Moments) → WhereExposed (ReadsPart given.OutOfMemory at len) a b → WhereExposed (ReadsRecord stood.OutOfMemory at len) a b
-unread_told at len = told_map (ReadsPart given.OutOfMemory at len) (ReadsRecord stood.OutOfMemory at len) (λ x y r. (tt, r))
+pub unread_exposed : (at len : ℕ) (a b : Option Moments) → WhereExposed (ReadsPart given.OutOfMemory at len) a b → WhereExposed (ReadsRecord stood.OutOfMemory at len) a b
+unread_exposed at len = exposed_map (ReadsPart given.OutOfMemory at len) (ReadsRecord stood.OutOfMemory at len) (λ x y r. (tt, r))
 
 -- ---- a gate that couldn't be read
 
-pub gate_lost_told : (gate len : ℕ) (a b : Option Moments) → WhereExposed (ReadsPart given.Failed gate len) a b → WhereExposed (Stands stood.Failed gate) a b
-gate_lost_told gate len = told_map (ReadsPart given.Failed gate len) (Stands stood.Failed gate) (λ x y r. (tt, r))
+pub gate_lost_exposed : (gate len : ℕ) (a b : Option Moments) → WhereExposed (ReadsPart given.Failed gate len) a b → WhereExposed (Stands stood.Failed gate) a b
+gate_lost_exposed gate len = exposed_map (ReadsPart given.Failed gate len) (Stands stood.Failed gate) (λ x y r. (tt, r))
 
-pub gate_unread_told : (gate len : ℕ) (a b : Option Moments) → WhereExposed (ReadsPart given.OutOfMemory gate len) a b → WhereExposed (Stands stood.OutOfMemory gate) a b
-gate_unread_told gate len = told_map (ReadsPart given.OutOfMemory gate len) (Stands stood.OutOfMemory gate) (λ x y r. (tt, r))
+pub gate_unread_exposed : (gate len : ℕ) (a b : Option Moments) → WhereExposed (ReadsPart given.OutOfMemory gate len) a b → WhereExposed (Stands stood.OutOfMemory gate) a b
+gate_unread_exposed gate len = exposed_map (ReadsPart given.OutOfMemory gate len) (Stands stood.OutOfMemory gate) (λ x y r. (tt, r))

@@ -4,7 +4,7 @@
 pub use Rattle.journal_core.proofs.Readings.{one_reading}
 -- What a mounted journal is for a disk; at a disk whose file is on it a crash leaves what reads give.
 pub use Rattle.journal_core.proofs.Appending.{kept_leaves, mounted_kept}
--- The records behind open gates are read, whatever follows the closed one.
+-- The records after open gates are read, whatever follows the closed one.
 pub use Rattle.journal_core.proofs.Crash.{end_reads}
 -- A disk that stands as it stood.
 pub use Rattle.journal_core.proofs.Parts.{stays_same, stays_then}

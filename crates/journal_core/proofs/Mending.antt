@@ -10,34 +10,34 @@ use Rattle.disk.specs.Moments.{Moments, Leaves}
 use Rattle.disk.specs.Durable.{Torn, WritesThrough, CutsThrough, StaysKept}
 use Rattle.disk.specs.declared.disks.Stored.{Stored}
 use Rattle.disk.specs.declared.disks.Stored.TheVariants as stored
-use Rattle.disk.proofs.Interface.{cut_before, leaves_weaker, sync_kept, told_from}
+use Rattle.disk.proofs.Interface.{cut_before, leaves_weaker, sync_kept, exposed_from}
 use Rattle.journal_core.specs.Journals.{Opens, Records, ReadsAs}
 use Rattle.journal_core.specs.Appends.{EndsAt}
 use Rattle.journal_core.specs.Scanning.{IsParsed}
 use Rattle.journal_core.specs.Settling.{Repairs, RepairsSeen}
 use Rattle.journal_core.specs.Reading.{IsKeptTo}
-use Rattle.journal_core.proofs.Crash.{closed_front, end_reads}
+use Rattle.journal_core.proofs.Crash.{closed_prefix, end_reads}
 
 -- what is left of the file
-ends_left : (gate : ℕ) (entries : List (List ℕ)) (file : List ℕ) (b : Moments) (e : EndsAt gate entries b) → take gate file ≡ e.front → b.now.seen ≡ take gate file ++ 0 ∷ []
+ends_left : (gate : ℕ) (entries : List (List ℕ)) (file : List ℕ) (b : Moments) (e : EndsAt gate entries b) → take gate file ≡ e.prefix → b.now.seen ≡ take gate file ++ 0 ∷ []
 ends_left gate entries file b e is = ap (λ (s : Stand). s.seen) e.now ∙ ap (λ (w : List ℕ). w ++ 0 ∷ []) (sym is)
 
 -- nothing before a gate is no record
-pub none_open : (entries : List (List ℕ)) (front : List ℕ) → Opens entries front → front ≡ [] → entries ≡ []
-none_open [] front opens none = refl
-none_open (e ∷ entries) front opens none = absurd (omega (arith, ap length none, ap length opens.1.whole))
+pub none_open : (entries : List (List ℕ)) (prefix : List ℕ) → Opens entries prefix → prefix ≡ [] → entries ≡ []
+none_open [] prefix opens none = refl
+none_open (e ∷ entries) prefix opens none = absurd (omega (arith, ap length none, ap length opens.1.whole))
 
 -- a file of at most one byte whose gate isn't closed
 lacking : (entries : List (List ℕ)) (gate : ℕ) (file : List ℕ) → IsParsed entries gate file → length file ≤ 1 → file ≢ 0 ∷ [] → (entries ≡ []) × (gate ≡ 0)
 lacking entries gate file p short lacks = elim p.whole [
-  | inl q ↦ (none_open entries p.front p.opens q.1, p.gate_is ∙ ap length q.1)
-  | inr q ↦ absurd (lacks (only p.front q.0 q.1))
+  | inl q ↦ (none_open entries p.prefix p.opens q.1, p.gate_is ∙ ap length q.1)
+  | inr q ↦ absurd (lacks (only p.prefix q.0 q.1))
 ]
   where
-    only : (front rest : List ℕ) → file ≡ front ++ 0 ∷ rest → file ≡ 0 ∷ []
+    only : (prefix rest : List ℕ) → file ≡ prefix ++ 0 ∷ rest → file ≡ 0 ∷ []
     only [] [] e = e
     only [] (x ∷ rest) e = absurd (omega (arith, short, ap length e))
-    only (x ∷ front) rest e = absurd (omega (arith, short, ap length e, length-append front (0 ∷ rest)))
+    only (x ∷ prefix) rest e = absurd (omega (arith, short, ap length e, length-append prefix (0 ∷ rest)))
 
 module _ (file : List ℕ) (gate : ℕ) (short : length file ≤ 1) (lacks : file ≢ 0 ∷ []) where
   short_moments : (entries : List (List ℕ)) (a b : Moments) → a.now ≡ kept file → IsParsed entries gate file → Leaves (Torn a.now.seen (Range 0 1)) a b → Leaves (ReadsAs (Records entries)) a b
@@ -50,7 +50,7 @@ module _ (file : List ℕ) (gate : ℕ) (short : length file ≤ 1) (lacks : fil
   short_ends entries a b k p now =
       let none = lacking entries gate file p short lacks in
       record {
-        front = [];
+        prefix = [];
         opens = subst (λ (es : List (List ℕ)). Opens es []) (sym none.0) refl;
         gate_is = none.1;
         now = now ∙ ap (λ (s : Stand). kept (written s.seen 0 (0 ∷ []))) k ∙ ap (λ (w : List ℕ). kept (0 ∷ w)) (drop_all 1 file short);
@@ -68,37 +68,38 @@ module _ (file : List ℕ) (gate : ℕ) (short : length file ≤ 1) (lacks : fil
   mend_short stored.Failed a b k w = λ entries p. short_moments entries a b k p w
   mend_short stored.OutOfMemory a b k w = λ entries p. short_moments entries a b k p w
 
-  pub mend_short_told : (result : Stored) (a b : Option Moments) → IfSome a (λ d. d.now ≡ kept file) → WhereExposed (WritesThrough result 0 (0 ∷ [])) a b → WhereExposed (Repairs result gate file) a b
-  mend_short_told result = told_from (λ d. d.now ≡ kept file) (WritesThrough result 0 (0 ∷ [])) (Repairs result gate file) (mend_short result)
+  pub mend_short_exposed : (result : Stored) (a b : Option Moments) → IfSome a (λ d. d.now ≡ kept file) → WhereExposed (WritesThrough result 0 (0 ∷ [])) a b
+      → WhereExposed (Repairs result gate file) a b
+  mend_short_exposed result = exposed_from (λ d. d.now ≡ kept file) (WritesThrough result 0 (0 ∷ [])) (Repairs result gate file) (mend_short result)
 
--- more bytes behind the gate
+-- more bytes after the gate
 module _ (file : List ℕ) (gate : ℕ) (more : gate + 1 < length file) where
-  long_front : (entries : List (List ℕ)) (p : IsParsed entries gate file) → (take (gate + 1) file ≡ p.front ++ 0 ∷ []) × (gate ≡ length p.front)
-  long_front entries p = elim p.whole [
+  long_prefix : (entries : List (List ℕ)) (p : IsParsed entries gate file) → (take (gate + 1) file ≡ p.prefix ++ 0 ∷ []) × (gate ≡ length p.prefix)
+  long_prefix entries p = elim p.whole [
     | inl q ↦ absurd (omega (arith, more, q.0))
     | inr q ↦ (
-      ap (λ (w : List ℕ). take (gate + 1) w) (q.1 ∙ sym (append_assoc p.front (0 ∷ []) q.0)) ∙ take_at
-          (p.front ++ 0 ∷ []) q.0 (gate + 1) (omega (arith, p.gate_is, length-append p.front (0 ∷ []))),
+      ap (λ (w : List ℕ). take (gate + 1) w) (q.1 ∙ sym (append_assoc p.prefix (0 ∷ []) q.0)) ∙ take_at
+          (p.prefix ++ 0 ∷ []) q.0 (gate + 1) (omega (arith, p.gate_is, length-append p.prefix (0 ∷ []))),
       p.gate_is,
     )
   ]
 
-  long_before : (entries : List (List ℕ)) (p : IsParsed entries gate file) → take gate file ≡ p.front
+  long_before : (entries : List (List ℕ)) (p : IsParsed entries gate file) → take gate file ≡ p.prefix
   long_before entries p = elim p.whole [
     | inl q ↦ absurd (omega (arith, more, q.0))
-    | inr q ↦ ap (λ (w : List ℕ). take gate w) q.1 ∙ take_at p.front (0 ∷ q.0) gate (sym p.gate_is)
+    | inr q ↦ ap (λ (w : List ℕ). take gate w) q.1 ∙ take_at p.prefix (0 ∷ q.0) gate (sym p.gate_is)
   ]
 
   cut_moments : (entries : List (List ℕ)) (a b : Moments) → a.now ≡ kept file → IsParsed entries gate file → Leaves (Torn a.now.seen (Length (gate + 1))) a b → Leaves (ReadsAs (Records entries)) a b
   cut_moments entries a b k p w =
       leaves_weaker (Torn a.now.seen (Length (gate + 1))) (ReadsAs (Records entries)) a b (λ image torn.
       let there : Torn file (Length (gate + 1)) image = subst (λ (s : Stand). Torn s.seen (Length (gate + 1)) image) k torn in
-      let f = long_front entries p in
-      closed_front entries p.front image p.opens (ap (λ (n : ℕ). take (n + 1) image) (sym f.1) ∙ cut_before file (gate + 1) image (omega (arith, more)) there ∙ f.0)) w
+      let f = long_prefix entries p in
+      closed_prefix entries p.prefix image p.opens (ap (λ (n : ℕ). take (n + 1) image) (sym f.1) ∙ cut_before file (gate + 1) image (omega (arith, more)) there ∙ f.0)) w
 
   cut_ends : (entries : List (List ℕ)) (a b : Moments) → a.now ≡ kept file → IsParsed entries gate file → b.now ≡ kept (take (gate + 1) a.now.seen) → EndsAt gate entries b
   cut_ends entries a b k p now =
-      record { front = p.front; opens = p.opens; gate_is = p.gate_is; now = now ∙ ap (λ (s : Stand). kept (take (gate + 1) s.seen)) k ∙ ap kept (long_front entries p).0 }
+      record { prefix = p.prefix; opens = p.opens; gate_is = p.gate_is; now = now ∙ ap (λ (s : Stand). kept (take (gate + 1) s.seen)) k ∙ ap kept (long_prefix entries p).0 }
 
   mend_long : (result : Stored) (a b : Moments) → a.now ≡ kept file → CutsThrough result (gate + 1) a b → Repairs result gate file a b
   unfolding cut_ends
@@ -108,9 +109,9 @@ module _ (file : List ℕ) (gate : ℕ) (more : gate + 1 < length file) where
   mend_long stored.Failed a b k w = λ entries p. cut_moments entries a b k p w
   mend_long stored.OutOfMemory a b k w = λ entries p. cut_moments entries a b k p w
 
-pub mend_long_told : (last gate : ℕ) → gate < last → (result : Stored) (a b : Option Moments) → IfSome a (IsKeptTo last)
+pub mend_long_exposed : (last gate : ℕ) → gate < last → (result : Stored) (a b : Option Moments) → IfSome a (IsKeptTo last)
     → WhereExposed (CutsThrough result (gate + 1)) a b → WhereExposed (RepairsSeen result gate) a b
-mend_long_told last gate more result = told_from (IsKeptTo last) (CutsThrough result (gate + 1)) (RepairsSeen result gate)
+mend_long_exposed last gate more result = exposed_from (IsKeptTo last) (CutsThrough result (gate + 1)) (RepairsSeen result gate)
     (λ a b k w. mend_long a.now.seen gate (omega (arith, more, k.reaches)) result a b k.kept w)
 
 -- the gate is the end of the file
@@ -126,10 +127,10 @@ not_lacking (x ∷ []) short has = elim (cases_eq x 0) [
 not_lacking (x ∷ y ∷ file) short has = absurd (omega (arith, short))
 
 module _ (file : List ℕ) (gate : ℕ) (has : (length file ≤ 1) × (file ≢ 0 ∷ []) → ⊥) (none : length file ≤ gate + 1) where
-  whole_front : (entries : List (List ℕ)) (p : IsParsed entries gate file) → file ≡ p.front ++ 0 ∷ []
-  whole_front entries p = elim p.whole [
+  whole_prefix : (entries : List (List ℕ)) (p : IsParsed entries gate file) → file ≡ p.prefix ++ 0 ∷ []
+  whole_prefix entries p = elim p.whole [
     | inl q ↦ not_lacking file q.0 has ∙ ap (λ (w : List ℕ). w ++ 0 ∷ []) (sym q.1)
-    | inr q ↦ q.1 ∙ ap (λ (w : List ℕ). p.front ++ 0 ∷ w) (nothing q.0 (omega (arith, none, p.gate_is, ap length q.1, length-append p.front (0 ∷ q.0))))
+    | inr q ↦ q.1 ∙ ap (λ (w : List ℕ). p.prefix ++ 0 ∷ w) (nothing q.0 (omega (arith, none, p.gate_is, ap length q.1, length-append p.prefix (0 ∷ q.0))))
   ]
     where
       nothing : (rest : List ℕ) → length rest ≤ 0 → rest ≡ []
@@ -139,10 +140,10 @@ module _ (file : List ℕ) (gate : ℕ) (has : (length file ≤ 1) × (file ≢ 
   end_moments : (entries : List (List ℕ)) (a b : Moments) → a.now ≡ kept file → IsParsed entries gate file → StaysKept a b → Leaves (ReadsAs (Records entries)) a b
   end_moments entries a b k p s =
       leaves_weaker (λ image. image ≡ a.now.seen) (ReadsAs (Records entries)) a b (λ image is.
-      subst (ReadsAs (Records entries)) (sym (is ∙ ap (λ (w : Stand). w.seen) k ∙ whole_front entries p)) (end_reads entries p.front p.opens)) s.moments
+      subst (ReadsAs (Records entries)) (sym (is ∙ ap (λ (w : Stand). w.seen) k ∙ whole_prefix entries p)) (end_reads entries p.prefix p.opens)) s.moments
 
   end_ends : (entries : List (List ℕ)) (a b : Moments) → a.now ≡ kept file → IsParsed entries gate file → StaysKept a b → EndsAt gate entries b
-  end_ends entries a b k p s = record { front = p.front; opens = p.opens; gate_is = p.gate_is; now = s.now ∙ k ∙ ap kept (whole_front entries p) }
+  end_ends entries a b k p s = record { prefix = p.prefix; opens = p.opens; gate_is = p.gate_is; now = s.now ∙ k ∙ ap kept (whole_prefix entries p) }
 
   mend_end : (result : Stored) (a b : Moments) → a.now ≡ kept file → Syncs result a b → Repairs result gate file a b
   unfolding end_ends
@@ -150,7 +151,7 @@ module _ (file : List ℕ) (gate : ℕ) (has : (length file ≤ 1) × (file ≢ 
       let s = sync_kept stored.Done a b (k ∙ ap (λ (w : Stand). kept w.seen) (sym k)) y in
       λ entries p.
       let ends = end_ends entries a b k p s in
-      let before = ap (λ (w : List ℕ). take gate w) (whole_front entries p) ∙ take_at p.front (0 ∷ []) gate (sym p.gate_is) in
+      let before = ap (λ (w : List ℕ). take gate w) (whole_prefix entries p) ∙ take_at p.prefix (0 ∷ []) gate (sym p.gate_is) in
       record { moments = end_moments entries a b k p s; ends = ends; left = ends_left gate entries file b ends before }
   mend_end stored.Failed a b k y =
       let s = sync_kept stored.Failed a b (k ∙ ap (λ (w : Stand). kept w.seen) (sym k)) y in
@@ -159,10 +160,10 @@ module _ (file : List ℕ) (gate : ℕ) (has : (length file ≤ 1) × (file ≢ 
       let s = sync_kept stored.OutOfMemory a b (k ∙ ap (λ (w : Stand). kept w.seen) (sym k)) y in
       λ entries p. end_moments entries a b k p s
 
-  pub mend_end_told : (result : Stored) (a b : Option Moments) → IfSome a (λ d. d.now ≡ kept file) → WhereExposed (Syncs result) a b → WhereExposed (Repairs result gate file) a b
-  mend_end_told result = told_from (λ d. d.now ≡ kept file) (Syncs result) (Repairs result gate file) (mend_end result)
+  pub mend_end_exposed : (result : Stored) (a b : Option Moments) → IfSome a (λ d. d.now ≡ kept file) → WhereExposed (Syncs result) a b → WhereExposed (Repairs result gate file) a b
+  mend_end_exposed result = exposed_from (λ d. d.now ≡ kept file) (Syncs result) (Repairs result gate file) (mend_end result)
 
-pub mend_last_told : (last gate : ℕ) → last ≤ gate → 1 ≤ last → (result : Stored) (a b : Option Moments)
+pub mend_last_exposed : (last gate : ℕ) → last ≤ gate → 1 ≤ last → (result : Stored) (a b : Option Moments)
     → IfSome a (IsKeptTo last) → WhereExposed (Syncs result) a b → WhereExposed (RepairsSeen result gate) a b
-mend_last_told last gate none long result = told_from (IsKeptTo last) (Syncs result) (RepairsSeen result gate)
+mend_last_exposed last gate none long result = exposed_from (IsKeptTo last) (Syncs result) (RepairsSeen result gate)
     (λ a b k y. mend_end a.now.seen gate (λ has. absurd (omega (arith, has.0, long, k.reaches))) (omega (arith, none, k.reaches)) result a b k.kept y)

@@ -4,7 +4,7 @@ use Rattle.std.specs.Prelude.{IfSome}
 use Rattle.std.proofs.lemmas.List.{take_all, drop-drop, length-drop}
 use Rattle.std.proofs.Math.Seq.{take-add}
 use Rattle.ae_edge.specs.Devices.{WhereExposed}
-use Rattle.ae_edge.proofs.Interface.{told_then}
+use Rattle.ae_edge.proofs.Interface.{exposed_then}
 use Rattle.disk.specs.Calls.{Gives, IsPart, Measures}
 use Rattle.disk.specs.Crashes.{Stand, kept}
 use Rattle.disk.specs.Durable.{IsKept, StaysKept}
@@ -12,7 +12,7 @@ use Rattle.disk.specs.Moments.{Moments, Passes, NoCall}
 use Rattle.disk.specs.declared.disks.Given.TheVariants as given
 use Rattle.disk.specs.declared.disks.Measured.TheVariants as measured
 use Rattle.disk.specs.declared.disks.Stored.TheVariants as stored
-use Rattle.disk.proofs.Interface.{leaves_pass, leaves_then, leaves_weaker, sync_kept, syncs_pass, syncs_then, told_from}
+use Rattle.disk.proofs.Interface.{leaves_pass, leaves_then, leaves_weaker, sync_kept, syncs_pass, syncs_then, exposed_from}
 use Rattle.journal_core.specs.Reading.{ReadsPart}
 use Rattle.journal_core.proofs.Appending.{kept_leaves}
 
@@ -44,31 +44,31 @@ stays_pass Q a b k q e = record {
 
 -- ---- a part
 
--- the bytes read so far stand from a place on, and the disk stands as it stood
+-- the bytes read so far stand from an offset on, and the disk stands as it stood
 pub record HasPart (at : ℕ) (bytes : List ℕ) (old now : Moments) : Type 0 where
-  pub front : bytes ≡ take (length bytes) (drop at old.now.seen)
+  pub prefix : bytes ≡ take (length bytes) (drop at old.now.seen)
   pub kept : IsKept old
   pub stays : StaysKept old now
 
 longer : (at : ℕ) (bytes part file : List ℕ) → bytes ≡ take (length bytes) (drop at file)
     → part ≡ take (length part) (drop (at + length bytes) file) → bytes ++ part ≡ take (length (bytes ++ part)) (drop at file)
-longer at bytes part file front is =
+longer at bytes part file prefix is =
     let behind : part ≡ take (length part) (drop (length bytes) (drop at file)) = is ∙ ap (take (length part)) (sym (drop-drop (length bytes) at file)) in
-    (λ i. front i ++ behind i) ∙ sym (take-add (length bytes) (length part) (drop at file)) ∙ ap (λ (n : ℕ). take n (drop at file)) (sym (length-append bytes part))
+    (λ i. prefix i ++ behind i) ∙ sym (take-add (length bytes) (length part) (drop at file)) ∙ ap (λ (n : ℕ). take n (drop at file)) (sym (length-append bytes part))
 
 part_stays : (at : ℕ) (part : List ℕ) (a b : Moments) → IsKept a → Gives at (given.Bytes part) a b → StaysKept a b
 part_stays at part a b k r = stays_pass (λ before after. (after ≡ before) × IsPart at part before.seen) a b k r r.here.0
 
 read_on : (at : ℕ) (part bytes : List ℕ) (a b c : Moments) → HasPart at bytes a b → Gives (at + length bytes) (given.Bytes part) b c → HasPart at (bytes ++ part) a c
 read_on at part bytes a b c h r = record {
-  front = longer at bytes part a.now.seen h.front (subst (λ (s : Stand). part ≡ take (length part) (drop (at + length bytes) s.seen)) h.stays.now r.here.1.is);
+  prefix = longer at bytes part a.now.seen h.prefix (subst (λ (s : Stand). part ≡ take (length part) (drop (at + length bytes) s.seen)) h.stays.now r.here.1.is);
   kept = h.kept;
   stays = stays_then a b c h.stays (part_stays (at + length bytes) part b c (kept_then a b h.kept h.stays) r);
 }
 
 -- as many as were asked for
 read_whole : (at len : ℕ) (bytes : List ℕ) (a b : Moments) → length bytes ≡ len → HasPart at bytes a b → ReadsPart (given.Bytes bytes) at len a b
-read_whole at len bytes a b e h = (h.front ∙ ap (λ (n : ℕ). take n (drop at a.now.seen)) e, h.stays)
+read_whole at len bytes a b e h = (h.prefix ∙ ap (λ (n : ℕ). take n (drop at a.now.seen)) e, h.stays)
 
 not_less : (m n : ℕ) → (m < n → ⊥) → n ≤ m
 not_less m n none = grind arith
@@ -80,7 +80,7 @@ read_end at len part bytes a b c few none h r =
     let some : at + length bytes < length a.now.seen → 0 < length part = subst (λ (s : Stand). at + length bytes < length s.seen → 0 < length part) h.stays.now r.here.1.some in
     let past : length a.now.seen ≤ at + length bytes = not_less (at + length bytes) (length a.now.seen) (λ less. absurd (omega (arith, some less, none))) in
     let short : length (drop at a.now.seen) ≤ length bytes = omega (arith, past, length-drop at a.now.seen) in
-    let all : bytes ≡ drop at a.now.seen = h.front ∙ take_all (length bytes) (drop at a.now.seen) short in
+    let all : bytes ≡ drop at a.now.seen = h.prefix ∙ take_all (length bytes) (drop at a.now.seen) short in
     (all ∙ sym (take_all len (drop at a.now.seen) (omega (arith, short, few))), (read_on at part bytes a b c h r).stays)
 
 read_failed : (at len : ℕ) (bytes : List ℕ) (a b c : Moments) → HasPart at bytes a b → Gives (at + length bytes) given.Failed b c → ReadsPart given.Failed at len a c
@@ -88,40 +88,40 @@ read_failed at len bytes a b c h r = stays_then a b c h.stays (sync_kept stored.
 
 -- ---- where it is told
 
-pub read_none_told : (at : ℕ) (a : Option Moments) → IfSome a IsKept → WhereExposed (HasPart at []) a a
-read_none_told at (Some a) k = record { front = refl; kept = k; stays = stays_same a k }
-read_none_told at None k = tt
+pub read_none_exposed : (at : ℕ) (a : Option Moments) → IfSome a IsKept → WhereExposed (HasPart at []) a a
+read_none_exposed at (Some a) k = record { prefix = refl; kept = k; stays = stays_same a k }
+read_none_exposed at None k = tt
 
-pub read_on_told : (at : ℕ) (part bytes : List ℕ) (a b c : Option Moments) → WhereExposed (HasPart at bytes) a b
+pub read_on_exposed : (at : ℕ) (part bytes : List ℕ) (a b c : Option Moments) → WhereExposed (HasPart at bytes) a b
     → WhereExposed (Gives (at + length bytes) (given.Bytes part)) b c → WhereExposed (HasPart at (bytes ++ part)) a c
-read_on_told at part bytes = told_then (HasPart at bytes) (Gives (at + length bytes) (given.Bytes part)) (HasPart at (bytes ++ part)) (read_on at part bytes)
+read_on_exposed at part bytes = exposed_then (HasPart at bytes) (Gives (at + length bytes) (given.Bytes part)) (HasPart at (bytes ++ part)) (read_on at part bytes)
 
-pub read_whole_told : (at len : ℕ) (bytes : List ℕ) (a b : Option Moments) → length bytes ≡ len → WhereExposed (HasPart at bytes) a b → WhereExposed (ReadsPart (given.Bytes bytes) at len) a b
-read_whole_told at len bytes (Some a) (Some b) e h = read_whole at len bytes a b e h
-read_whole_told at len bytes None None e h = tt
-read_whole_told at len bytes (Some a) None e h = absurd h
-read_whole_told at len bytes None (Some b) e h = absurd h
+pub read_whole_exposed : (at len : ℕ) (bytes : List ℕ) (a b : Option Moments) → length bytes ≡ len → WhereExposed (HasPart at bytes) a b → WhereExposed (ReadsPart (given.Bytes bytes) at len) a b
+read_whole_exposed at len bytes (Some a) (Some b) e h = read_whole at len bytes a b e h
+read_whole_exposed at len bytes None None e h = tt
+read_whole_exposed at len bytes (Some a) None e h = absurd h
+read_whole_exposed at len bytes None (Some b) e h = absurd h
 
-pub read_end_told : (at len : ℕ) (part bytes : List ℕ) (a b c : Option Moments) → length bytes ≤ len → length part ≡ 0
+pub read_end_exposed : (at len : ℕ) (part bytes : List ℕ) (a b c : Option Moments) → length bytes ≤ len → length part ≡ 0
     → WhereExposed (HasPart at bytes) a b → WhereExposed (Gives (at + length bytes) (given.Bytes part)) b c
     → WhereExposed (ReadsPart (given.Bytes bytes) at len) a c
-read_end_told at len part bytes a b c few none h r =
-    told_then (HasPart at bytes) (Gives (at + length bytes) (given.Bytes part)) (ReadsPart (given.Bytes bytes) at len) (λ x y z p q. read_end at len part bytes x y z few none p q) a b c h r
+read_end_exposed at len part bytes a b c few none h r =
+    exposed_then (HasPart at bytes) (Gives (at + length bytes) (given.Bytes part)) (ReadsPart (given.Bytes bytes) at len) (λ x y z p q. read_end at len part bytes x y z few none p q) a b c h r
 
-pub read_failed_told : (at len : ℕ) (bytes : List ℕ) (a b c : Option Moments) → WhereExposed (HasPart at bytes) a b
+pub read_failed_exposed : (at len : ℕ) (bytes : List ℕ) (a b c : Option Moments) → WhereExposed (HasPart at bytes) a b
     → WhereExposed (Gives (at + length bytes) given.Failed) b c → WhereExposed (ReadsPart given.Failed at len) a c
-read_failed_told at len bytes = told_then (HasPart at bytes) (Gives (at + length bytes) given.Failed) (ReadsPart given.Failed at len) (read_failed at len bytes)
+read_failed_exposed at len bytes = exposed_then (HasPart at bytes) (Gives (at + length bytes) given.Failed) (ReadsPart given.Failed at len) (read_failed at len bytes)
 
--- without memory, before a call or for what came
-pub read_stopped_told : (at len : ℕ) (part bytes : List ℕ) (a b c : Option Moments) → WhereExposed (HasPart at bytes) a b → WhereExposed (Gives (at + length bytes) (given.Bytes part)) b c
+-- out of memory, before a call or for what came
+pub read_stopped_exposed : (at len : ℕ) (part bytes : List ℕ) (a b c : Option Moments) → WhereExposed (HasPart at bytes) a b → WhereExposed (Gives (at + length bytes) (given.Bytes part)) b c
     → WhereExposed (ReadsPart given.OutOfMemory at len) a c
-read_stopped_told at len part bytes =
-    told_then (HasPart at bytes) (Gives (at + length bytes) (given.Bytes part)) (ReadsPart given.OutOfMemory at len) (λ x y z h r. (read_on at part bytes x y z h r).stays)
+read_stopped_exposed at len part bytes =
+    exposed_then (HasPart at bytes) (Gives (at + length bytes) (given.Bytes part)) (ReadsPart given.OutOfMemory at len) (λ x y z h r. (read_on at part bytes x y z h r).stays)
 
-pub read_unasked_told : (at len : ℕ) (bytes : List ℕ) (a b c : Option Moments) → WhereExposed (HasPart at bytes) a b
+pub read_unasked_exposed : (at len : ℕ) (bytes : List ℕ) (a b c : Option Moments) → WhereExposed (HasPart at bytes) a b
     → WhereExposed (Gives (at + length bytes) given.OutOfMemory) b c → WhereExposed (ReadsPart given.OutOfMemory at len) a c
-read_unasked_told at len bytes =
-    told_then (HasPart at bytes) (Gives (at + length bytes) given.OutOfMemory) (ReadsPart given.OutOfMemory at len) (λ x y z h r. subst (StaysKept x) (sym r) h.stays)
+read_unasked_exposed at len bytes =
+    exposed_then (HasPart at bytes) (Gives (at + length bytes) given.OutOfMemory) (ReadsPart given.OutOfMemory at len) (λ x y z h r. subst (StaysKept x) (sym r) h.stays)
 
 -- ---- the length
 
@@ -129,11 +129,11 @@ sized : (count : ℕ) (a b : Moments) → IsKept a → Measures (measured.Bytes 
 sized count a b k m =
     (stays_pass (λ before after. (after ≡ before) × (count ≡ length before.seen)) a b k m m.here.0, m.here.1 ∙ ap (λ (s : Stand). length s.seen) (sym m.here.0))
 
-pub measured_told : (count : ℕ) (a b : Option Moments) → IfSome a IsKept → WhereExposed (Measures (measured.Bytes count)) a b → WhereExposed (λ x y. StaysKept x y × (count ≡ length y.now.seen)) a b
-measured_told count = told_from IsKept (Measures (measured.Bytes count)) (λ x y. StaysKept x y × (count ≡ length y.now.seen)) (sized count)
+pub measured_exposed : (count : ℕ) (a b : Option Moments) → IfSome a IsKept → WhereExposed (Measures (measured.Bytes count)) a b → WhereExposed (λ x y. StaysKept x y × (count ≡ length y.now.seen)) a b
+measured_exposed count = exposed_from IsKept (Measures (measured.Bytes count)) (λ x y. StaysKept x y × (count ≡ length y.now.seen)) (sized count)
 
-pub unmeasured_told : (a b : Option Moments) → IfSome a IsKept → WhereExposed (Measures measured.Failed) a b → WhereExposed StaysKept a b
-unmeasured_told = told_from IsKept (Measures measured.Failed) StaysKept (λ a b k m. sync_kept stored.Failed a b k m)
+pub unmeasured_exposed : (a b : Option Moments) → IfSome a IsKept → WhereExposed (Measures measured.Failed) a b → WhereExposed StaysKept a b
+unmeasured_exposed = exposed_from IsKept (Measures measured.Failed) StaysKept (λ a b k m. sync_kept stored.Failed a b k m)
 
-pub unsized_told : (a b : Option Moments) → IfSome a IsKept → WhereExposed (Measures measured.OutOfMemory) a b → WhereExposed StaysKept a b
-unsized_told = told_from IsKept (Measures measured.OutOfMemory) StaysKept (λ a b k m. subst (StaysKept a) (sym m) (stays_same a k))
+pub unsized_exposed : (a b : Option Moments) → IfSome a IsKept → WhereExposed (Measures measured.OutOfMemory) a b → WhereExposed StaysKept a b
+unsized_exposed = exposed_from IsKept (Measures measured.OutOfMemory) StaysKept (λ a b k m. subst (StaysKept a) (sym m) (stays_same a k))

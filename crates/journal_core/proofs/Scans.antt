@@ -2,7 +2,7 @@
 use Rattle.std.proofs.Common.{ℕ, ◌+◌, ◌≤◌, List, [], ◌∷◌, ◌++◌, length, Option, Some, None, refl, ap, subst, ◌∙◌, arith}
 use Rattle.std.specs.Prelude.{IfSome}
 use Rattle.ae_edge.specs.Devices.{WhereExposed}
-use Rattle.ae_edge.proofs.Interface.{told_then}
+use Rattle.ae_edge.proofs.Interface.{exposed_then}
 use Rattle.disk.specs.Crashes.{Stand}
 use Rattle.disk.specs.Durable.{StaysKept}
 use Rattle.disk.specs.Moments.{Moments}
@@ -48,20 +48,20 @@ module _ (last gate : ℕ) where
 
   pub scan_more : (entry : List ℕ) (a b c : Option Moments) → WhereExposed (HasScanned last gate) a b
       → WhereExposed (Stands (stood.Open entry) gate) b c → WhereExposed (HasScanned last (gate + (9 + length entry))) a c
-  scan_more entry = told_then (HasScanned last gate) (Stands (stood.Open entry) gate) (HasScanned last (gate + (9 + length entry))) (more entry)
+  scan_more entry = exposed_then (HasScanned last gate) (Stands (stood.Open entry) gate) (HasScanned last (gate + (9 + length entry))) (more entry)
 
   pub scan_closed : (a b c : Option Moments) → WhereExposed (HasScanned last gate) a b → WhereExposed (Stands stood.Closed gate) b c → WhereExposed (Scans (scanned.Whole gate)) a c
-  scan_closed = told_then (HasScanned last gate) (Stands stood.Closed gate) (Scans (scanned.Whole gate))
+  scan_closed = exposed_then (HasScanned last gate) (Stands stood.Closed gate) (Scans (scanned.Whole gate))
       (λ a b c h s. ((h.entries, closed_gate h.entries gate a.now.seen h.reads (at_first stood.Closed a b c h s)), stays_then a b c h.stays s.1))
 
   pub scan_broken : 1 ≤ last → (a b c : Option Moments) → WhereExposed (HasScanned last gate) a b → WhereExposed (Stands stood.Broken gate) b c → WhereExposed (Scans (scanned.Broken gate)) a c
-  scan_broken long = told_then (HasScanned last gate) (Stands stood.Broken gate) (Scans (scanned.Broken gate))
+  scan_broken long = exposed_then (HasScanned last gate) (Stands stood.Broken gate) (Scans (scanned.Broken gate))
       (λ a b c h s.
       let at = at_first stood.Broken a b c h s in
       (broken_gate h.entries gate a.now.seen (omega (arith, long, h.kept.reaches)) h.reads at.0 at.1, stays_then a b c h.stays s.1))
 
   pub scan_failed : (a b c : Option Moments) → WhereExposed (HasScanned last gate) a b → WhereExposed (Stands stood.Failed gate) b c → WhereExposed (Scans scanned.Failed) a c
-  scan_failed = told_then (HasScanned last gate) (Stands stood.Failed gate) (Scans scanned.Failed) (λ a b c h s. (tt, stays_then a b c h.stays s.1))
+  scan_failed = exposed_then (HasScanned last gate) (Stands stood.Failed gate) (Scans scanned.Failed) (λ a b c h s. (tt, stays_then a b c h.stays s.1))
 
   pub scan_unheld : (a b c : Option Moments) → WhereExposed (HasScanned last gate) a b → WhereExposed (Stands stood.OutOfMemory gate) b c → WhereExposed (Scans scanned.OutOfMemory) a c
-  scan_unheld = told_then (HasScanned last gate) (Stands stood.OutOfMemory gate) (Scans scanned.OutOfMemory) (λ a b c h s. (tt, stays_then a b c h.stays s.1))
+  scan_unheld = exposed_then (HasScanned last gate) (Stands stood.OutOfMemory gate) (Scans scanned.OutOfMemory) (λ a b c h s. (tt, stays_then a b c h.stays s.1))

@@ -7,29 +7,29 @@ use Rattle.journal_core.specs.Journals.{framed, IsEntry, journal_of, Opens, Read
 use Rattle.journal_core.proofs.Crash.{end_reads, opens_more}
 use Rattle.journal_core.proofs.Readings.{length_framed}
 
-from_gate : (n : ℕ) (entries : List (List ℕ)) (front bytes file : List ℕ) → length bytes ≤ n → 0 < length bytes → Opens entries front → file ≡ front ++ bytes → 2 ≤ length file
+from_gate : (n : ℕ) (entries : List (List ℕ)) (prefix bytes file : List ℕ) → length bytes ≤ n → 0 < length bytes → Opens entries prefix → file ≡ prefix ++ bytes → 2 ≤ length file
     → ¬ ((reading : Reading) → ¬ ReadsAs reading file)
-from_gate zero entries front bytes file few some opens whole long none = absurd (omega (arith, few, some))
-from_gate (suc n) entries front [] file few some opens whole long none = absurd (omega (arith, some))
-from_gate (suc n) entries front (gate ∷ rest) file few some opens whole long none =
+from_gate zero entries prefix bytes file few some opens whole long none = absurd (omega (arith, few, some))
+from_gate (suc n) entries prefix [] file few some opens whole long none = absurd (omega (arith, some))
+from_gate (suc n) entries prefix (gate ∷ rest) file few some opens whole long none =
     elim (cases_eq gate 0) [
-      | inl shut ↦ none (Records entries) (inr (record { front = front; rest = rest; opens = opens; whole = whole ∙ ap (λ (g : ℕ). front ++ g ∷ rest) shut }))
-      | inr is_open ↦ none (Damaged (length front)) (
+      | inl shut ↦ none (Records entries) (inr (record { prefix = prefix; rest = rest; opens = opens; whole = whole ∙ ap (λ (g : ℕ). prefix ++ g ∷ rest) shut }))
+      | inr is_open ↦ none (Damaged (length prefix)) (
         long,
         record {
           entries = entries;
-          front = front;
+          prefix = prefix;
           gate = gate;
           rest = rest;
           opens = opens;
-          place_is = refl;
+          offset_is = refl;
           is_open = is_open;
           whole = whole;
           none = λ has.
-              from_gate n (entries ++ has.entry ∷ []) (front ++ gate ∷ framed has.entry) (has.next ∷ has.rest) file
+              from_gate n (entries ++ has.entry ∷ []) (prefix ++ gate ∷ framed has.entry) (has.next ∷ has.rest) file
               (omega (arith, few, ap length has.whole, length-append (framed has.entry) (has.next ∷ has.rest), length_framed has.entry)) (omega arith)
-              (opens_more entries front gate has.entry opens is_open has.is_entry)
-              (whole ∙ ap (λ (w : List ℕ). front ++ gate ∷ w) has.whole ∙ sym (append_assoc front (gate ∷ framed has.entry) (has.next ∷ has.rest)))
+              (opens_more entries prefix gate has.entry opens is_open has.is_entry)
+              (whole ∙ ap (λ (w : List ℕ). prefix ++ gate ∷ w) has.whole ∙ sym (append_assoc prefix (gate ∷ framed has.entry) (has.next ∷ has.rest)))
               long none;
         },
       )

@@ -13,20 +13,20 @@ use Rattle.journal_core.specs.declared.journal.Appended.TheVariants as appended
 abbrev pub most_bytes : ℕ
 most_bytes = 1099511627776
 
--- The gate at this place is closed and the end of the file, all of which is on the disk. Behind the gates before it stand
+-- The gate at this offset is closed and the end of the file, all of which is on the disk. After the gates before it stand
 -- these entries.
 pub record EndsAt (gate : ℕ) (entries : List (List ℕ)) (disk : Moments) : Type 0 where
-  pub front : List ℕ
-  pub opens : Opens entries front
-  pub gate_is : gate ≡ length front
-  pub now : disk.now ≡ kept (front ++ 0 ∷ [])
+  pub prefix : List ℕ
+  pub opens : Opens entries prefix
+  pub gate_is : gate ≡ length prefix
+  pub now : disk.now ≡ kept (prefix ++ 0 ∷ [])
 
--- the file is a journal whose last gate stands at this place
+-- the file is a journal whose last gate stands at this offset
 abbrev pub IsMounted : ℕ → Moments → Type 0
 IsMounted gate disk = (entries : List (List ℕ)) × EndsAt gate entries disk
 
 -- It was added: each crash since then leaves the records before it, with it or without; from now on with it. Its gate was
--- opened as 01, and a closed one stands behind it.
+-- opened as 01, and a closed one stands after it.
 pub record HasAdded (entries : List (List ℕ)) (entry : List ℕ) (gate : ℕ) (old new : Moments) : Type 0 where
   pub moments : Leaves (WithOrWithout entries entry) old new
   pub ends : EndsAt (gate + 9 + length entry) (entries ++ entry ∷ []) new
@@ -44,14 +44,14 @@ Appends appended.DiskFault gate entry old new = WritesEntry stored.Failed gate e
 Appends appended.OutOfMemory gate entry old new = WritesEntry stored.OutOfMemory gate entry old new
 Appends appended.JournalFull gate entry old new = new ≡ old
 
--- the place of the last gate afterwards
+-- the offset of the last gate afterwards
 abbrev pub gate_after : Appended → ℕ → List ℕ → ℕ
 gate_after appended.Done gate entry = gate + 9 + length entry
 gate_after appended.DiskFault gate entry = gate
 gate_after appended.OutOfMemory gate entry = gate
 gate_after appended.JournalFull gate entry = gate
 
--- after a fault, and without memory, the file has to be mounted again
+-- after a fault, and out of memory, the file has to be mounted again
 abbrev pub fails : Appended → Bool
 fails appended.Done = false
 fails appended.DiskFault = true

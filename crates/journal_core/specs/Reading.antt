@@ -1,4 +1,4 @@
--- Parts of a file that is on the disk, and what stands at a gate there.
+-- Parts of a file that is on the disk, and what follows a gate there.
 use Rattle.std.specs.Prelude.{◌≡◌, ◌≢◌, ◌⊎◌, ℕ, ◌+◌, ◌<◌, ◌≤◌, List, [], ◌∷◌, ◌++◌, length, take, drop, get_or}
 use Rattle.std.specs.Int.{w64, to_be_bytes, from_be_bytes}
 use Rattle.ae_edge.specs.Devices.{Rose, Stays}
@@ -15,18 +15,18 @@ use Rattle.journal_core.specs.declared.reading.Stood.TheVariants as stood
 
 -- ---- a part
 
--- the file is on the disk, all of it, and its last byte stands at this place
+-- the file is on the disk, all of it, and its last byte stands at this offset
 pub record IsKeptTo (last : ℕ) (disk : Moments) : Type 0 where
   pub kept : IsKept disk
   pub reaches : length disk.now.seen ≡ last + 1
 
--- so many bytes from a place on, where the file has them; the disk stands as it stood
+-- so many bytes from an offset on, where the file has them; the disk stands as it stood
 abbrev pub ReadsPart : Given → ℕ → ℕ → Moments → Moments → Type 0
 ReadsPart (given.Bytes bytes) at len old new = (bytes ≡ take len (drop at old.now.seen)) × StaysKept old new
 ReadsPart given.Failed at len old new = StaysKept old new
 ReadsPart given.OutOfMemory at len old new = StaysKept old new
 
--- ---- a gate, and the length behind it
+-- ---- a gate, and the length after it
 
 -- a length stands first; a record of so many bytes and one more byte have room among those that it stands before
 pub record HasLength (len behind : ℕ) (bytes : List ℕ) : Type 0 where
@@ -39,7 +39,7 @@ pub record HasLength (len behind : ℕ) (bytes : List ℕ) : Type 0 where
 abbrev pub LacksLength : ℕ → List ℕ → Type 0
 LacksLength behind bytes = (length bytes < 8) ⊎ (behind ≤ 8 + from_be_bytes w64 (take 8 bytes))
 
--- an open gate, behind which stand bytes that have P
+-- an open gate, after which stand bytes that have P
 pub record OpensWith (P : List ℕ → Type 0) (bytes : List ℕ) : Type 0 where
   pub gate : ℕ
   pub rest : List ℕ
@@ -54,7 +54,7 @@ IsHead head.Broken bytes behind = (bytes ≡ []) ⊎ OpensWith (LacksLength behi
 
 -- ---- a record
 
--- so many bytes from a place on, where they may be a record
+-- so many bytes from an offset on, where they may be a record
 abbrev pub IsRecordAt : Stood → ℕ → ℕ → List ℕ → Type 0
 IsRecordAt (stood.Open entry) at len file = IsRecord entry × (entry ≡ take len (drop at file))
 IsRecordAt stood.Closed at len file = ⊥
@@ -67,7 +67,7 @@ ReadsRecord found at len old new = IsRecordAt found at len old.now.seen × Stays
 
 -- ---- what stands at a gate
 
--- the gate is open, and behind it stand this entry and one more byte
+-- the gate is open, and after it stand this entry and one more byte
 pub record HasEntryAt (gate : ℕ) (entry file : List ℕ) : Type 0 where
   pub is_open : get_or file gate 0 ≢ 0
   pub is_entry : IsEntry entry
@@ -85,7 +85,7 @@ IsAt stood.OutOfMemory gate file = Unit {0}
 abbrev pub Stands : Stood → ℕ → Moments → Moments → Type 0
 Stands found gate old new = IsAt found gate old.now.seen × StaysKept old new
 
--- an entry from a place on ends at most at another
+-- an entry from an offset on ends at most at another
 abbrev pub IsInside : Stood → ℕ → ℕ → Type 0
 IsInside (stood.Open entry) from last = from + length entry ≤ last
 IsInside stood.Closed from last = Unit {0}

@@ -1,4 +1,4 @@
--- The end of a file that is on the disk is put in order.
+-- The end of a file that is on the disk is mended.
 use Rattle.std.specs.Prelude.{◌≡◌, ℕ, ◌≤◌, List, [], ◌∷◌, ◌++◌, length, take, false}
 use Rattle.disk.specs.Durable.{IsKept}
 use Rattle.disk.specs.Moments.{Moments, Leaves}
@@ -46,7 +46,7 @@ pub record Settled (entries : List (List ℕ)) (gate : ℕ) (file : List ℕ) (o
 
 abbrev pub Settles : Mounted → List ℕ → Moments → Moments → Type 0
 Settles (mounted.Ready journal) file old new = (entries : List (List ℕ)) × Settled entries journal.gate file old new
-Settles (mounted.Damaged place) file old new = Leaves (ReadsAlike file) old new × ReadsAs (Damaged place) file × IsLeft old new
+Settles (mounted.Damaged offset) file old new = Leaves (ReadsAlike file) old new × ReadsAs (Damaged offset) file × IsLeft old new
 Settles mounted.DiskFault file old new = Leaves (ReadsAlike file) old new
 Settles mounted.OutOfMemory file old new = Leaves (ReadsAlike file) old new
 

@@ -11,7 +11,7 @@ use ae_base::blobs::Blob;
 use disk::disks::Disk;
 use std::alloc::Global;
 
-/// What stands at a gate of a journal.
+/// What a gate of a journal is followed by.
 #[derive(Drop)]
 pub enum Entry {
     /// A record.
@@ -26,21 +26,21 @@ pub enum Entry {
 }
 
 impl Journal {
-    /// The record whose gate stands at a place, as it was found or added: the first record's stands
-    /// at 0, and each other one nine bytes behind the end of the record before it.
-    pub fn entry_at<D: Disk>(&self, alloc: Global, disk: &mut D, place: u64) -> Entry
+    /// The record of the gate at an offset, as it was found or added: the first record's gate is at
+    /// 0, and each other one nine bytes after the end of the record before it.
+    pub fn entry_at<D: Disk>(&self, alloc: Global, disk: &mut D, offset: u64) -> Entry
         requires mounted { IfSome (D.seen disk.old).content (IsMounted self.now.gate) }
-        requires before { place ≤ self.now.gate }
-        ensures call { Calls (WhereExposed (Continues result place self.now.gate))
+        requires before { offset ≤ self.now.gate }
+        ensures call { Calls (WhereExposed (Continues result offset self.now.gate))
             (CountsEntry result) (D.seen disk.old) (D.seen disk.new) }
         ensures mounted { IfSome (D.seen disk.new).content (IsMounted self.now.gate) }
-        ensures inside { IsNotPast result place self.now.gate }
+        ensures inside { IsNotPast result offset self.now.gate }
         ensures fits { self.now.gate < 2 ^ 64 }
     {
-        if place == self.last_gate() {
+        if offset == self.last_gate() {
             return Entry::End;
         }
-        match stood_at(alloc, disk, place, self.last_gate()) {
+        match stood_at(alloc, disk, offset, self.last_gate()) {
             Stood::Open(entry) => Entry::Next(entry),
             Stood::Closed => Entry::Other,
             Stood::Broken => Entry::Other,

@@ -16,7 +16,7 @@ use std::marker::Model;
 // The most bytes that the file has.
 const MOST_BYTES: u64 = 1_099_511_627_776;
 
-/// A journal over a disk: its last gate stands at the end of the file. `Journal::mount` finds one.
+/// A journal over a disk: its last gate is at the end of the file. `Journal::mount` finds one.
 #[derive(Drop)]
 pub struct Journal {
     gate: u64,
@@ -45,7 +45,7 @@ pub enum Appended {
 }
 
 impl Journal {
-    /// A journal whose last gate stands at a place.
+    /// A journal whose last gate is at an offset.
     pub(crate) fn at(gate: u64) -> Journal
         ensures is { result ≡ record { gate = gate; failed = false } }
         ensures fits { result.gate < 2 ^ 64 }
@@ -63,14 +63,14 @@ impl Journal {
         self.failed
     }
 
-    /// The place of the last gate.
+    /// The offset of the last gate.
     pub fn last_gate(&self) -> u64
         ensures { result ≡ self.now.gate }
     {
         self.gate
     }
 
-    /// Whether the file has no room for a record of so many bytes.
+    /// Whether the file has no room for a record of `len` bytes.
     fn is_full(&self, len: usize) -> bool
         ensures { IsTrue result ↔ (most_bytes < self.now.gate + 10 + len) }
     {
@@ -123,7 +123,7 @@ fn staged(alloc: Global, entry: &[u8]) -> Result<Vec<u8>, AllocError>
     Ok(bytes)
 }
 
-/// Puts a record, and a closed gate, behind the gate at a place.
+/// Appends a record, and a closed gate, after the gate at an offset.
 fn stage<D: Disk>(alloc: Global, disk: &mut D, gate: u64, entry: &[u8]) -> Stored
     requires kept { IfSome (D.seen disk.old).content IsKept }
     requires inside { IfSome (D.seen disk.old).content (λ d. gate + 1 ≤ length d.now.seen) }
@@ -137,8 +137,8 @@ fn stage<D: Disk>(alloc: Global, disk: &mut D, gate: u64, entry: &[u8]) -> Store
     }
 }
 
-/// Puts a record behind the closed gate at a place, and opens the gate once the record is on the
-/// disk.
+/// Appends a record after the closed gate at an offset, and opens the gate once the record is on
+/// the disk.
 fn write_entry<D: Disk>(alloc: Global, disk: &mut D, gate: u64, entry: &[u8]) -> Stored
     requires mounted { IfSome (D.seen disk.old).content (IsMounted gate) }
     requires proper { IsRecord entry.now }

@@ -2,17 +2,17 @@
 
 ghost use Rattle.journal_core.specs.Laws.{EachFileReads, FilesReadOnce, JournalsAreReadBack};
 
-/// A file stands for one thing.
+/// A file has one meaning.
 pub fn files_read_once()
     ensures { FilesReadOnce }
 {}
 
-/// No file stands for nothing: each has records, or is damaged at a place.
+/// Each file has a meaning: records, or damage at an offset.
 pub fn each_file_reads()
     ensures { EachFileReads }
 {}
 
-/// What is written as a journal of some records stands for them.
+/// The bytes written as a journal of some records mean these.
 pub fn journals_are_read_back()
     ensures { JournalsAreReadBack }
 {}

@@ -1,4 +1,4 @@
-//! A journal is found on a disk, and the end of its file put in order.
+//! A journal is found on a disk, and the end of its file mended.
 
 ghost use Rattle.std.specs.Prelude.{◌≡◌, ◌≢◌, ◌≤◌, ◌+◌, ◌∷◌, ◌↔◌, [], ℕ, IfSome, IsTrue, length};
 ghost use Rattle.ae_edge.specs.Devices.{Calls, WhereExposed};
@@ -21,14 +21,14 @@ use std::alloc::Global;
 pub enum Mounted {
     /// A journal, whose records can be read.
     Ready(Journal),
-    /// Behind the open gate at this place no whole record and one more byte stand.
+    /// After the open gate at this offset there is no whole record with one more byte.
     Damaged(u64),
     /// A call of the disk failed.
     DiskFault,
     OutOfMemory,
 }
 
-/// What is mounted where the end of the file was put in order, by what the disk answered.
+/// The journal that is mounted after the end of the file was mended, by the disk's answers.
 fn mended(gate: u64, stored: Stored) -> Mounted
     ensures is { result ≡ mended_by stored gate }
     ensures whole { IsWhole result }
@@ -52,7 +52,7 @@ fn lacks_gate(file: &[u8]) -> bool
     }
 }
 
-/// Makes a file of at most one byte a closed gate, and puts it on the disk.
+/// Makes a file of at most one byte a closed gate, and syncs it.
 fn repair_short<D: Disk>(disk: &mut D, file: &[u8]) -> Stored
     requires kept { IfSome (D.seen disk.old).content (λ d. d.now ≡ kept file.now) }
     requires short { length file.now ≤ 1 }
@@ -80,8 +80,7 @@ fn settle_short<D: Disk>(alloc: Global, disk: &mut D) -> Mounted
     }
 }
 
-/// Makes the closed gate at a place the last byte of a file of two bytes or more, and puts it on
-/// the disk.
+/// Makes the closed gate at an offset the last byte of a file of two bytes or more, and syncs it.
 fn repair_long<D: Disk>(disk: &mut D, gate: u64, last: u64) -> Stored
     requires kept { IfSome (D.seen disk.old).content (IsKeptTo last) }
     requires long { 1 ≤ last }
@@ -95,7 +94,7 @@ fn repair_long<D: Disk>(disk: &mut D, gate: u64, last: u64) -> Stored
     }
 }
 
-/// Finds the journal of a file of two bytes or more that is on the disk, whose last byte stands at
+/// Finds the journal of a file of two bytes or more that is on the disk, whose last byte is at
 /// `last`.
 fn settle_long<D: Disk>(alloc: Global, disk: &mut D, last: u64) -> Mounted
     requires kept { IfSome (D.seen disk.old).content (IsKeptTo last) }
@@ -106,13 +105,13 @@ fn settle_long<D: Disk>(alloc: Global, disk: &mut D, last: u64) -> Mounted
 {
     match scan(alloc, disk, last) {
         Scanned::Whole(gate) => mended(gate, repair_long(disk, gate, last)),
-        Scanned::Broken(place) => Mounted::Damaged(place),
+        Scanned::Broken(offset) => Mounted::Damaged(offset),
         Scanned::Failed => Mounted::DiskFault,
         Scanned::OutOfMemory => Mounted::OutOfMemory,
     }
 }
 
-/// Reads a file that is on the disk as a journal, and puts its end in order.
+/// Reads a file that is on the disk as a journal, and mends its end.
 fn settle_file<D: Disk>(alloc: Global, disk: &mut D) -> Mounted
     requires kept { IfSome (D.seen disk.old).content IsKept }
     ensures call { Calls (WhereExposed (SettlesFile result)) (CountsMounted result)
@@ -133,9 +132,10 @@ fn settle_file<D: Disk>(alloc: Global, disk: &mut D) -> Mounted
 }
 
 impl Journal {
-    /// Finds the journal on a disk, and puts the end of its file in order. It syncs first, so that
-    /// what it reads is on the disk, and then reads each record; one at a time is in memory. While
-    /// the call is under way a crash leaves the records of some image that it could leave before.
+    /// Finds the journal on a disk, and mends the end of its file. It syncs first, so that the
+    /// bytes it reads are on the disk, and then reads each record; one at a time is in memory.
+    /// While the call is under way a crash leaves the records of some image that it could leave
+    /// before.
     pub fn mount<D: Disk>(alloc: Global, disk: &mut D) -> Mounted
         ensures call { Calls (WhereExposed (Mounts result)) (CountsMounted result)
             (D.seen disk.old) (D.seen disk.new) }

@@ -1,4 +1,4 @@
-//! Parts of a file that is on the disk, and what stands at a gate there.
+//! Parts of a file that is on the disk, and the record after a gate there.
 
 ghost use Rattle.std.specs.Prelude.{◌≡◌, ◌≤◌, ◌<◌, ◌+◌, ◌^◌, IfSome, MatchOption, length};
 ghost use Rattle.ae_edge.specs.Devices.{Calls, WhereExposed};
@@ -44,15 +44,16 @@ pub(crate) fn read_part<D: Disk>(alloc: Global, disk: &mut D, at: u64, len: usiz
 /// What the first nine bytes from a gate on tell.
 #[derive(Clone, Copy, PartialEq, Eq, Debug)]
 enum Head {
-    /// The gate is open, and a record of so many bytes has room behind it, and one more byte.
+    /// The gate is open, and after it there is room for a record of this many bytes, and one more
+    /// byte.
     Open(u64),
     Closed,
     /// The gate is open, and no length follows it, or one of more bytes.
     Broken,
 }
 
-/// Reads the length at the front, behind which a record and one more byte have room among so many
-/// bytes.
+/// Reads the first length, if a record of it and one more byte have room among the bytes that
+/// follow.
 fn length_of(bytes: &[u8], behind: u64) -> Option<u64>
     ensures { MatchOption result (LacksLength behind bytes.now)
         (λ len. HasLength len behind bytes.now) }
@@ -68,7 +69,7 @@ fn length_of(bytes: &[u8], behind: u64) -> Option<u64>
     }
 }
 
-/// Reads a gate, behind which so many bytes stand, and the length behind it.
+/// Reads a gate, and the length after it.
 fn head_of(bytes: &[u8], behind: u64) -> Head
     ensures { IsHead result bytes.now behind }
 {
@@ -82,13 +83,13 @@ fn head_of(bytes: &[u8], behind: u64) -> Head
     }
 }
 
-/// What stands at a gate.
+/// The bytes after a gate.
 #[derive(Drop)]
 pub(crate) enum Stood {
-    /// The gate is open; behind it stand this record and one more byte.
+    /// The gate is open; after it come this record and one more byte.
     Open(Blob),
     Closed,
-    /// The gate is open, and no such record stands behind it.
+    /// The gate is open, and not followed by a record.
     Broken,
     /// A call of the disk failed.
     Failed,
@@ -114,7 +115,7 @@ fn record_at<D: Disk>(alloc: Global, disk: &mut D, at: u64, len: u64) -> Stood
     }
 }
 
-/// What stands at a gate of a file that is on the disk, whose last byte stands at `last`.
+/// The bytes after a gate of a file that is on the disk, whose last byte is at `last`.
 pub(crate) fn stood_at<D: Disk>(alloc: Global, disk: &mut D, gate: u64, last: u64) -> Stood
     requires kept { IfSome (D.seen disk.old).content (IsKeptTo last) }
     requires before { gate ≤ last }

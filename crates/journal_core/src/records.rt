@@ -7,12 +7,12 @@ use std::alloc::{AllocError, Global};
 use wire_frames::{Decoded, decode_request, one_reading};
 use wire_messages::requests::Request;
 
-/// What stands at the front of some bytes.
+/// The first request of some bytes.
 #[derive(Clone, Copy)]
-pub(crate) enum Front {
-    /// The frame of a request to execute a statement, so many bytes long.
+pub(crate) enum FirstRequest {
+    /// The frame of a request to execute a statement, this many bytes long.
     Execute(usize),
-    /// No such frame.
+    /// Not the frame of such a request.
     Other,
     OutOfMemory,
 }
@@ -26,21 +26,21 @@ fn is_execute(request: &Request<'_>) -> bool
     }
 }
 
-/// Reads the frame at the front.
-fn front_of(alloc: Global, bytes: &[u8]) -> Front
+/// Reads the first frame.
+fn prefix_of(alloc: Global, bytes: &[u8]) -> FirstRequest
     ensures { Prefixes result bytes.now }
 {
     match decode_request(alloc, bytes) {
-        Decoded::One(asked, used) => {
-            if is_execute(&asked.message) {
-                Front::Execute(used)
+        Decoded::One(request, used) => {
+            if is_execute(&request.message) {
+                FirstRequest::Execute(used)
             } else {
-                Front::Other
+                FirstRequest::Other
             }
         }
-        Decoded::NotYet => Front::Other,
-        Decoded::Bad => Front::Other,
-        Decoded::OutOfMemory => Front::OutOfMemory,
+        Decoded::NotYet => FirstRequest::Other,
+        Decoded::Bad => FirstRequest::Other,
+        Decoded::OutOfMemory => FirstRequest::OutOfMemory,
     }
 }
 
@@ -54,10 +54,10 @@ pub fn is_record(alloc: Global, bytes: &[u8]) -> Result<bool, AllocError>
     }
     let mut rest = bytes;
     'frames: while !rest.is_empty() {
-        match front_of(alloc, rest) {
-            Front::Execute(used) => rest = &rest[used..],
-            Front::Other => return Ok(false),
-            Front::OutOfMemory => return Err(AllocError),
+        match prefix_of(alloc, rest) {
+            FirstRequest::Execute(used) => rest = &rest[used..],
+            FirstRequest::Other => return Ok(false),
+            FirstRequest::OutOfMemory => return Err(AllocError),
         }
     }
     Ok(true)

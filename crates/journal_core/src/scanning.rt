@@ -12,17 +12,17 @@ use std::alloc::Global;
 /// What was found in a file.
 #[derive(Clone, Copy, PartialEq, Eq, Debug)]
 pub(crate) enum Scanned {
-    /// Records, and the closed gate behind them at this place.
+    /// Records, and the closed gate after them at this offset.
     Whole(u64),
-    /// An open gate stands here, behind which no whole record and one more byte stand.
+    /// The gate at this offset is open, and not followed by a whole record with one more byte.
     Broken(u64),
     /// A call of the disk failed.
     Failed,
     OutOfMemory,
 }
 
-/// Reads a file of two bytes or more that is on the disk, whose last byte stands at `last`. One
-/// record at a time is in memory.
+/// Reads a file of two bytes or more that is on the disk, whose last byte is at `last`. One record
+/// at a time is in memory.
 pub(crate) fn scan<D: Disk>(alloc: Global, disk: &mut D, last: u64) -> Scanned
     requires kept { IfSome (D.seen disk.old).content (IsKeptTo last) }
     requires long { 1 ≤ last }

@@ -3,8 +3,8 @@
 use crate::journals::EXECUTE;
 use crate::served::{push_execute, served, statements};
 use disk::mem_disk::MemDisk;
-use journal_command::endings::Ended;
-use journal_compaction::commands::{Compacted, compact};
+use journal_command::endings::JournalEnding;
+use journal_compaction::commands::{CompactEnding, compact};
 use std::alloc::{AllocError, Global};
 use std::test::Fail;
 
@@ -31,11 +31,11 @@ fn file_of(alloc: Global, entries: &[&[u8]]) -> Result<Vec<u8>, AllocError> {
     Ok(file)
 }
 
-// The file that a server leaves behind some requests.
+// The file that a server leaves after some requests.
 pub(crate) fn left_by(alloc: Global, input: Vec<u8>) -> Result<Vec<u8>, Fail> {
     let mut disk = MemDisk::new(alloc, b"", Vec::new(alloc))?;
     let (ended, _) = served(alloc, &mut disk, input);
-    if ended != Ended::Done {
+    if ended != JournalEnding::Done {
         return Err(Fail::new("not served"));
     }
     Ok(Vec::from_slice(alloc, disk.bytes())?)
@@ -48,7 +48,7 @@ fn compacted(
     file: &[u8],
     failing: &[u64],
     new_failing: &[u64],
-) -> Result<(Compacted, Vec<u8>, bool), AllocError> {
+) -> Result<(CompactEnding, Vec<u8>, bool), AllocError> {
     let mut disk = MemDisk::new(alloc, file, Vec::from_slice(alloc, failing)?)?;
     let mut new = MemDisk::new(alloc, OLD, Vec::from_slice(alloc, new_failing)?)?;
     let ended = compact(alloc, &mut disk, &mut new);
@@ -73,7 +73,7 @@ fn a_journal_is_its_definitions_and_rows(rt: HostRuntime) -> Result<(), Fail> {
     let alloc = rt.alloc();
     let file = left_by(alloc, statements(alloc)?)?;
     let (ended, new, stays) = compacted(alloc, file.as_slice(), &[], &[])?;
-    assert!(rt; ended == Compacted::Done);
+    assert!(rt; ended == CompactEnding::Done);
     assert!(rt; stays);
     assert_eq!(rt;
         new.as_slice(),
@@ -81,7 +81,7 @@ fn a_journal_is_its_definitions_and_rows(rt: HostRuntime) -> Result<(), Fail> {
     );
     // Written anew once more, it stays the same.
     let (ended, again, _) = compacted(alloc, new.as_slice(), &[], &[])?;
-    assert!(rt; ended == Compacted::Done);
+    assert!(rt; ended == CompactEnding::Done);
     assert_eq!(rt; again.as_slice(), new.as_slice());
     Ok(())
 }
@@ -97,7 +97,7 @@ fn definitions_of_dropped_tables_are_kept(rt: HostRuntime) -> Result<(), Fail> {
 
     let file = left_by(alloc, input)?;
     let (ended, new, _) = compacted(alloc, file.as_slice(), &[], &[])?;
-    assert!(rt; ended == Compacted::Done);
+    assert!(rt; ended == CompactEnding::Done);
     // A table without rows has no INSERT.
     let want = file_of(alloc, &[EXECUTE, dropped.as_slice(), again.as_slice()])?;
     assert_eq!(rt; new.as_slice(), want.as_slice());
@@ -121,7 +121,7 @@ fn a_table_that_took_another_ones_place_is_there(rt: HostRuntime) -> Result<(), 
 
     let file = left_by(alloc, input)?;
     let (ended, new, _) = compacted(alloc, file.as_slice(), &[], &[])?;
-    assert!(rt; ended == Compacted::Done);
+    assert!(rt; ended == CompactEnding::Done);
     // REPLACE BY is a record by itself, outside the transaction.
     let records = [EXECUTE, second.as_slice(), replace.as_slice(), INSERT_THREE];
     assert_eq!(rt; new.as_slice(), file_of(alloc, &records)?.as_slice());
@@ -138,18 +138,18 @@ fn a_stop_at_any_call_leaves_the_journal(rt: HostRuntime) -> Result<(), Fail> {
         let (ended, new, stays) = compacted(alloc, file.as_slice(), &[call], &[])?;
         assert!(rt; stays, "at {call}");
         if call < 22 {
-            assert!(rt; ended == Compacted::DiskFault, "at {call}");
+            assert!(rt; ended == CompactEnding::DiskFault, "at {call}");
             assert_eq!(rt; new.as_slice(), OLD);
         } else {
-            assert!(rt; ended == Compacted::Done, "at {call}");
+            assert!(rt; ended == CompactEnding::Done, "at {call}");
         }
         // The new file is cut, two records and a gate are written, and it is synced.
         let (ended, new, stays) = compacted(alloc, file.as_slice(), &[], &[call])?;
         assert!(rt; stays, "at {call}");
         if call < 5 {
-            assert!(rt; ended == Compacted::NewDiskFault, "at {call}");
+            assert!(rt; ended == CompactEnding::NewDiskFault, "at {call}");
         } else {
-            assert!(rt; ended == Compacted::Done, "at {call}");
+            assert!(rt; ended == CompactEnding::Done, "at {call}");
             assert_eq!(rt; new.as_slice(), want.as_slice());
         }
     }
@@ -162,8 +162,8 @@ fn a_damaged_journal_is_not_written_anew(rt: HostRuntime) -> Result<(), Fail> {
     let file = left_by(alloc, statements(alloc)?)?;
     let cut = file.get(..file.len().saturating_sub(1)).unwrap_or(&[]);
     let (ended, new, stays) = compacted(alloc, cut, &[], &[])?;
-    // The third record, of a transaction, lies behind those of 43 and of 49 bytes.
-    assert!(rt; ended == Compacted::Damaged(110));
+    // The third record, of a transaction, lies after those of 43 and of 49 bytes.
+    assert!(rt; ended == CompactEnding::Damaged(110));
     assert_eq!(rt; new.as_slice(), OLD);
     assert!(rt; stays);
     Ok(())

@@ -23,7 +23,7 @@ const DESCRIBE: &[u8] =
 pub(crate) const ONE_RECORD: &[u8] =
     b"\x01\x00\x00\x00\x00\x00\x00\x00\x2b\x01\x02\x00\x00\x00\x25\x00\x01\x00\x00\x00\x00\x00\x00\x00\x00\x00\x00\x00\x16CREATE TABLE t (a INT)\x00\x00";
 
-// Some bytes, and others behind them.
+// Some bytes, and others after them.
 pub(crate) fn joined(alloc: Global, first: &[u8], second: &[u8]) -> Result<Vec<u8>, AllocError> {
     let mut all = Vec::from_slice(alloc, first)?;
     all.extend_from_slice(second)?;
@@ -49,19 +49,19 @@ pub(crate) fn block(
 fn has_records<D: Disk>(alloc: Global, disk: &mut D, journal: &Journal, want: &[&[u8]]) -> bool
     requires { IfSome (D.seen disk.old).content (IsMounted journal.now.gate) }
 {
-    let mut place = 0u64;
+    let mut offset = 0u64;
     'records: for want in want {
-        match journal.entry_at(alloc, disk, place) {
+        match journal.entry_at(alloc, disk, offset) {
             Entry::Next(entry) => {
                 if entry.as_slice() != *want {
                     return false;
                 }
-                place += 9 + entry.len() as u64;
+                offset += 9 + entry.len() as u64;
             }
             Entry::End | Entry::Other | Entry::Failed | Entry::OutOfMemory => return false,
         }
     }
-    matches!(journal.entry_at(alloc, disk, place), Entry::End)
+    matches!(journal.entry_at(alloc, disk, offset), Entry::End)
 }
 
 // Whether a disk is mounted with these records.
@@ -82,7 +82,7 @@ fn leaves(alloc: Global, file: &[u8], want: &[&[u8]], after: &[u8]) -> Result<bo
 fn damage(alloc: Global, file: &[u8]) -> Result<Option<u64>, AllocError> {
     let mut disk = MemDisk::new(alloc, file, Vec::new(alloc))?;
     match Journal::mount(alloc, &mut disk) {
-        Mounted::Damaged(place) => Ok(Some(place)),
+        Mounted::Damaged(offset) => Ok(Some(offset)),
         Mounted::Ready(_) | Mounted::DiskFault | Mounted::OutOfMemory => Ok(None),
     }
 }
@@ -138,7 +138,7 @@ fn an_end_is_put_in_order(rt: HostRuntime) -> Result<(), Fail> {
 }
 
 #[test]
-fn damage_is_told_with_its_place(rt: HostRuntime) -> Result<(), Fail> {
+fn damage_is_exposed_with_its_offset(rt: HostRuntime) -> Result<(), Fail> {
     let alloc = rt.alloc();
     // The last byte is missing; more than the last byte is.
     assert_eq!(rt; damage(alloc, &ONE_RECORD[..52])?, Some(0));
@@ -190,7 +190,7 @@ fn fails<D: Disk>(alloc: Global, disk: &mut D, entry: &[u8]) -> bool {
 }
 
 #[test]
-fn a_fault_is_told(rt: HostRuntime) -> Result<(), Fail> {
+fn a_fault_is_exposed(rt: HostRuntime) -> Result<(), Fail> {
     let alloc = rt.alloc();
     let mut disk = MemDisk::new(alloc, ONE_RECORD, Vec::from_slice(alloc, &[6u64])?)?;
     // The mount has six calls.

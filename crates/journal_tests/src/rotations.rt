@@ -4,7 +4,7 @@
 use crate::compactions::{frames, left_by};
 use crate::served::{DONE_BYTES, SELECT, rows_of, served};
 use disk::mem_disk::MemDisk;
-use journal_command::endings::Ended;
+use journal_command::endings::JournalEnding;
 use std::alloc::{AllocError, Global};
 use std::test::Fail;
 
@@ -33,12 +33,12 @@ fn rows_at(alloc: Global, file: &[u8], version: u8) -> Result<Option<u8>, AllocE
 }
 
 // How the rotation ends where a call of the disk fails, how many of its statements are answered, and
-// the rows at the next start: at the version before it, and at the one behind it.
+// the rows at the next start: at the version before it, and at the one after it.
 fn stopped_at(
     alloc: Global,
     file: &[u8],
     call: u64,
-) -> Result<(Ended, usize, [Option<u8>; 2]), AllocError> {
+) -> Result<(JournalEnding, usize, [Option<u8>; 2]), AllocError> {
     let input = frames(alloc, &ROTATION)?;
     let mut disk = MemDisk::new(alloc, file, Vec::from_slice(alloc, &[call])?)?;
     let (ended, out) = served(alloc, &mut disk, input);
@@ -56,11 +56,11 @@ fn a_rotation_is_there_whole_or_not_at_all(rt: HostRuntime) -> Result<(), Fail> 
         let (ended, answered, rows) = stopped_at(alloc, file.as_slice(), call)?;
         let moved = rows == [None, Some(2)];
         assert!(rt; moved || rows == [Some(1), None], "at {call}");
-        if ended == Ended::Done {
+        if ended == JournalEnding::Done {
             assert!(rt; moved, "at {call}");
             assert_eq!(rt; answered, ROTATION.len());
         } else {
-            assert!(rt; ended == Ended::DiskFault);
+            assert!(rt; ended == JournalEnding::DiskFault);
             assert!(rt; answered < ROTATION.len(), "at {call}");
             stops = stops.saturating_add(1);
         }

@@ -5,7 +5,7 @@ use ae_edge::memory::sink::MemSink;
 use ae_edge::memory::source::MemSource;
 use disk::mem_disk::MemDisk;
 use journal_command::commands::serve_journal;
-use journal_command::endings::Ended;
+use journal_command::endings::JournalEnding;
 use std::alloc::{AllocError, Global};
 use std::test::Fail;
 
@@ -34,8 +34,8 @@ const ROWS: [[Option<u8>; 2]; 6] = [
 // The bytes of a frame of done.
 pub(crate) const DONE_BYTES: usize = 15;
 
-// Puts a frame of session 1 at the end: the two bytes that it begins with, and what stands before the
-// text, and behind it.
+// Appends a frame of session 1: the two bytes that it begins with, and what stands before the
+// text, and after it.
 fn push(frames: &mut Vec<u8>, head: [u8; 2], before: &[u8], text: &str) -> Result<(), AllocError> {
     let text = text.as_bytes();
     let length = before.len().saturating_add(text.len()).saturating_add(7);
@@ -58,8 +58,12 @@ pub(crate) fn push_execute(
     push(frames, [head, 2], &[0, 0, 0, 0, 0, 0, 0, version], text)
 }
 
-// What is put for an input, and how it ends.
-pub(crate) fn served(alloc: Global, disk: &mut MemDisk, input: Vec<u8>) -> (Ended, MemSink) {
+// What is written for an input, and how it ends.
+pub(crate) fn served(
+    alloc: Global,
+    disk: &mut MemDisk,
+    input: Vec<u8>,
+) -> (JournalEnding, MemSink) {
     let mut input = MemSource::new(input, 7, Vec::new(alloc));
     let mut out = MemSink::new(alloc, Vec::new(alloc));
     let ended = serve_journal(alloc, &mut input, &mut out, disk);
@@ -90,7 +94,7 @@ fn are_found(alloc: Global, file: &[u8], rows: &[Option<u8>]) -> Result<bool, Al
     push_execute(&mut input, 1, 1, SELECT)?;
     let mut disk = MemDisk::new(alloc, file, Vec::new(alloc))?;
     let (ended, out) = served(alloc, &mut disk, input);
-    Ok(ended == Ended::Done && rows.contains(&rows_of(out.bytes())))
+    Ok(ended == JournalEnding::Done && rows.contains(&rows_of(out.bytes())))
 }
 
 // The frames of the statements.
@@ -104,7 +108,7 @@ pub(crate) fn statements(alloc: Global) -> Result<Vec<u8>, AllocError> {
 
 // How the statements end where a call of the disk fails, how many are answered, and whether what was
 // answered is there at the next start.
-fn stopped_at(alloc: Global, call: u64) -> Result<(Ended, usize, bool), AllocError> {
+fn stopped_at(alloc: Global, call: u64) -> Result<(JournalEnding, usize, bool), AllocError> {
     let input = statements(alloc)?;
     let mut disk = MemDisk::new(alloc, b"", Vec::from_slice(alloc, &[call])?)?;
     let (ended, out) = served(alloc, &mut disk, input);
@@ -120,10 +124,10 @@ fn what_was_answered_is_there(rt: HostRuntime) -> Result<(), Fail> {
     for call in 0u64..24 {
         let (ended, answered, kept) = stopped_at(rt.alloc(), call)?;
         assert!(rt; kept, "at {call}");
-        if ended == Ended::Done {
+        if ended == JournalEnding::Done {
             assert_eq!(rt; answered, 5);
         } else {
-            assert!(rt; ended == Ended::DiskFault);
+            assert!(rt; ended == JournalEnding::DiskFault);
             stops = stops.saturating_add(1);
         }
     }
@@ -132,10 +136,10 @@ fn what_was_answered_is_there(rt: HostRuntime) -> Result<(), Fail> {
     Ok(())
 }
 
-// Whether an input is served to its end, and these bytes are put for it.
+// Whether an input is served to its end, and these bytes are written for it.
 fn puts(alloc: Global, disk: &mut MemDisk, input: Vec<u8>, want: &[u8]) -> bool {
     let (ended, out) = served(alloc, disk, input);
-    ended == Ended::Done && out.bytes() == want
+    ended == JournalEnding::Done && out.bytes() == want
 }
 
 const DONE: &[u8] = b"\x01\x84\x00\x00\x00\x09\x00\x00\x00\x00\x00\x00\x00\x00\x00";
@@ -201,7 +205,7 @@ fn each_frame_is_recorded_as_it_came(rt: HostRuntime) -> Result<(), Fail> {
 
     let mut disk = MemDisk::new(alloc, b"", Vec::new(alloc))?;
     let (ended, _) = served(alloc, &mut disk, input);
-    assert!(rt; ended == Ended::Done);
+    assert!(rt; ended == JournalEnding::Done);
     assert_eq!(rt; disk.bytes(), file.as_slice());
     // Served again, and asked for in version 2.
     assert!(rt; puts(alloc, &mut disk, select, ONE_ROW));
@@ -215,7 +219,7 @@ fn a_file_without_its_last_byte_is_damaged(rt: HostRuntime) -> Result<(), Fail> 
     let file = &ONE_RECORD[..ONE_RECORD.len() - 1];
     let mut disk = MemDisk::new(alloc, file, Vec::new(alloc))?;
     let (ended, out) = served(alloc, &mut disk, execute);
-    assert!(rt; ended == Ended::Damaged(0));
+    assert!(rt; ended == JournalEnding::Damaged(0));
     assert!(rt; out.bytes().is_empty());
     Ok(())
 }

@@ -6,8 +6,8 @@ use Rattle.scalar.specs.Eval.{atom_at}
 use Rattle.operators.specs.Alike.{key_of}
 use Rattle.operators.proofs.Interface.{map-push}
 
-pub key_more : (places : List ℕ) (row : List Atom) (i : ℕ) (atom : Atom) (done : List Atom) → done ≡ key_of (take i places) row
-    → i < length places → atom ≡ atom_at row (get_or places i 0) → done ++ atom ∷ [] ≡ key_of (take (i + 1) places) row
-key_more places row i atom done d lt e =
-    ap (λ l. l ++ atom ∷ []) d ∙ ap (λ a. key_of (take i places) row ++ a ∷ []) e ∙ sym
-    (map-push (atom_at row) (take i places) (get_or places i 0)) ∙ ap (λ ps. key_of ps row) (sym (take_more places i 0 lt))
+pub key_more : (ordinals : List ℕ) (row : List Atom) (i : ℕ) (atom : Atom) (done : List Atom) → done ≡ key_of (take i ordinals) row
+    → i < length ordinals → atom ≡ atom_at row (get_or ordinals i 0) → done ++ atom ∷ [] ≡ key_of (take (i + 1) ordinals) row
+key_more ordinals row i atom done d lt e =
+    ap (λ l. l ++ atom ∷ []) d ∙ ap (λ a. key_of (take i ordinals) row ++ a ∷ []) e ∙ sym
+    (map-push (atom_at row) (take i ordinals) (get_or ordinals i 0)) ∙ ap (λ ps. key_of ps row) (sym (take_more ordinals i 0 lt))

@@ -153,16 +153,16 @@ pub said_last : (level : Level) (k : List Atom) (said : Option ℕ) (before afte
 said_last [] k said before after says key = sym (says key)
 said_last (e ∷ es) k said before after says key = ap (λ o. cond (are_alike key e.0) e.1 o) (said_last es k said before after says key)
 
--- a place is said again over what was said of those behind it
-pub said_again : (old new level : Level) (place : ℕ) (k atoms : List Atom) (said : Option ℕ) → Some (atoms, said) ≡ slice_get level place → k ≡ atoms
+-- a place is said again over what was said of those after it
+pub said_again : (old new level : Level) (position : ℕ) (k atoms : List Atom) (said : Option ℕ) → Some (atoms, said) ≡ slice_get level position → k ≡ atoms
     → KeepsOthers are_alike (are_alike k) old new → lookup (are_alike k) new ≡ Some said
-    → (before : Found) (key : List Atom) → number_through old before key ≡ number_through (drop (place + 1) level) before key
-    → number_through new before key ≡ number_through (drop place level) before key
-said_again old new level place k atoms said got same others there before key is =
+    → (before : Found) (key : List Atom) → number_through old before key ≡ number_through (drop (position + 1) level) before key
+    → number_through new before key ≡ number_through (drop position level) before key
+said_again old new level position k atoms said got same others there before key is =
     one_said old new k others said there before key
     ∙ ap (λ o. cond (are_alike key k) said o) is
-    ∙ ap (λ x. cond (are_alike key x) said (number_through (drop (place + 1) level) before key)) same
-    ∙ sym (ap (λ es. number_through es before key) (drop_got level place (atoms, said) got))
+    ∙ ap (λ x. cond (are_alike key x) said (number_through (drop (position + 1) level) before key)) same
+    ∙ sym (ap (λ es. number_through es before key) (drop_got level position (atoms, said) got))
 
 module _ {L : Type 0} (level_of : L → Level) where
   last_under : (below : List L) (level : L) (key : List Atom) → number_under (map level_of (below ++ level ∷ [])) key ≡ number_through (level_of level) (number_under (map level_of below)) key

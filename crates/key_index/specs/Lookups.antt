@@ -30,4 +30,4 @@ first_alike gone index keys = first_known 0 gone index [] keys
 -- how many of so many keys are looked up: those up to and with the one that is answered
 abbrev pub looked_up : ℕ → Option ℕ → ℕ
 looked_up count None = count
-looked_up count (Some place) = place + 1
+looked_up count (Some position) = position + 1

@@ -16,8 +16,8 @@ use std::marker::Model;
 use std::mem::replace;
 use std::rc::Rc;
 
-/// The numbers of rows by their keys, of which no two are alike: what was said of keys last, over
-/// what was said before. Copies of an index have the levels below as well; nobody changes those.
+/// The numbers of rows by their keys, no two of which are alike: the last entry for a key hides
+/// those before. Copies of an index share the levels below; nobody changes those.
 pub struct KeyIndex<K: Same> {
     top: Level<K>,
     /// The oldest first.
@@ -62,7 +62,7 @@ impl<K: Same> KeyIndex<K> {
         number_by(&self.top, key, number_below(self.below.as_slice(), key))
     }
 
-    /// Makes room for so many keys more that are put in or taken out, if there is memory for it.
+    /// Makes room for `count` more keys that are inserted or taken out, if there is memory for it.
     pub fn reserve(&mut self, count: usize) -> Result<(), AllocError>
         ensures same { HasSame self.old self.new }
         ensures room { OnOk result (count ≤ self.new.spare) }
@@ -71,7 +71,7 @@ impl<K: Same> KeyIndex<K> {
         self.top.reserve(count)
     }
 
-    /// Gives a key a number, in the place of one that it had. It takes no memory.
+    /// Gives a key a number, which replaces its former one. It takes no memory.
     pub fn put(&mut self, key: Key<K>, number: usize)
         requires { 0 < self.old.spare }
         ensures number { HasNumber self.old self.new key (Some number) }

@@ -195,13 +195,13 @@ impl<K: Same> Key<K> {
         }
     }
 
-    /// What a row has in the columns of these places, with NULL for one that it hasn't.
-    pub fn of_row(alloc: Global, places: &[usize], row: &Row<K>) -> Result<Key<K>, AllocError>
-        ensures { IfOk result (λ key. key ≡ key_of places.now row.now) }
+    /// The atoms of a row in the columns of these ordinals, with NULL for one that it hasn't.
+    pub fn of_row(alloc: Global, ordinals: &[usize], row: &Row<K>) -> Result<Key<K>, AllocError>
+        ensures { IfOk result (λ key. key ≡ key_of ordinals.now row.now) }
     {
-        match places {
-            [place] => Ok(Key::one(copied_at(row, *place)?)),
-            _ => Ok(Key::many(copied_each(alloc, places, row)?)),
+        match ordinals {
+            [ordinal] => Ok(Key::one(copied_at(row, *ordinal)?)),
+            _ => Ok(Key::many(copied_each(alloc, ordinals, row)?)),
         }
     }
 
@@ -217,26 +217,26 @@ impl<K: Same> Key<K> {
 }
 
 /// A copy of the atom at a place of a row, or NULL where it has none.
-fn copied_at<K: Same>(row: &Row<K>, place: usize) -> Result<Atom<K>, AllocError>
-    ensures { IfOk result (λ atom. atom ≡ atom_at row.now place) }
+fn copied_at<K: Same>(row: &Row<K>, ordinal: usize) -> Result<Atom<K>, AllocError>
+    ensures { IfOk result (λ atom. atom ≡ atom_at row.now ordinal) }
 {
-    match row.as_slice().get(place) {
+    match row.as_slice().get(ordinal) {
         Some(atom) => atom.copy(),
         None => Ok(Atom::new(AtomOf::Null)),
     }
 }
 
-/// Copies of the atoms at these places of a row, with NULL for one that it hasn't.
+/// Copies of a row's atoms of these ordinals, with NULL for one that it hasn't.
 fn copied_each<K: Same>(
     alloc: Global,
-    places: &[usize],
+    ordinals: &[usize],
     row: &Row<K>,
 ) -> Result<Vec<Kept<K>>, AllocError>
-    ensures { IfOk result (λ atoms. atoms.items ≡ key_of places.now row.now) }
+    ensures { IfOk result (λ atoms. atoms.items ≡ key_of ordinals.now row.now) }
 {
-    let mut atoms = Vec::with_capacity(alloc, places.len())?;
-    for place in places {
-        let atom = copied_at(row, *place)?;
+    let mut atoms = Vec::with_capacity(alloc, ordinals.len())?;
+    for ordinal in ordinals {
+        let atom = copied_at(row, *ordinal)?;
         atoms.push(Kept { atom })?;
     }
     Ok(atoms)

@@ -1,4 +1,4 @@
-//! Levels of an index: what was said of keys at one time.
+//! Levels of an index: the entries for keys of one time.
 
 ghost use Rattle.std.specs.Prelude.{◌≡◌, ◌≤◌, ◌<◌, ◌+◌, List, ℕ, Option, length, drop, map, true, IfOk, OnOk};
 ghost use Rattle.indexmap.specs.IndexMap.{spare};
@@ -14,7 +14,7 @@ use std::rc::Rc;
 /// Keys, each with the number of its row, or with none from then on.
 pub(crate) type Level<K> = IndexMap<Key<K>, Option<usize>>;
 
-/// The number of a key by what a level says, or else the one that it had before.
+/// The number of a key by a level's entry, or else the one that it had before.
 pub(crate) fn number_by<K: Same>(
     level: &Level<K>,
     key: &Key<K>,
@@ -79,21 +79,21 @@ pub(crate) fn copied<K: Same>(alloc: Global, level: &Level<K>) -> Result<Level<K
     Ok(copy)
 }
 
-/// Says what a level says at one place, over what its copy has of the places behind that one.
+/// Adds what a level has at one position to a copy that has what comes after it.
 fn say_again<K: Same>(
     alloc: Global,
     level: &Level<K>,
-    place: usize,
+    position: usize,
     copy: &mut Level<K>,
 ) -> Result<(), AllocError>
-    requires { place < length level.now.entries }
+    requires { position < length level.now.entries }
     ensures { OnOk result ((before : List Atom → Option ℕ) (key : List Atom)
         → number_through copy.old.entries before key
-        ≡ number_through (drop (place + 1) level.now.entries) before key
+        ≡ number_through (drop (position + 1) level.now.entries) before key
         → number_through copy.new.entries before key
-        ≡ number_through (drop place level.now.entries) before key) }
+        ≡ number_through (drop position level.now.entries) before key) }
 {
-    let Some((key, said)) = level.get_index(place) else {
+    let Some((key, said)) = level.get_index(position) else {
         unreachable!()
     };
     copy.insert(key.copy(alloc)?, *said)?;

@@ -48,9 +48,9 @@ impl<'a, K: Same> Seen<'a, K> {
     }
 }
 
-/// The place, in the list, of the first of some new keys that the index has, with another number
-/// than those that go, or that comes before it in the list. Each key up to and with that one is
-/// looked up once.
+/// The position, in the list, of the first new key that the index has with a number other than
+/// those that go, or that comes before it in the list. Each key up to and with that one is looked
+/// up once.
 pub fn first_alike<K: Same, L: Ledger>(
     alloc: Global,
     index: &KeyIndex<K>,
@@ -59,14 +59,15 @@ pub fn first_alike<K: Same, L: Ledger>(
     lookups: &mut Steps<L>,
 ) -> Result<Option<usize>, AllocError>
     requires { (to : ℕ) × AreRising 0 to gone.now }
-    ensures place { IfOk result (λ place. place ≡ first_alike gone.now index.now keys.now) }
+    ensures position { IfOk result (λ position. position
+        ≡ first_alike gone.now index.now keys.now) }
     ensures lookups { IfOk result
-        (λ place. lookups.new ≡ lookups.old + looked_up (length keys.now) place) }
+        (λ position. lookups.new ≡ lookups.old + looked_up (length keys.now) position) }
 {
     let mut seen = Seen::new(alloc);
-    let place = first_among(index, gone, keys, &mut seen, lookups);
+    let position = first_among(index, gone, keys, &mut seen, lookups);
     drop(seen);
-    place
+    position
 }
 
 fn first_among<'a, K: Same, L: Ledger>(
@@ -78,9 +79,10 @@ fn first_among<'a, K: Same, L: Ledger>(
 ) -> Result<Option<usize>, AllocError>
     requires rising { (to : ℕ) × AreRising 0 to gone.now }
     requires none { seen.old ≡ [] }
-    ensures place { IfOk result (λ place. place ≡ first_alike gone.now index.now keys.now) }
+    ensures position { IfOk result (λ position. position
+        ≡ first_alike gone.now index.now keys.now) }
     ensures lookups { IfOk result
-        (λ place. lookups.new ≡ lookups.old + looked_up (length keys.now) place) }
+        (λ position. lookups.new ≡ lookups.old + looked_up (length keys.now) position) }
 {
     for i in 0..keys.len() {
         let key = &keys[i];
@@ -95,7 +97,7 @@ fn first_among<'a, K: Same, L: Ledger>(
     Ok(None)
 }
 
-/// Whether an index has a key, with another number than those that go.
+/// Whether an index has a key, with a number other than those that go.
 fn is_known<K: Same>(index: &KeyIndex<K>, gone: &[usize], key: &Key<K>) -> bool
     requires { (to : ℕ) × AreRising 0 to gone.now }
     ensures { result ≡ is_known gone.now index.now key.now }
@@ -125,7 +127,7 @@ pub fn first_uncounted<K: Same>(
     keys: &[Key<K>],
 ) -> Result<Option<usize>, AllocError>
     requires { (to : ℕ) × AreRising 0 to gone.now }
-    ensures { IfOk result (λ place. place ≡ first_alike gone.now index.now keys.now) }
+    ensures { IfOk result (λ position. position ≡ first_alike gone.now index.now keys.now) }
 {
     first_from::<K, Brand>(alloc, index, gone, keys, Blank::new(1))
 }
@@ -141,7 +143,7 @@ fn first_from<K: Same, L: Ledger>(
     requires name { blank.name ≡ L.name }
     requires parts { blank.parts ≡ L.parts }
     requires some { 0 < blank.parts }
-    ensures { IfOk result (λ place. place ≡ first_alike gone.now index.now keys.now) }
+    ensures { IfOk result (λ position. position ≡ first_alike gone.now index.now keys.now) }
 {
     let mut lookups = Steps::<L>::new(blank);
     first_alike(alloc, index, gone, keys, &mut lookups)

@@ -19,25 +19,25 @@ use Rattle.key_store.specs.declared.faults.KeyFault.TheVariants.{NoMasterKey, Ke
 
 -- ---- a store of one vault
 
-pub kept-tries : (told : Option KeyMap) (kept : List (KeyValue × List ℕ)) (value : KeyValue) (key : List ℕ) (keys : Keys)
-    → IsOf told kept → Contains kept (value, key) → keys ≡ keys_of key
-    → IfSome told (λ map. option_map keys_of (opened map value) ≡ Some keys)
+pub kept-tries : (exposed : Option KeyMap) (kept : List (KeyValue × List ℕ)) (value : KeyValue) (key : List ℕ) (keys : Keys)
+    → IsOf exposed kept → Contains kept (value, key) → keys ≡ keys_of key
+    → IfSome exposed (λ map. option_map keys_of (opened map value) ≡ Some keys)
 kept-tries None kept value key keys of_vault there derived = tt
 kept-tries (Some map) kept value key keys of_vault there derived = ap (option_map keys_of) (of_vault value key there) ∙ ap Some (sym derived)
 
-pub stays : (old_told new_told : Option KeyMap) (old new : List (KeyValue × List ℕ)) → new_told ≡ old_told → AreKept old new → IsOf old_told old → IsOf new_told new
-stays old_told new_told old new same kept of_vault = subst (λ told. IsOf told new) (sym same) (at old_told of_vault)
+pub stays : (old_exposed new_exposed : Option KeyMap) (old new : List (KeyValue × List ℕ)) → new_exposed ≡ old_exposed → AreKept old new → IsOf old_exposed old → IsOf new_exposed new
+stays old_exposed new_exposed old new same kept of_vault = subst (λ exposed. IsOf exposed new) (sym same) (at old_exposed of_vault)
   where
-    at : (told : Option KeyMap) → IsOf told old → IsOf told new
+    at : (exposed : Option KeyMap) → IsOf exposed old → IsOf exposed new
     at None h = tt
     at (Some map) h = λ value key there. h value key (kept (value, key) there)
 
-pub stays-with : (old_told new_told : Option KeyMap) (value : KeyValue) (key : List ℕ) (old new : List (KeyValue × List ℕ))
-    → new_told ≡ old_told → AreKeptWith value key old new → IsOf old_told old
-    → IfSome old_told (λ map. opened map value ≡ Some key) → IsOf new_told new
-stays-with old_told new_told value key old new same kept of_vault opens = subst (λ told. IsOf told new) (sym same) (at old_told of_vault opens)
+pub stays-with : (old_exposed new_exposed : Option KeyMap) (value : KeyValue) (key : List ℕ) (old new : List (KeyValue × List ℕ))
+    → new_exposed ≡ old_exposed → AreKeptWith value key old new → IsOf old_exposed old
+    → IfSome old_exposed (λ map. opened map value ≡ Some key) → IsOf new_exposed new
+stays-with old_exposed new_exposed value key old new same kept of_vault opens = subst (λ exposed. IsOf exposed new) (sym same) (at old_exposed of_vault opens)
   where
-    at : (told : Option KeyMap) → IsOf told old → IfSome told (λ map. opened map value ≡ Some key) → IsOf told new
+    at : (exposed : Option KeyMap) → IsOf exposed old → IfSome exposed (λ map. opened map value ≡ Some key) → IsOf exposed new
     at None h o = tt
     at (Some map) h o = λ from found there. elim (kept (from, found) there) [
       | inl before ↦ h from found before
@@ -105,8 +105,8 @@ opens_by_first : (map : KeyMap) (meta : KeyMeta) (keys : Keys) (own rest : Optio
 opens_by_first map meta keys (Some key) rest h = cc
 opens_by_first map meta keys None rest h = cc
 
-pub first-opens : (told : Option KeyMap) (meta : KeyMeta) (keys : Keys) → IfSome told (λ map. option_map keys_of (opened map meta.values.first) ≡ Some keys)
-    → IfSome told (λ map. open_key map meta ≡ Ok keys)
+pub first-opens : (exposed : Option KeyMap) (meta : KeyMeta) (keys : Keys) → IfSome exposed (λ map. option_map keys_of (opened map meta.values.first) ≡ Some keys)
+    → IfSome exposed (λ map. open_key map meta ≡ Ok keys)
 unfolding open_key column_key
 first-opens None meta keys o = tt
 first-opens (Some map) meta keys o = opens_by_first map meta keys (opened map meta.values.first) (first_opened map (behind meta.values.second)) o
@@ -117,9 +117,9 @@ by_second : (map : KeyMap) (meta : KeyMeta) (r : Result Keys KeyFault) → opene
 unfolding open_key column_key
 by_second map meta r none e = ap (λ own. or_fault (why_shut map meta) (option_or own (first_opened map (behind meta.values.second))) >>= λ key. Ok (keys_of key)) none ∙ e
 
-pub second-opens : (told : Option KeyMap) (meta : KeyMeta) (value : KeyValue) (there : Bool) (keys : Keys) → meta.values.second ≡ Some value
-    → IfSome told (λ map. IsShut map meta.values.first there) → IfSome told (λ map. option_map keys_of (opened map value) ≡ Some keys)
-    → IfSome told (λ map. open_key map meta ≡ Ok keys)
+pub second-opens : (exposed : Option KeyMap) (meta : KeyMeta) (value : KeyValue) (there : Bool) (keys : Keys) → meta.values.second ≡ Some value
+    → IfSome exposed (λ map. IsShut map meta.values.first there) → IfSome exposed (λ map. option_map keys_of (opened map value) ≡ Some keys)
+    → IfSome exposed (λ map. open_key map meta ≡ Ok keys)
 second-opens None meta value there keys is first o = tt
 second-opens (Some map) meta value there keys is first o = by_second map meta (Ok keys) first.0
     (ap (λ second. or_fault (why_shut map meta) (first_opened map (behind second)) >>= λ key. Ok (keys_of key)) is ∙ opens_by_first map meta keys (opened map value) None o)
@@ -131,9 +131,9 @@ shut_by : (map : KeyMap) (meta : KeyMeta) (there : Bool) → first_opened map (b
     → (or_fault (why_shut map meta) (first_opened map (behind meta.values.second)) >>= λ key. Ok (keys_of key)) ≡ Err (fault_by there meta)
 shut_by map meta there none is = rw (none, is) refl
 
-pub one-shut : (told : Option KeyMap) (meta : KeyMeta) (there : Bool) (fault : KeyFault) → meta.values.second ≡ None
-    → IfSome told (λ map. IsShut map meta.values.first there) → fault ≡ fault_by there meta
-    → IfSome told (λ map. open_key map meta ≡ Err fault)
+pub one-shut : (exposed : Option KeyMap) (meta : KeyMeta) (there : Bool) (fault : KeyFault) → meta.values.second ≡ None
+    → IfSome exposed (λ map. IsShut map meta.values.first there) → fault ≡ fault_by there meta
+    → IfSome exposed (λ map. open_key map meta ≡ Err fault)
 one-shut None meta there fault is first f = tt
 one-shut (Some map) meta there fault is first f =
     let none : first_opened map (behind meta.values.second) ≡ None = ap (λ second. first_opened map (behind second)) is in
@@ -145,10 +145,10 @@ one-shut (Some map) meta there fault is first f =
     at true = refl
     at false = refl
 
-pub two-shut : (told : Option KeyMap) (meta : KeyMeta) (value : KeyValue) (there too either : Bool) (fault : KeyFault) → meta.values.second ≡ Some value
-    → IfSome told (λ map. IsShut map meta.values.first there) → IfSome told (λ map. (option_map keys_of (opened map value) ≡ None) × (too ≡ is_there map value))
+pub two-shut : (exposed : Option KeyMap) (meta : KeyMeta) (value : KeyValue) (there too either : Bool) (fault : KeyFault) → meta.values.second ≡ Some value
+    → IfSome exposed (λ map. IsShut map meta.values.first there) → IfSome exposed (λ map. (option_map keys_of (opened map value) ≡ None) × (too ≡ is_there map value))
     → either ≡ (there || too) → fault ≡ fault_by either meta
-    → IfSome told (λ map. open_key map meta ≡ Err fault)
+    → IfSome exposed (λ map. open_key map meta ≡ Err fault)
 two-shut None meta value there too either fault is first second both f = tt
 two-shut (Some map) meta value there too either fault is first second both f =
     let none : first_opened map (behind meta.values.second) ≡ None = ap (λ s. first_opened map (behind s)) is ∙ at_none (opened map value) second.0 in

@@ -5,7 +5,7 @@ use Rattle.ae_edge.specs.Vaults.{KeyMap}
 use Rattle.hmac_kdf.specs.Keys.{Keys, keys_of}
 use Rattle.key_store.specs.Opening.{opened}
 
--- each kept key is what the map of a vault gives, where that is told
+-- each kept key is what the map of a vault gives, where that is exposed
 abbrev pub IsOf : Option KeyMap → List (KeyValue × List ℕ) → Type 0
 IsOf None kept = Unit {0}
 IsOf (Some map) kept = (value : KeyValue) (key : List ℕ) → Contains kept (value, key) → opened map value ≡ Some key

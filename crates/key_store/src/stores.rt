@@ -71,7 +71,7 @@ impl KeyStore {
     /// their order, and the first that opens gives the keys. The vault isn't asked for a value that
     /// is kept. A call on it that fails is the only one that does, and gives `VaultFault`. Where no
     /// keys are given the store keeps what it kept before, in the same order; a key that is opened
-    /// may put out the one that was used longest ago. The store stays one of this vault.
+    /// may evict the one that was used longest ago. The store stays one of this vault.
     pub fn column_key<V: Vault>(
         &mut self,
         vault: &mut V,
@@ -118,8 +118,8 @@ impl KeyStore {
         }
     }
 
-    /// The keys that a value of a column key gives: those that are kept under it, else what the
-    /// vault opens, which is kept from then on. Where it gives none the store stays as it is.
+    /// The keys that a value of a column key gives: the keys kept under it, else the keys that the
+    /// vault opens, which are kept from then on. If it gives none the store stays as it is.
     fn tried<V: Vault>(
         &mut self,
         vault: &mut V,
@@ -168,7 +168,7 @@ impl KeyStore {
     }
 }
 
-/// Why a column key isn't opened whose values give no key: a master key is there, or none is.
+/// Why a column key isn't opened whose values give no key: a master key exists, or none does.
 fn why_shut(meta: &KeyMeta, is_there: bool) -> Result<KeyFault, AllocError>
     ensures { IfOk result (λ fault. fault ≡
         (if is_there then KeyRefused meta.now.name else NoMasterKey meta.now.values.first.path)) }

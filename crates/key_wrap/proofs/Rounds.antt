@@ -27,7 +27,7 @@ first_chunks-concat n [] all = refl
 first_chunks-concat n (block ∷ blocks) all =
     rw (take_at block (concat blocks) n all.0, drop_at block (concat blocks) n all.0) (ap (λ (chunks : List (List ℕ)). block ∷ chunks) (first_chunks-concat n blocks all.1))
 
--- the registers behind A
+-- the registers after A
 pub four_left : (s : List (List ℕ)) → length s ≡ 5 → drop 1 s ≡ register s 1 ∷ register s 2 ∷ register s 3 ∷ register s 4 ∷ []
 four_left [] e = absurd (omega arith)
 four_left (a ∷ []) e = absurd (omega arith)

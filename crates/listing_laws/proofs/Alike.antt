@@ -8,8 +8,8 @@ use Rattle.ae_base.specs.declared.atoms.AtomOf.TheVariants.{Null, Plain, Sealed}
 use Rattle.ae_base.specs.declared.types.Ty.{Ty}
 use Rattle.renaming_laws.specs.Renaming.{AreCells, IsRenaming}
 use Rattle.first_seen.specs.Parts.{Part, SpotsPaired, PartsCorrespond, AreRenamed, IsCellRenaming}
-use Rattle.first_seen.specs.Laws.{Pair, Pairs, pairs_in, TellsApart}
-use Rattle.first_seen.proofs.Interface.{listed_alike, told_alike}
+use Rattle.first_seen.specs.Laws.{Pair, Pairs, pairs_in, Separates}
+use Rattle.first_seen.proofs.Interface.{listed_alike, known_alike}
 use Rattle.scalar.specs.Classes.{Class, Open, Det, Rnd, Entry, Listing, IsNotNull}
 use Rattle.tap_listing.specs.ClassLaws.{class_eq-Decides}
 use Rattle.tap_listing.specs.Classes.{classing, is_deterministic}
@@ -19,8 +19,8 @@ use Rattle.listing_laws.specs.Laws.{IsRenamed}
 use Rattle.listing_laws.specs.Renamed.{FramesRenamed, sealed_pair, pairs_between}
 use Rattle.listing_laws.proofs.Blanks.{AtCells, frames_on, frames_back}
 
-told_apart : TellsApart classing
-told_apart = class_eq-Decides
+known_apart : Separates classing
+known_apart = class_eq-Decides
 
 -- ---- renamings of cells, and of atoms
 
@@ -148,15 +148,15 @@ sealed_parts pairs ps qs h =
 
 pub hidden : (entries : List Entry) → IsRenaming entries → (frames others : List Frame) → FramesRenamed (Listing entries) [] frames others → entries_of others ≡ entries_of frames
 hidden entries r frames others h =
-    listed_alike classing told_apart (Core entries) (core_renames entries r) (parts_of [] frames) (parts_of [] others) (frames_on (Listing entries) r.cells [] frames others h)
+    listed_alike classing known_apart (Core entries) (core_renames entries r) (parts_of [] frames) (parts_of [] others) (frames_on (Listing entries) r.cells [] frames others h)
 
 pub complete : (frames others : List Frame) → entries_of others ≡ entries_of frames
     → IsRenaming (pairs_between frames others) × FramesRenamed (Listing (pairs_between frames others)) [] frames others
 complete frames others e =
-    let told = told_alike classing told_apart (parts_of [] frames) (parts_of [] others) e in
+    let known = known_alike classing known_apart (parts_of [] frames) (parts_of [] others) e in
     let pairs = pairs_in (parts_of [] frames) (parts_of [] others) in (
-      sealed_renames pairs told.0,
-      frames_back (Listing (map sealed_pair pairs)) [] frames others (sealed_parts pairs (parts_of [] frames) (parts_of [] others) told.1),
+      sealed_renames pairs known.0,
+      frames_back (Listing (map sealed_pair pairs)) [] frames others (sealed_parts pairs (parts_of [] frames) (parts_of [] others) known.1),
     )
 
 pub exactly : (frames others : List Frame) → (entries_of others ≡ entries_of frames) ↔ IsRenamed frames others

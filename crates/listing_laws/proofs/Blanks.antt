@@ -41,7 +41,7 @@ use Rattle.tap_listing.specs.Frames.{
   parts_of,
 }
 use Rattle.tap_listing.specs.declared.frames.Frame.{Frame}
-use Rattle.tap_listing.specs.declared.frames.Frame.TheVariants.{Asked, Told}
+use Rattle.tap_listing.specs.declared.frames.Frame.TheVariants.{Asked, Replied}
 use Rattle.listing_laws.specs.Renamed.{RowsRenamed, ReplyRenamed, PayloadRenamed, FrameRenamed, FramesRenamed}
 
 -- ---- lists
@@ -94,10 +94,10 @@ module _ (R : Pairing) (cells : PairsCells R) where
   row_on classes (a ∷ xs) [] h = absurd h
   row_on [] (a ∷ xs) (b ∷ bs) h = let rest = row_on [] xs bs h.1 in (both b a (blank_row [] bs) (blank_row [] xs) h.0 rest.0, rest.1)
   row_on (c ∷ cs) (a ∷ xs) (b ∷ bs) h =
-      let front = atom_on c a b h.0 in
+      let prefix = atom_on c a b h.0 in
       let rest = row_on cs xs bs h.1 in (
-        both (blank_atom c b) (blank_atom c a) (blank_row cs bs) (blank_row cs xs) front.0 rest.0,
-        zip_append (SpotsPaired (AtCells R)) (atom_spots c a) (atom_spots c b) (row_spots cs xs) (row_spots cs bs) front.1 rest.1,
+        both (blank_atom c b) (blank_atom c a) (blank_row cs bs) (blank_row cs xs) prefix.0 rest.0,
+        zip_append (SpotsPaired (AtCells R)) (atom_spots c a) (atom_spots c b) (row_spots cs xs) (row_spots cs bs) prefix.1 rest.1,
       )
 
   rows_on : (classes : List Class) (rows others : List (List Atom)) → AllZip (RowsRenamed R classes) rows others
@@ -106,17 +106,17 @@ module _ (R : Pairing) (cells : PairsCells R) where
   rows_on classes [] (b ∷ bs) h = absurd h
   rows_on classes (a ∷ xs) [] h = absurd h
   rows_on classes (a ∷ xs) (b ∷ bs) h =
-      let front = row_on classes a b h.0 in
+      let prefix = row_on classes a b h.0 in
       let rest = rows_on classes xs bs h.1 in (
-        both (blank_row classes b) (blank_row classes a) (map (blank_row classes) bs) (map (blank_row classes) xs) front.0 rest.0,
-        zip_append (SpotsPaired (AtCells R)) (row_spots classes a) (row_spots classes b) (rows_spots classes xs) (rows_spots classes bs) front.1 rest.1,
+        both (blank_row classes b) (blank_row classes a) (map (blank_row classes) bs) (map (blank_row classes) xs) prefix.0 rest.0,
+        zip_append (SpotsPaired (AtCells R)) (row_spots classes a) (row_spots classes b) (rows_spots classes xs) (rows_spots classes bs) prefix.1 rest.1,
       )
 
   param_on : (p q : SentParam) → ParamsCorrespond R p q → (blank_param q ≡ blank_param p) × Zipped R (atom_spots (class_of p.ty p.enc) p.atom) (atom_spots (class_of q.ty q.enc) q.atom)
   param_on p q h =
-      let front = atom_on (class_of p.ty p.enc) p.atom q.atom h.1 in (
-        ap blank_param h.0 ∙ ap (λ a. record p { atom = a }) front.0,
-        subst (λ (r : SentParam). Zipped R (atom_spots (class_of p.ty p.enc) p.atom) (atom_spots (class_of r.ty r.enc) q.atom)) (sym h.0) front.1,
+      let prefix = atom_on (class_of p.ty p.enc) p.atom q.atom h.1 in (
+        ap blank_param h.0 ∙ ap (λ a. record p { atom = a }) prefix.0,
+        subst (λ (r : SentParam). Zipped R (atom_spots (class_of p.ty p.enc) p.atom) (atom_spots (class_of r.ty r.enc) q.atom)) (sym h.0) prefix.1,
       )
 
   params_on : (ps qs : List SentParam) → AllZip (ParamsCorrespond R) ps qs → (map blank_param qs ≡ map blank_param ps) × Zipped R (params_spots ps) (params_spots qs)
@@ -124,10 +124,10 @@ module _ (R : Pairing) (cells : PairsCells R) where
   params_on [] (q ∷ qs) h = absurd h
   params_on (p ∷ ps) [] h = absurd h
   params_on (p ∷ ps) (q ∷ qs) h =
-      let front = param_on p q h.0 in
+      let prefix = param_on p q h.0 in
       let rest = params_on ps qs h.1 in (
-        both (blank_param q) (blank_param p) (map blank_param qs) (map blank_param ps) front.0 rest.0,
-        zip_append (SpotsPaired (AtCells R)) (atom_spots (class_of p.ty p.enc) p.atom) (atom_spots (class_of q.ty q.enc) q.atom) (params_spots ps) (params_spots qs) front.1 rest.1,
+        both (blank_param q) (blank_param p) (map blank_param qs) (map blank_param ps) prefix.0 rest.0,
+        zip_append (SpotsPaired (AtCells R)) (atom_spots (class_of p.ty p.enc) p.atom) (atom_spots (class_of q.ty q.enc) q.atom) (params_spots ps) (params_spots qs) prefix.1 rest.1,
       )
 
   request_on : (q p : Request) → RequestsCorrespond R q p → (blank_request p ≡ blank_request q) × Zipped R (request_spots q) (request_spots p)
@@ -142,9 +142,9 @@ module _ (R : Pairing) (cells : PairsCells R) where
         inner.1,
       )
 
-  told_as : (classes : List Class) (r o : Reply) → o ≡ r → reply_spots classes r ≡ [] → blank_reply classes r ≡ r
+  known_as : (classes : List Class) (r o : Reply) → o ≡ r → reply_spots classes r ≡ [] → blank_reply classes r ≡ r
       → (blank_reply classes o ≡ blank_reply classes r) × Zipped R (reply_spots classes r) (reply_spots classes o)
-  told_as classes r o e f g =
+  known_as classes r o e f g =
       let none : Zipped R (reply_spots classes r) (reply_spots classes r) = subst (λ ss. Zipped R ss ss) (sym f) tt in
       (ap (blank_reply classes) e, subst (λ o. Zipped R (reply_spots classes r) (reply_spots classes o)) (sym e) none)
 
@@ -154,10 +154,10 @@ module _ (R : Pairing) (cells : PairsCells R) where
   reply_on classes (Row row) (Columns d) h = absurd h
   reply_on classes (Row row) (Ended d) h = absurd h
   reply_on classes (Row row) (Refused d) h = absurd h
-  reply_on classes (Described d) o h = told_as classes (Described d) o h refl refl
-  reply_on classes (Columns d) o h = told_as classes (Columns d) o h refl refl
-  reply_on classes (Ended d) o h = told_as classes (Ended d) o h refl refl
-  reply_on classes (Refused d) o h = told_as classes (Refused d) o h refl refl
+  reply_on classes (Described d) o h = known_as classes (Described d) o h refl refl
+  reply_on classes (Columns d) o h = known_as classes (Columns d) o h refl refl
+  reply_on classes (Ended d) o h = known_as classes (Ended d) o h refl refl
+  reply_on classes (Refused d) o h = known_as classes (Refused d) o h refl refl
 
   payload_on : (classes : List Class) (p q : Payload) → PayloadRenamed R classes p q
       → (blank_payload classes q ≡ blank_payload classes p) × Zipped R (payload_spots classes p) (payload_spots classes q)
@@ -173,11 +173,11 @@ module _ (R : Pairing) (cells : PairsCells R) where
   frame_on classes (Asked a) (Asked b) h =
       let inner = request_on a.message b.message h.1 in
       (ap (λ v. Asked (in_version v (blank_request b.message))) h.0 ∙ ap (λ m. Asked (in_version a.version m)) inner.0, inner.1)
-  frame_on classes (Asked a) (Told b) h = absurd h
-  frame_on classes (Told a) (Asked b) h = absurd h
-  frame_on classes (Told a) (Told b) h =
+  frame_on classes (Asked a) (Replied b) h = absurd h
+  frame_on classes (Replied a) (Asked b) h = absurd h
+  frame_on classes (Replied a) (Replied b) h =
       let inner = payload_on classes a.message b.message h.1 in
-      (ap (λ v. Told (in_version v (blank_payload classes b.message))) h.0 ∙ ap (λ m. Told (in_version a.version m)) inner.0, inner.1)
+      (ap (λ v. Replied (in_version v (blank_payload classes b.message))) h.0 ∙ ap (λ m. Replied (in_version a.version m)) inner.0, inner.1)
 
 -- ---- one without the cells, whose cells are paired: renamed
 
@@ -217,11 +217,11 @@ rows_in (Rows rows) = rows
 
 abbrev asked_in : Versioned Request → Frame → Versioned Request
 asked_in a (Asked b) = b
-asked_in a (Told b) = a
+asked_in a (Replied b) = a
 
-abbrev told_in : Versioned Payload → Frame → Versioned Payload
-told_in a (Asked b) = a
-told_in a (Told b) = b
+abbrev known_in : Versioned Payload → Frame → Versioned Payload
+known_in a (Asked b) = a
+known_in a (Replied b) = b
 
 module _ (R : Pairing) where
   cell_back : (c : Class) (a b : Atom) (ss ts : List (Spot Class)) → blank_cell b ≡ blank_cell a → Zipped R (cell_spots c a ++ ss) (cell_spots c b ++ ts) → CellsPaired (R c) a b × Zipped R ss ts
@@ -257,9 +257,9 @@ module _ (R : Pairing) where
       = subst (λ l. Zipped R l ((atom_spots c b ++ row_spots cs bs) ++ ts)) (append_assoc (atom_spots c a) (row_spots cs xs) ss) h in
       let right : Zipped R (atom_spots c a ++ (row_spots cs xs ++ ss)) (atom_spots c b ++ (row_spots cs bs ++ ts))
       = subst (λ l. Zipped R (atom_spots c a ++ (row_spots cs xs ++ ss)) l) (append_assoc (atom_spots c b) (row_spots cs bs) ts) left in
-      let front = atom_back c a b (row_spots cs xs ++ ss) (row_spots cs bs ++ ts) (first (blank_atom c b) (blank_atom c a) (blank_row cs bs) (blank_row cs xs) e) right in
-      let rest = row_back cs xs bs ss ts (rest_of (blank_atom c b) (blank_atom c a) (blank_row cs bs) (blank_row cs xs) e) front.1 in
-      ((front.0, rest.0), rest.1)
+      let prefix = atom_back c a b (row_spots cs xs ++ ss) (row_spots cs bs ++ ts) (first (blank_atom c b) (blank_atom c a) (blank_row cs bs) (blank_row cs xs) e) right in
+      let rest = row_back cs xs bs ss ts (rest_of (blank_atom c b) (blank_atom c a) (blank_row cs bs) (blank_row cs xs) e) prefix.1 in
+      ((prefix.0, rest.0), rest.1)
 
   rows_back : (classes : List Class) (rows others : List (List Atom)) → map (blank_row classes) others ≡ map (blank_row classes) rows
       → Zipped R (rows_spots classes rows) (rows_spots classes others) → AllZip (RowsRenamed R classes) rows others
@@ -267,9 +267,9 @@ module _ (R : Pairing) where
   rows_back classes [] (b ∷ bs) e h = absurd cc
   rows_back classes (a ∷ xs) [] e h = absurd cc
   rows_back classes (a ∷ xs) (b ∷ bs) e h =
-      let front = row_back classes a b (rows_spots classes xs) (rows_spots classes bs)
+      let prefix = row_back classes a b (rows_spots classes xs) (rows_spots classes bs)
       (first (blank_row classes b) (blank_row classes a) (map (blank_row classes) bs) (map (blank_row classes) xs) e) h in
-      (front.0, rows_back classes xs bs (rest_of (blank_row classes b) (blank_row classes a) (map (blank_row classes) bs) (map (blank_row classes) xs) e) front.1)
+      (prefix.0, rows_back classes xs bs (rest_of (blank_row classes b) (blank_row classes a) (map (blank_row classes) bs) (map (blank_row classes) xs) e) prefix.1)
 
   param_back : (p q : SentParam) (ss ts : List (Spot Class)) → blank_param q ≡ blank_param p → Zipped R (atom_spots (class_of p.ty p.enc) p.atom ++ ss) (atom_spots (class_of q.ty q.enc) q.atom ++ ts)
       → ParamsCorrespond R p q × Zipped R ss ts
@@ -289,8 +289,8 @@ module _ (R : Pairing) where
   params_back [] (q ∷ qs) e h = absurd cc
   params_back (p ∷ ps) [] e h = absurd cc
   params_back (p ∷ ps) (q ∷ qs) e h =
-      let front = param_back p q (params_spots ps) (params_spots qs) (first (blank_param q) (blank_param p) (map blank_param qs) (map blank_param ps) e) h in
-      (front.0, params_back ps qs (rest_of (blank_param q) (blank_param p) (map blank_param qs) (map blank_param ps) e) front.1)
+      let prefix = param_back p q (params_spots ps) (params_spots qs) (first (blank_param q) (blank_param p) (map blank_param qs) (map blank_param ps) e) h in
+      (prefix.0, params_back ps qs (rest_of (blank_param q) (blank_param p) (map blank_param qs) (map blank_param ps) e) prefix.1)
 
   request_back : (q p : Request) → blank_request p ≡ blank_request q → Zipped R (request_spots q) (request_spots p) → RequestsCorrespond R q p
   request_back (Describe session text ds) (Describe s t more) e h = e
@@ -336,10 +336,10 @@ module _ (R : Pairing) where
   frame_back classes (Asked a) (Asked b) e h =
       let same = ap (asked_in a) e in
       (ap (λ (v : Versioned Request). v.version) same, request_back a.message b.message (ap (λ (v : Versioned Request). v.message) same) h)
-  frame_back classes (Asked a) (Told b) e h = absurd cc
-  frame_back classes (Told a) (Asked b) e h = absurd cc
-  frame_back classes (Told a) (Told b) e h =
-      let same = ap (told_in a) e in
+  frame_back classes (Asked a) (Replied b) e h = absurd cc
+  frame_back classes (Replied a) (Asked b) e h = absurd cc
+  frame_back classes (Replied a) (Replied b) e h =
+      let same = ap (known_in a) e in
       (ap (λ (v : Versioned Payload). v.version) same, payload_back classes a.message b.message (ap (λ (v : Versioned Payload). v.message) same) h)
 
 -- ---- the classes told are told without the cells
@@ -354,7 +354,7 @@ behind_blank classes (Rows rows) = refl
 
 after_blank : (classes : List Class) (f : Frame) → classes_after classes (blank_frame classes f) ≡ classes_after classes f
 after_blank classes (Asked a) = refl
-after_blank classes (Told t) = behind_blank classes t.message
+after_blank classes (Replied t) = behind_blank classes t.message
 
 after_same : (classes : List Class) (f g : Frame) → blank_frame classes g ≡ blank_frame classes f → classes_after classes g ≡ classes_after classes f
 after_same classes f g e = sym (after_blank classes g) ∙ ap (classes_after classes) e ∙ after_blank classes f
@@ -366,9 +366,9 @@ frames_on R cells classes [] [] h = tt
 frames_on R cells classes [] (g ∷ gs) h = absurd h
 frames_on R cells classes (f ∷ fs) [] h = absurd h
 frames_on R cells classes (f ∷ fs) (g ∷ gs) h =
-    let front = frame_on R cells classes f g h.0 in (
-      front,
-      subst (λ cs. AreRenamed (AtCells R) (parts_of (classes_after classes f) fs) (parts_of cs gs)) (sym (after_same classes f g front.0)) (frames_on R cells (classes_after classes f) fs gs h.1),
+    let prefix = frame_on R cells classes f g h.0 in (
+      prefix,
+      subst (λ cs. AreRenamed (AtCells R) (parts_of (classes_after classes f) fs) (parts_of cs gs)) (sym (after_same classes f g prefix.0)) (frames_on R cells (classes_after classes f) fs gs h.1),
     )
 
 pub frames_back : (R : Pairing) (classes : List Class) (fs gs : List Frame) → AreRenamed (AtCells R) (parts_of classes fs) (parts_of classes gs) → FramesRenamed R classes fs gs

@@ -17,7 +17,7 @@ use Rattle.wire_payloads.specs.declared.payloads.Payload.TheVariants.{One, Rows}
 use Rattle.wire_encoding.specs.Packing.{payloads_of}
 use Rattle.tap_listing.specs.Frames.{classes_behind, entries_of}
 use Rattle.tap_listing.specs.declared.frames.Frame.{Frame}
-use Rattle.listing_laws.specs.Recorded.{told_in, recorded, ExchangesCarriedAlike, FitsClass, RowFits, ReplyFits, PayloadFits}
+use Rattle.listing_laws.specs.Recorded.{known_in, recorded, ExchangesCarriedAlike, FitsClass, RowFits, ReplyFits, PayloadFits}
 use Rattle.listing_laws.specs.Renamed.{RowsRenamed, ReplyRenamed, PayloadRenamed, FramesRenamed}
 use Rattle.listing_laws.proofs.Alike.{hidden}
 
@@ -69,23 +69,23 @@ module _ (R : Pairing) (cells : PairsCells R) where
   payload_renamed classes (Rows rs) (Rows os) h = rows_renamed classes rs os h
 
   -- the classes that a server's answer tells, and those that its frames tell
-  told_alike : (classes : List Class) (p : Payload) → classes_past classes p ≡ classes_behind classes p
-  told_alike classes (One (Described d)) = refl
-  told_alike classes (One (Columns d)) = refl
-  told_alike classes (One (Row row)) = refl
-  told_alike classes (One (Ended d)) = refl
-  told_alike classes (One (Refused d)) = refl
-  told_alike classes (Rows rows) = refl
+  known_alike : (classes : List Class) (p : Payload) → classes_past classes p ≡ classes_behind classes p
+  known_alike classes (One (Described d)) = refl
+  known_alike classes (One (Columns d)) = refl
+  known_alike classes (One (Row row)) = refl
+  known_alike classes (One (Ended d)) = refl
+  known_alike classes (One (Refused d)) = refl
+  known_alike classes (Rows rows) = refl
 
-  -- frames of an answer, and frames behind them that are renamed whatever was told
+  -- frames of an answer, and frames after them that are renamed whatever was told
   answer_renamed : (version : FrameVersion) (classes : List Class) (ps qs : List Payload) (fs gs : List Frame) → PayloadsCorrespond R classes ps qs → ((cs : List Class) → FramesRenamed R cs fs gs)
-      → FramesRenamed R classes (map (told_in version) ps ++ fs) (map (told_in version) qs ++ gs)
+      → FramesRenamed R classes (map (known_in version) ps ++ fs) (map (known_in version) qs ++ gs)
   answer_renamed version classes [] [] fs gs h f = f classes
   answer_renamed version classes [] (q ∷ qs) fs gs h f = absurd h
   answer_renamed version classes (p ∷ ps) [] fs gs h f = absurd h
   answer_renamed version classes (p ∷ ps) (q ∷ qs) fs gs h f = (
     (refl, payload_renamed classes p q h.0),
-    answer_renamed version (classes_behind classes p) ps qs fs gs (subst (λ cs. PayloadsCorrespond R cs ps qs) (told_alike classes p) h.1) f,
+    answer_renamed version (classes_behind classes p) ps qs fs gs (subst (λ cs. PayloadsCorrespond R cs ps qs) (known_alike classes p) h.1) f,
   )
 
   exchanges_renamed : (version : FrameVersion) (es others : List Exchange) → AllZip (ExchangesCarriedAlike R version) es others

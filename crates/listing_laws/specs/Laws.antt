@@ -1,4 +1,4 @@
--- Listings show what is seen: recordings have one listing exactly where the one is the other under a renaming.
+-- Listings show what is seen: recordings have one listing exactly if one is the other under a renaming.
 use Rattle.std.specs.Prelude.{◌≡◌, ◌↔◌, ℕ, List, [], ◌∷◌}
 use Rattle.std.specs.List.{All, AllZip}
 use Rattle.ae_base.specs.declared.atoms.AtomOf.TheVariants.{Sealed}
@@ -47,7 +47,7 @@ abbrev pub ExchangesListedAlike : Type 0
 ExchangesListedAlike = (entries : List Entry) → IsRenaming entries → (version : FrameVersion) (exchanges others : List Exchange)
     → AllZip (ExchangesCarriedAlike (Listing entries) version) exchanges others → entries_of (recorded version others) ≡ entries_of (recorded version exchanges)
 
--- where rows fit the columns told before them, what is renamed corresponds as the answers of a server do
+-- where rows fit the columns described before them, what is renamed corresponds as the answers of a server do
 abbrev pub FittingFramesCorrespond : Type 0
 FittingFramesCorrespond = (entries : List Entry) → IsRenaming entries → (classes : List Class) (payload other : Payload) → PayloadFits classes payload
     → PayloadRenamed (Listing entries) classes payload other → PayloadCorresponds (Listing entries) classes payload other

@@ -1,4 +1,4 @@
--- Recordings of exchanges, and rows that fit the columns told before them.
+-- Recordings of exchanges, and rows that fit the columns described before them.
 use Rattle.std.specs.Prelude.{List, [], ◌∷◌, map, flat_map}
 use Rattle.std.specs.List.{All, AllZip}
 use Rattle.ae_base.specs.Atoms.{Atom}
@@ -14,14 +14,14 @@ use Rattle.wire_payloads.specs.declared.payloads.Payload.{Payload}
 use Rattle.wire_payloads.specs.declared.payloads.Payload.TheVariants.{One, Rows}
 use Rattle.wire_encoding.specs.Packing.{payloads_of}
 use Rattle.tap_listing.specs.declared.frames.Frame.{Frame}
-use Rattle.tap_listing.specs.declared.frames.Frame.TheVariants.{Asked, Told}
+use Rattle.tap_listing.specs.declared.frames.Frame.TheVariants.{Asked, Replied}
 
-abbrev pub told_in : FrameVersion → Payload → Frame
-told_in version payload = Told (record { version = version; message = payload })
+abbrev pub known_in : FrameVersion → Payload → Frame
+known_in version payload = Replied (record { version = version; message = payload })
 
 -- a request, and the frames of the replies to it
 abbrev pub recorded_one : FrameVersion → Exchange → List Frame
-recorded_one version e = Asked (record { version = version; message = e.request }) ∷ map (told_in version) (payloads_of version e.replies)
+recorded_one version e = Asked (record { version = version; message = e.request }) ∷ map (known_in version) (payloads_of version e.replies)
 
 abbrev pub recorded : FrameVersion → List Exchange → List Frame
 recorded version exchanges = flat_map (recorded_one version) exchanges
@@ -30,7 +30,7 @@ recorded version exchanges = flat_map (recorded_one version) exchanges
 abbrev pub ExchangesCarriedAlike : Pairing → FrameVersion → Exchange → Exchange → Type 0
 ExchangesCarriedAlike R version e f = RequestsCorrespond R e.request f.request × PayloadsCorrespond R [] (payloads_of version e.replies) (payloads_of version f.replies)
 
--- ---- rows that fit: as many atoms as columns were told, no cell at an open place, no value at a protected one
+-- ---- rows that fit: as many atoms as columns were described, no cell at an open place, no value at a protected one
 
 abbrev pub IsNotPlain : Atom → Type 0
 IsNotPlain Null = Unit {0}

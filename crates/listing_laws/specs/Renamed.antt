@@ -1,4 +1,4 @@
--- A recording that is another under a renaming: equal but for cells, which a pairing pairs class by class.
+-- A recording that is another under a renaming: equal up to cells, which a pairing pairs class by class.
 use Rattle.std.specs.Prelude.{◌≡◌, List, [], ◌∷◌, map}
 use Rattle.std.specs.List.{AllZip}
 use Rattle.ae_base.specs.Atoms.{Atom}
@@ -12,9 +12,9 @@ use Rattle.wire_payloads.specs.declared.payloads.Payload.{Payload}
 use Rattle.wire_payloads.specs.declared.payloads.Payload.TheVariants.{One, Rows}
 use Rattle.tap_listing.specs.Frames.{classes_after, parts_of}
 use Rattle.tap_listing.specs.declared.frames.Frame.{Frame}
-use Rattle.tap_listing.specs.declared.frames.Frame.TheVariants.{Asked, Told}
+use Rattle.tap_listing.specs.declared.frames.Frame.TheVariants.{Asked, Replied}
 
--- atom by atom, at the classes of the columns that were told; an atom past these is equal
+-- atom by atom, at the classes of the columns that were described; an atom past these is equal
 abbrev pub RowsRenamed : Pairing → List Class → List Atom → List Atom → Type 0
 RowsRenamed R classes [] [] = Unit {0}
 RowsRenamed R classes [] (b ∷ bs) = ⊥
@@ -41,9 +41,9 @@ PayloadRenamed R classes (Rows rows) (Rows others) = AllZip (RowsRenamed R class
 
 abbrev pub FrameRenamed : Pairing → List Class → Frame → Frame → Type 0
 FrameRenamed R classes (Asked asked) (Asked other) = (other.version ≡ asked.version) × RequestsCorrespond R asked.message other.message
-FrameRenamed R classes (Asked asked) (Told other) = ⊥
-FrameRenamed R classes (Told told) (Asked other) = ⊥
-FrameRenamed R classes (Told told) (Told other) = (other.version ≡ told.version) × PayloadRenamed R classes told.message other.message
+FrameRenamed R classes (Asked asked) (Replied other) = ⊥
+FrameRenamed R classes (Replied known) (Asked other) = ⊥
+FrameRenamed R classes (Replied known) (Replied other) = (other.version ≡ known.version) × PayloadRenamed R classes known.message other.message
 
 -- frame by frame, at the classes that the frames before tell
 abbrev pub FramesRenamed : Pairing → List Class → List Frame → List Frame → Type 0

@@ -12,7 +12,7 @@ ghost use Rattle.listing_laws.specs.Laws.{
 
 use twin_laws::laws::twins_alike;
 
-/// Recordings of which one is the other under a renaming have one listing.
+/// Recordings that are renamed into each other have one listing.
 pub fn listings_hide_renamings()
     ensures { ListingsHideRenamings }
 {}
@@ -33,7 +33,7 @@ pub fn exchanges_listed_alike()
     ensures { ExchangesListedAlike }
 {}
 
-/// Where rows fit the columns told before them, frames that are renamed correspond as those of a
+/// If rows fit the columns described before them, frames that are renamed correspond as those of a
 /// server's answers do.
 pub fn fitting_frames_correspond()
     ensures { FittingFramesCorrespond }

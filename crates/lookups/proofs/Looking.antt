@@ -80,38 +80,38 @@ use Rattle.lookups.specs.Lookups.{
 use Rattle.lookups.specs.Conjuncts.{conjuncts}
 use Rattle.lookups.specs.Reach.{is_safe}
 use Rattle.lookups.proofs.Reaching.{and_both}
-use Rattle.lookups.proofs.Holding.{ok_bool, held, holds, asks_safe, holds_conjuncts, OnPrefix, kept, atom_front}
+use Rattle.lookups.proofs.Holding.{ok_bool, held, holds, asks_safe, holds_conjuncts, OnPrefix, kept, atom_prefix}
 use Rattle.lookups.proofs.Equal.{equal_atoms, atom_eq_back}
 
 -- ---- what a look-up is given by
 
 abbrev pub AreGiven : ℕ → List BoundCondition → List ℕ → List (List BoundOperand) → Type 0
-AreGiven width cs places keys =
-    ((values : List BoundOperand) × (pins width cs places ≡ Some values) × (keys ≡ values ∷ []))
-    ⊎ ((values : List BoundOperand) × (choices width cs places ≡ Some values) × (keys ≡ map (λ value. value ∷ []) values))
+AreGiven width cs ordinals keys =
+    ((values : List BoundOperand) × (pins width cs ordinals ≡ Some values) × (keys ≡ values ∷ []))
+    ⊎ ((values : List BoundOperand) × (choices width cs ordinals ≡ Some values) × (keys ≡ map (λ value. value ∷ []) values))
 
 pub record IsGiven (width more : ℕ) (cs : List BoundCondition) (lookup : Lookup) : Type 0 where
-  pub within : list_all (λ place. nat_lt place more) lookup.places ≡ true
-  pub keys : AreGiven width cs lookup.places lookup.keys
+  pub within : list_all (λ ordinal. nat_lt ordinal more) lookup.ordinals ≡ true
+  pub keys : AreGiven width cs lookup.ordinals lookup.keys
 
 abbrev look : List ℕ → List (List BoundOperand) → Lookup
-look places keys = record { places = places; keys = keys }
+look ordinals keys = record { ordinals = ordinals; keys = keys }
 
 abbrev some_lookup : Lookup → Option Lookup
 some_lookup lookup = Some lookup
 
 module _ (width more : ℕ) (cs : List BoundCondition) where
-  by_given : (places : List ℕ) (lookup : Lookup) (b : Bool) (p c : Option (List BoundOperand))
-      → list_all (λ place. nat_lt place more) places ≡ b → pins width cs places ≡ p → choices width cs places ≡ c
-      → cond b (or_else (one_key places p) (one_each places c)) None ≡ some_lookup lookup → IsGiven width more cs lookup
-  by_given places lookup false p c w e f g = absurd cc
-  by_given places lookup true (Some values) c w e f g =
-      let same : look places (values ∷ []) ≡ lookup = cc in
+  by_given : (ordinals : List ℕ) (lookup : Lookup) (b : Bool) (p c : Option (List BoundOperand))
+      → list_all (λ ordinal. nat_lt ordinal more) ordinals ≡ b → pins width cs ordinals ≡ p → choices width cs ordinals ≡ c
+      → cond b (or_else (one_key ordinals p) (one_each ordinals c)) None ≡ some_lookup lookup → IsGiven width more cs lookup
+  by_given ordinals lookup false p c w e f g = absurd cc
+  by_given ordinals lookup true (Some values) c w e f g =
+      let same : look ordinals (values ∷ []) ≡ lookup = cc in
       subst (IsGiven width more cs) same (record { within = w; keys = inl (values, e, refl) })
-  by_given places lookup true None (Some values) w e f g =
-      let same : look places (map (λ value. value ∷ []) values) ≡ lookup = cc in
+  by_given ordinals lookup true None (Some values) w e f g =
+      let same : look ordinals (map (λ value. value ∷ []) values) ≡ lookup = cc in
       subst (IsGiven width more cs) same (record { within = w; keys = inr (values, f, refl) })
-  by_given places lookup true None None w e f g = absurd cc
+  by_given ordinals lookup true None None w e f g = absurd cc
 
   pub lookup_given : (uniques : List (List ℕ)) (lookup : Lookup) → lookup_in width more cs uniques ≡ some_lookup lookup → IsGiven width more cs lookup
   lookup_given [] lookup e = absurd cc
@@ -120,28 +120,28 @@ module _ (width more : ℕ) (cs : List BoundCondition) where
       one_more : (o : Option Lookup) → lookup_by width more cs key ≡ o
           → (lookup_in width more cs keys ≡ some_lookup lookup → IsGiven width more cs lookup) → or_else o (lookup_in width more cs keys) ≡ some_lookup lookup → IsGiven width more cs lookup
       one_more (Some found) f r g =
-          by_given key lookup (list_all (λ place. nat_lt place more) key) (pins width cs key) (choices width cs key) refl refl refl (f ∙ g)
+          by_given key lookup (list_all (λ ordinal. nat_lt ordinal more) key) (pins width cs key) (choices width cs key) refl refl refl (f ∙ g)
       one_more None f r g = r g
 
-  by_places : (places : List ℕ) (lookup : Lookup) (b : Bool) (p c : Option (List BoundOperand))
-      → cond b (or_else (one_key places p) (one_each places c)) None ≡ some_lookup lookup → places ≡ lookup.places
-  by_places places lookup false p c g = absurd cc
-  by_places places lookup true (Some values) c g =
-      let same : look places (values ∷ []) ≡ lookup = cc in
-      ap (λ (l : Lookup). l.places) same
-  by_places places lookup true None (Some values) g =
-      let same : look places (map (λ value. value ∷ []) values) ≡ lookup = cc in
-      ap (λ (l : Lookup). l.places) same
-  by_places places lookup true None None g = absurd cc
+  by_ordinals : (ordinals : List ℕ) (lookup : Lookup) (b : Bool) (p c : Option (List BoundOperand))
+      → cond b (or_else (one_key ordinals p) (one_each ordinals c)) None ≡ some_lookup lookup → ordinals ≡ lookup.ordinals
+  by_ordinals ordinals lookup false p c g = absurd cc
+  by_ordinals ordinals lookup true (Some values) c g =
+      let same : look ordinals (values ∷ []) ≡ lookup = cc in
+      ap (λ (l : Lookup). l.ordinals) same
+  by_ordinals ordinals lookup true None (Some values) g =
+      let same : look ordinals (map (λ value. value ∷ []) values) ≡ lookup = cc in
+      ap (λ (l : Lookup). l.ordinals) same
+  by_ordinals ordinals lookup true None None g = absurd cc
 
   -- it is of one of the keys
-  pub lookup_key : (uniques : List (List ℕ)) (lookup : Lookup) → lookup_in width more cs uniques ≡ some_lookup lookup → Contains uniques lookup.places
+  pub lookup_key : (uniques : List (List ℕ)) (lookup : Lookup) → lookup_in width more cs uniques ≡ some_lookup lookup → Contains uniques lookup.ordinals
   lookup_key [] lookup e = absurd cc
   lookup_key (key ∷ keys) lookup e = one_more (lookup_by width more cs key) refl (λ g. lookup_key keys lookup g) e
     where
       one_more : (o : Option Lookup) → lookup_by width more cs key ≡ o
-          → (lookup_in width more cs keys ≡ some_lookup lookup → Contains keys lookup.places) → or_else o (lookup_in width more cs keys) ≡ some_lookup lookup → Contains (key ∷ keys) lookup.places
-      one_more (Some found) f r g = (0, omega arith, by_places key lookup (list_all (λ place. nat_lt place more) key) (pins width cs key) (choices width cs key) (f ∙ g))
+          → (lookup_in width more cs keys ≡ some_lookup lookup → Contains keys lookup.ordinals) → or_else o (lookup_in width more cs keys) ≡ some_lookup lookup → Contains (key ∷ keys) lookup.ordinals
+      one_more (Some found) f r g = (0, omega arith, by_ordinals key lookup (list_all (λ ordinal. nat_lt ordinal more) key) (pins width cs key) (choices width cs key) (f ∙ g))
       one_more None f r g = let there = r g in (suc there.0, omega (arith, there.1), there.2)
 
 -- ---- operands
@@ -149,8 +149,8 @@ module _ (width more : ℕ) (cs : List BoundCondition) where
 abbrev ok_atom : Atom → Result Atom Overflow
 ok_atom atom = Ok atom
 
-atom_next : (row next : List Atom) (place : ℕ) → atom_at (row ++ next) (length row + place) ≡ atom_at next place
-atom_next row next place = unwrap_or-slice_get (row ++ next) (length row + place) Null ∙ get_or-append-add row next place Null ∙ sym (unwrap_or-slice_get next place Null)
+atom_next : (row next : List Atom) (ordinal : ℕ) → atom_at (row ++ next) (length row + ordinal) ≡ atom_at next ordinal
+atom_next row next ordinal = unwrap_or-slice_get (row ++ next) (length row + ordinal) Null ∙ get_or-append-add row next ordinal Null ∙ sym (unwrap_or-slice_get next ordinal Null)
 
 module _ (params : List Atom) (width : ℕ) (row next : List Atom) (wide : length row ≡ width) where
   known_worth : (v : BoundOperand) → is_known width v ≡ true → eval (row ++ next) params v ≡ ok_atom (worth params row v)
@@ -158,18 +158,18 @@ module _ (params : List Atom) (width : ℕ) (row next : List Atom) (wide : lengt
   known_worth (operands.Param at p) e = refl
   known_worth (operands.Column at p) e =
       let less : p < width = ltb-true p width e in
-      ap ok_atom (atom_front row next p (omega (arith, less, wide)))
+      ap ok_atom (atom_prefix row next p (omega (arith, less, wide)))
   known_worth (operands.Minus at v) e = absurd cc
   known_worth (operands.Sum first terms) e = absurd cc
 
-  column_worth : (place : ℕ) (v : BoundOperand) → is_column width place v ≡ true → eval (row ++ next) params v ≡ ok_atom (atom_at next place)
-  column_worth place (operands.Literal at v) e = absurd cc
-  column_worth place (operands.Param at p) e = absurd cc
-  column_worth place (operands.Column at p) e =
-      let same : p ≡ width + place = eqb-true p (width + place) e in
-      ap ok_atom (ap (atom_at (row ++ next)) (same ∙ ap (λ w. w + place) (sym wide)) ∙ atom_next row next place)
-  column_worth place (operands.Minus at v) e = absurd cc
-  column_worth place (operands.Sum first terms) e = absurd cc
+  column_worth : (ordinal : ℕ) (v : BoundOperand) → is_column width ordinal v ≡ true → eval (row ++ next) params v ≡ ok_atom (atom_at next ordinal)
+  column_worth ordinal (operands.Literal at v) e = absurd cc
+  column_worth ordinal (operands.Param at p) e = absurd cc
+  column_worth ordinal (operands.Column at p) e =
+      let same : p ≡ width + ordinal = eqb-true p (width + ordinal) e in
+      ap ok_atom (ap (atom_at (row ++ next)) (same ∙ ap (λ w. w + ordinal) (sym wide)) ∙ atom_next row next ordinal)
+  column_worth ordinal (operands.Minus at v) e = absurd cc
+  column_worth ordinal (operands.Sum first terms) e = absurd cc
 
   equal_worth : (at : ℕ) (left right : BoundOperand) (a b : Atom) → eval (row ++ next) params left ≡ ok_atom a → eval (row ++ next) params right ≡ ok_atom b
       → holds params (conditions.Compare at comparison.Equal left right) (row ++ next) ≡ atom_eq a b
@@ -178,88 +178,88 @@ module _ (params : List Atom) (width : ℕ) (row next : List Atom) (wide : lengt
   -- ---- equalities
 
   abbrev HasWorth : ℕ → BoundOperand → Type 0
-  HasWorth place v = atom_eq (worth params row v) (atom_at next place) ≡ true
+  HasWorth ordinal v = atom_eq (worth params row v) (atom_at next ordinal) ≡ true
 
-  pinned : (at : ℕ) (left right : BoundOperand) (place : ℕ) (v : BoundOperand) → pin_between width place left right ≡ Some v
-      → holds params (conditions.Compare at comparison.Equal left right) (row ++ next) ≡ true → HasWorth place v
-  pinned at left right place v e h = by_test (is_column width place left && is_known width right) (is_column width place right && is_known width left) refl refl e
+  pinned : (at : ℕ) (left right : BoundOperand) (ordinal : ℕ) (v : BoundOperand) → pin_between width ordinal left right ≡ Some v
+      → holds params (conditions.Compare at comparison.Equal left right) (row ++ next) ≡ true → HasWorth ordinal v
+  pinned at left right ordinal v e h = by_test (is_column width ordinal left && is_known width right) (is_column width ordinal right && is_known width left) refl refl e
     where
-      by_test : (s t : Bool) → (is_column width place left && is_known width right) ≡ s → (is_column width place right && is_known width left) ≡ t
-          → cond s (Some right) (cond t (Some left) None) ≡ Some v → HasWorth place v
+      by_test : (s t : Bool) → (is_column width ordinal left && is_known width right) ≡ s → (is_column width ordinal right && is_known width left) ≡ t
+          → cond s (Some right) (cond t (Some left) None) ≡ Some v → HasWorth ordinal v
       by_test true t p q e =
-          let both = and_both (is_column width place left) (is_known width right) p in
+          let both = and_both (is_column width ordinal left) (is_known width right) p in
           let same : right ≡ v = cc in
-          subst (HasWorth place) same
-          (atom_eq_back (worth params row right) (atom_at next place)
-          ∙ sym (equal_worth at left right (atom_at next place) (worth params row right) (column_worth place left both.0) (known_worth right both.1))
+          subst (HasWorth ordinal) same
+          (atom_eq_back (worth params row right) (atom_at next ordinal)
+          ∙ sym (equal_worth at left right (atom_at next ordinal) (worth params row right) (column_worth ordinal left both.0) (known_worth right both.1))
           ∙ h)
       by_test false true p q e =
-          let both = and_both (is_column width place right) (is_known width left) q in
+          let both = and_both (is_column width ordinal right) (is_known width left) q in
           let same : left ≡ v = cc in
-          subst (HasWorth place) same
-          (sym (equal_worth at left right (worth params row left) (atom_at next place) (known_worth left both.1) (column_worth place right both.0)) ∙ h)
+          subst (HasWorth ordinal) same
+          (sym (equal_worth at left right (worth params row left) (atom_at next ordinal) (known_worth left both.1) (column_worth ordinal right both.0)) ∙ h)
       by_test false false p q e = absurd cc
 
-  pin_held : (place : ℕ) (c : BoundCondition) (v : BoundOperand) → pin_in width place c ≡ Some v → holds params c (row ++ next) ≡ true → HasWorth place v
-  pin_held place (conditions.Compare at comparison.Equal left right) v e h = pinned at left right place v e h
-  pin_held place (conditions.Compare at comparison.NotEqual left right) v e h = absurd cc
-  pin_held place (conditions.Compare at comparison.Less left right) v e h = absurd cc
-  pin_held place (conditions.Compare at comparison.LessEqual left right) v e h = absurd cc
-  pin_held place (conditions.Compare at comparison.Greater left right) v e h = absurd cc
-  pin_held place (conditions.Compare at comparison.GreaterEqual left right) v e h = absurd cc
-  pin_held place (conditions.IsNull negated operand) v e h = absurd cc
-  pin_held place (conditions.In at negated operand list) v e h = absurd cc
-  pin_held place (conditions.Not condition) v e h = absurd cc
-  pin_held place (conditions.AllOf all) v e h = absurd cc
-  pin_held place (conditions.AnyOf any) v e h = absurd cc
+  pin_held : (ordinal : ℕ) (c : BoundCondition) (v : BoundOperand) → pin_in width ordinal c ≡ Some v → holds params c (row ++ next) ≡ true → HasWorth ordinal v
+  pin_held ordinal (conditions.Compare at comparison.Equal left right) v e h = pinned at left right ordinal v e h
+  pin_held ordinal (conditions.Compare at comparison.NotEqual left right) v e h = absurd cc
+  pin_held ordinal (conditions.Compare at comparison.Less left right) v e h = absurd cc
+  pin_held ordinal (conditions.Compare at comparison.LessEqual left right) v e h = absurd cc
+  pin_held ordinal (conditions.Compare at comparison.Greater left right) v e h = absurd cc
+  pin_held ordinal (conditions.Compare at comparison.GreaterEqual left right) v e h = absurd cc
+  pin_held ordinal (conditions.IsNull negated operand) v e h = absurd cc
+  pin_held ordinal (conditions.In at negated operand list) v e h = absurd cc
+  pin_held ordinal (conditions.Not condition) v e h = absurd cc
+  pin_held ordinal (conditions.AllOf all) v e h = absurd cc
+  pin_held ordinal (conditions.AnyOf any) v e h = absurd cc
 
   abbrev all_hold : List BoundCondition → Bool
   all_hold cs = list_all (λ c. holds params c (row ++ next)) cs
 
-  first_held : (place : ℕ) (cs : List BoundCondition) (v : BoundOperand) → first_pin width place cs ≡ Some v → all_hold cs ≡ true → HasWorth place v
-  first_held place [] v e h = absurd cc
-  first_held place (c ∷ cs) v e h =
+  first_held : (ordinal : ℕ) (cs : List BoundCondition) (v : BoundOperand) → first_pin width ordinal cs ≡ Some v → all_hold cs ≡ true → HasWorth ordinal v
+  first_held ordinal [] v e h = absurd cc
+  first_held ordinal (c ∷ cs) v e h =
       let both = and_both (holds params c (row ++ next)) (all_hold cs) h in
-      one_more (pin_in width place c) refl both.0 (λ g. first_held place cs v g both.1) e
+      one_more (pin_in width ordinal c) refl both.0 (λ g. first_held ordinal cs v g both.1) e
     where
-      one_more : (o : Option BoundOperand) → pin_in width place c ≡ o → holds params c (row ++ next) ≡ true
-          → (first_pin width place cs ≡ Some v → HasWorth place v) → or_else o (first_pin width place cs) ≡ Some v → HasWorth place v
+      one_more : (o : Option BoundOperand) → pin_in width ordinal c ≡ o → holds params c (row ++ next) ≡ true
+          → (first_pin width ordinal cs ≡ Some v → HasWorth ordinal v) → or_else o (first_pin width ordinal cs) ≡ Some v → HasWorth ordinal v
       one_more (Some w) f t r g =
           let same : w ≡ v = cc in
-          subst (HasWorth place) same (pin_held place c w f t)
+          subst (HasWorth ordinal) same (pin_held ordinal c w f t)
       one_more None f t r g = r g
 
   abbrev IsKey : List ℕ → List BoundOperand → Type 0
-  IsKey places values = pointwise atom_eq (key_at params row values) (key_of places next) ≡ true
+  IsKey ordinals values = pointwise atom_eq (key_at params row values) (key_of ordinals next) ≡ true
 
   both_and : (a b : Bool) → a ≡ true → b ≡ true → (a && b) ≡ true
   both_and true b e f = f
   both_and false b e f = absurd cc
 
-  pins_held : (cs : List BoundCondition) → all_hold cs ≡ true → (places : List ℕ) (values : List BoundOperand) → pins width cs places ≡ Some values → IsKey places values
+  pins_held : (cs : List BoundCondition) → all_hold cs ≡ true → (ordinals : List ℕ) (values : List BoundOperand) → pins width cs ordinals ≡ Some values → IsKey ordinals values
   pins_held cs h [] values e =
       let same : [] ≡ values = cc in
       subst (IsKey []) same refl
-  pins_held cs h (place ∷ places) values e = one_more (first_pin width place cs) (pins width cs places) refl refl (λ vs g. pins_held cs h places vs g) e
+  pins_held cs h (ordinal ∷ ordinals) values e = one_more (first_pin width ordinal cs) (pins width cs ordinals) refl refl (λ vs g. pins_held cs h ordinals vs g) e
     where
-      one_more : (o : Option BoundOperand) (p : Option (List BoundOperand)) → first_pin width place cs ≡ o → pins width cs places ≡ p
-          → ((vs : List BoundOperand) → pins width cs places ≡ Some vs → IsKey places vs) → with_pin o p ≡ Some values → IsKey (place ∷ places) values
+      one_more : (o : Option BoundOperand) (p : Option (List BoundOperand)) → first_pin width ordinal cs ≡ o → pins width cs ordinals ≡ p
+          → ((vs : List BoundOperand) → pins width cs ordinals ≡ Some vs → IsKey ordinals vs) → with_pin o p ≡ Some values → IsKey (ordinal ∷ ordinals) values
       one_more None p f g r e = absurd cc
       one_more (Some v) None f g r e = absurd cc
       one_more (Some v) (Some vs) f g r e =
           let same : (v ∷ vs) ≡ values = cc in
-          subst (IsKey (place ∷ places)) same
-          (both_and (atom_eq (worth params row v) (atom_at next place)) (pointwise atom_eq (key_at params row vs) (key_of places next)) (first_held place cs v f h) (r vs g))
+          subst (IsKey (ordinal ∷ ordinals)) same
+          (both_and (atom_eq (worth params row v) (atom_at next ordinal)) (pointwise atom_eq (key_at params row vs) (key_of ordinals next)) (first_held ordinal cs v f h) (r vs g))
 
   -- ---- IN
 
   abbrev is_worth : ℕ → BoundOperand → Bool
-  is_worth place v = atom_eq (worth params row v) (atom_at next place)
+  is_worth ordinal v = atom_eq (worth params row v) (atom_at next ordinal)
 
-  record IsListed (x : Atom) (place : ℕ) (list : List BoundOperand) : Type 0 where
+  record IsListed (x : Atom) (ordinal : ℕ) (list : List BoundOperand) : Type 0 where
     pub truth : Truth
-    pub is : in_list (row ++ next) params (atom_at next place) list ≡ Ok truth
-    pub same : is_true truth ≡ list_any (is_worth place) list
+    pub is : in_list (row ++ next) params (atom_at next ordinal) list ≡ Ok truth
+    pub same : is_true truth ≡ list_any (is_worth ordinal) list
 
   either_true : (t u : Truth) → is_true (disjunction t u) ≡ (is_true t || is_true u)
   either_true truths.True u = refl
@@ -268,76 +268,79 @@ module _ (params : List Atom) (width : ℕ) (row next : List Atom) (wide : lengt
   either_true truths.Unknown truths.False = refl
   either_true truths.Unknown truths.Unknown = refl
 
-  listed_worth : (place : ℕ) (list : List BoundOperand) → list_all (is_known width) list ≡ true → IsListed (atom_at next place) place list
-  listed_worth place [] e = record { truth = truths.False; is = refl; same = refl }
-  listed_worth place (v ∷ vs) e =
+  listed_worth : (ordinal : ℕ) (list : List BoundOperand) → list_all (is_known width) list ≡ true → IsListed (atom_at next ordinal) ordinal list
+  listed_worth ordinal [] e = record { truth = truths.False; is = refl; same = refl }
+  listed_worth ordinal (v ∷ vs) e =
       let both = and_both (is_known width v) (list_all (is_known width) vs) e in
-      let more : IsListed (atom_at next place) place vs = listed_worth place vs both.1 in
-      let x : Atom = atom_at next place in
+      let more : IsListed (atom_at next ordinal) ordinal vs = listed_worth ordinal vs both.1 in
+      let x : Atom = atom_at next ordinal in
       record {
         truth = disjunction (compare comparison.Equal x (worth params row v)) more.truth;
         is = rw (known_worth v both.0, more.is) refl;
         same =
             either_true (compare comparison.Equal x (worth params row v)) more.truth
             ∙ ap (λ b. b || is_true more.truth) (equal_atoms x (worth params row v) ∙ atom_eq_back x (worth params row v))
-            ∙ ap (λ b. is_worth place v || b) more.same;
+            ∙ ap (λ b. is_worth ordinal v || b) more.same;
       }
 
-  among : (at : ℕ) (operand : BoundOperand) (list : List BoundOperand) (place : ℕ) (values : List BoundOperand) → choice_in width place (conditions.In at false operand list) ≡ Some values
-      → holds params (conditions.In at false operand list) (row ++ next) ≡ true → list_any (is_worth place) values ≡ true
-  among at operand list place values e h = by_test (is_column width place operand && list_all (is_known width) list) refl e
+  among : (at : ℕ) (operand : BoundOperand) (list : List BoundOperand) (ordinal : ℕ) (values : List BoundOperand) → choice_in width ordinal (conditions.In at false operand list) ≡ Some values
+      → holds params (conditions.In at false operand list) (row ++ next) ≡ true → list_any (is_worth ordinal) values ≡ true
+  among at operand list ordinal values e h = by_test (is_column width ordinal operand && list_all (is_known width) list) refl e
     where
-      by_test : (s : Bool) → (is_column width place operand && list_all (is_known width) list) ≡ s → cond s (Some list) None ≡ Some values → list_any (is_worth place) values ≡ true
+      by_test : (s : Bool) → (is_column width ordinal operand && list_all (is_known width) list) ≡ s → cond s (Some list) None ≡ Some values → list_any (is_worth ordinal) values ≡ true
       by_test true p e =
-          let both = and_both (is_column width place operand) (list_all (is_known width) list) p in
+          let both = and_both (is_column width ordinal operand) (list_all (is_known width) list) p in
           let same : list ≡ values = cc in
-          let more : IsListed (atom_at next place) place list = listed_worth place list both.1 in
-          let held_so : holds params (conditions.In at false operand list) (row ++ next) ≡ is_true more.truth = rw (column_worth place operand both.0, more.is) refl in
-          subst (λ vs. list_any (is_worth place) vs ≡ true) same (sym more.same ∙ sym held_so ∙ h)
+          let more : IsListed (atom_at next ordinal) ordinal list = listed_worth ordinal list both.1 in
+          let held_so : holds params (conditions.In at false operand list) (row ++ next) ≡ is_true more.truth = rw (column_worth ordinal operand both.0, more.is) refl in
+          subst (λ vs. list_any (is_worth ordinal) vs ≡ true) same (sym more.same ∙ sym held_so ∙ h)
       by_test false p e = absurd cc
 
-  choice_held : (place : ℕ) (c : BoundCondition) (values : List BoundOperand) → choice_in width place c ≡ Some values → holds params c (row ++ next) ≡ true → list_any (is_worth place) values ≡ true
-  choice_held place (conditions.In at false operand list) values e h = among at operand list place values e h
-  choice_held place (conditions.In at true operand list) values e h = absurd cc
-  choice_held place (conditions.Compare at compared left right) values e h = absurd cc
-  choice_held place (conditions.IsNull negated operand) values e h = absurd cc
-  choice_held place (conditions.Not condition) values e h = absurd cc
-  choice_held place (conditions.AllOf all) values e h = absurd cc
-  choice_held place (conditions.AnyOf any) values e h = absurd cc
+  choice_held : (ordinal : ℕ) (c : BoundCondition) (values : List BoundOperand) → choice_in width ordinal c ≡ Some values → holds params c (row ++ next) ≡ true
+      → list_any (is_worth ordinal) values ≡ true
+  choice_held ordinal (conditions.In at false operand list) values e h = among at operand list ordinal values e h
+  choice_held ordinal (conditions.In at true operand list) values e h = absurd cc
+  choice_held ordinal (conditions.Compare at compared left right) values e h = absurd cc
+  choice_held ordinal (conditions.IsNull negated operand) values e h = absurd cc
+  choice_held ordinal (conditions.Not condition) values e h = absurd cc
+  choice_held ordinal (conditions.AllOf all) values e h = absurd cc
+  choice_held ordinal (conditions.AnyOf any) values e h = absurd cc
 
-  first_choice_held : (place : ℕ) (cs : List BoundCondition) (values : List BoundOperand) → first_choice width place cs ≡ Some values → all_hold cs ≡ true → list_any (is_worth place) values ≡ true
-  first_choice_held place [] values e h = absurd cc
-  first_choice_held place (c ∷ cs) values e h =
+  first_choice_held : (ordinal : ℕ) (cs : List BoundCondition) (values : List BoundOperand) → first_choice width ordinal cs ≡ Some values → all_hold cs ≡ true
+      → list_any (is_worth ordinal) values ≡ true
+  first_choice_held ordinal [] values e h = absurd cc
+  first_choice_held ordinal (c ∷ cs) values e h =
       let both = and_both (holds params c (row ++ next)) (all_hold cs) h in
-      one_more (choice_in width place c) refl both.0 (λ g. first_choice_held place cs values g both.1) e
+      one_more (choice_in width ordinal c) refl both.0 (λ g. first_choice_held ordinal cs values g both.1) e
     where
-      one_more : (o : Option (List BoundOperand)) → choice_in width place c ≡ o → holds params c (row ++ next) ≡ true
-          → (first_choice width place cs ≡ Some values → list_any (is_worth place) values ≡ true) → or_else o (first_choice width place cs) ≡ Some values → list_any (is_worth place) values ≡ true
+      one_more : (o : Option (List BoundOperand)) → choice_in width ordinal c ≡ o → holds params c (row ++ next) ≡ true
+          → (first_choice width ordinal cs ≡ Some values → list_any (is_worth ordinal) values ≡ true) → or_else o (first_choice width ordinal cs) ≡ Some values
+          → list_any (is_worth ordinal) values ≡ true
       one_more (Some vs) f t r g =
           let same : vs ≡ values = cc in
-          subst (λ vs. list_any (is_worth place) vs ≡ true) same (choice_held place c vs f t)
+          subst (λ vs. list_any (is_worth ordinal) vs ≡ true) same (choice_held ordinal c vs f t)
       one_more None f t r g = r g
 
   -- ---- keys
 
   abbrev has_key : List ℕ → List BoundOperand → Bool
-  has_key places values = pointwise atom_eq (key_at params row values) (key_of places next)
+  has_key ordinals values = pointwise atom_eq (key_at params row values) (key_of ordinals next)
 
   and_true : (b : Bool) → (b && true) ≡ b
   and_true true = refl
   and_true false = refl
 
-  any_one : (place : ℕ) (values : List BoundOperand) → list_any (has_key (place ∷ [])) (map (λ v. v ∷ []) values) ≡ list_any (is_worth place) values
-  any_one place [] = refl
-  any_one place (v ∷ vs) =
-      ap (λ b. b || list_any (has_key (place ∷ [])) (map (λ v. v ∷ []) vs)) (and_true (is_worth place v))
-      ∙ ap (λ b. is_worth place v || b) (any_one place vs)
+  any_one : (ordinal : ℕ) (values : List BoundOperand) → list_any (has_key (ordinal ∷ [])) (map (λ v. v ∷ []) values) ≡ list_any (is_worth ordinal) values
+  any_one ordinal [] = refl
+  any_one ordinal (v ∷ vs) =
+      ap (λ b. b || list_any (has_key (ordinal ∷ [])) (map (λ v. v ∷ []) vs)) (and_true (is_worth ordinal v))
+      ∙ ap (λ b. is_worth ordinal v || b) (any_one ordinal vs)
 
-  by_choices : (cs : List BoundCondition) → all_hold cs ≡ true → (places : List ℕ) (values : List BoundOperand)
-      → choices width cs places ≡ Some values → list_any (has_key places) (map (λ v. v ∷ []) values) ≡ true
+  by_choices : (cs : List BoundCondition) → all_hold cs ≡ true → (ordinals : List ℕ) (values : List BoundOperand)
+      → choices width cs ordinals ≡ Some values → list_any (has_key ordinals) (map (λ v. v ∷ []) values) ≡ true
   by_choices cs h [] values e = absurd cc
-  by_choices cs h (place ∷ []) values e = any_one place values ∙ first_choice_held place cs values e h
-  by_choices cs h (place ∷ next_place ∷ places) values e = absurd cc
+  by_choices cs h (ordinal ∷ []) values e = any_one ordinal values ∙ first_choice_held ordinal cs values e h
+  by_choices cs h (ordinal ∷ next_ordinal ∷ ordinals) values e = absurd cc
 
   or_first : (b : Bool) → b ≡ true → (b || false) ≡ true
   or_first true e = refl
@@ -347,9 +350,9 @@ module _ (params : List Atom) (width : ℕ) (row next : List Atom) (wide : lengt
   pub given_found : (more : ℕ) (cs : List BoundCondition) (lookup : Lookup) → IsGiven width more cs lookup → all_hold cs ≡ true → is_found params lookup row next ≡ true
   given_found more cs lookup is h = by_keys is.keys
     where
-      by_keys : AreGiven width cs lookup.places lookup.keys → is_found params lookup row next ≡ true
-      by_keys (inl k) = subst (λ keys. list_any (has_key lookup.places) keys ≡ true) (sym k.2) (or_first (has_key lookup.places k.0) (pins_held cs h lookup.places k.0 k.1))
-      by_keys (inr k) = subst (λ keys. list_any (has_key lookup.places) keys ≡ true) (sym k.2) (by_choices cs h lookup.places k.0 k.1)
+      by_keys : AreGiven width cs lookup.ordinals lookup.keys → is_found params lookup row next ≡ true
+      by_keys (inl k) = subst (λ keys. list_any (has_key lookup.ordinals) keys ≡ true) (sym k.2) (or_first (has_key lookup.ordinals k.0) (pins_held cs h lookup.ordinals k.0 k.1))
+      by_keys (inr k) = subst (λ keys. list_any (has_key lookup.ordinals) keys ≡ true) (sym k.2) (by_choices cs h lookup.ordinals k.0 k.1)
 
   -- and where it isn't found, the condition is not true
   pub not_found : (more : ℕ) (on : BoundCondition) (lookup : Lookup) → is_safe on ≡ true → IsGiven width more (conjuncts on) lookup
@@ -387,18 +390,18 @@ found_joined params on width more uniques lookup rows (Ok row ∷ es) s e w =
     ∙ ap (λ xs. behind params on rows row ++ xs) (found_joined params on width more uniques lookup rows es s e w.1)
 found_joined params on width more uniques lookup rows (Err f ∷ es) s e w = ap (λ xs. (Err f ∷ []) ++ xs) (found_joined params on width more uniques lookup rows es s e w)
 
-same_key : (places : List ℕ) (n : ℕ) (row next : List Atom) → n ≤ length row → list_all (λ place. nat_lt place n) places ≡ true → key_of places (row ++ next) ≡ key_of places row
+same_key : (ordinals : List ℕ) (n : ℕ) (row next : List Atom) → n ≤ length row → list_all (λ ordinal. nat_lt ordinal n) ordinals ≡ true → key_of ordinals (row ++ next) ≡ key_of ordinals row
 same_key [] n row next le e = refl
-same_key (place ∷ places) n row next le e =
-    let both = and_both (nat_lt place n) (list_all (λ place. nat_lt place n) places) e in
-    let less : place < n = ltb-true place n both.0 in
-    ap (λ a. a ∷ key_of places (row ++ next)) (atom_front row next place (omega (arith, less, le)))
-    ∙ ap (λ k. atom_at row place ∷ k) (same_key places n row next le both.1)
+same_key (ordinal ∷ ordinals) n row next le e =
+    let both = and_both (nat_lt ordinal n) (list_all (λ ordinal. nat_lt ordinal n) ordinals) e in
+    let less : ordinal < n = ltb-true ordinal n both.0 in
+    ap (λ a. a ∷ key_of ordinals (row ++ next)) (atom_prefix row next ordinal (omega (arith, less, le)))
+    ∙ ap (λ k. atom_at row ordinal ∷ k) (same_key ordinals n row next le both.1)
 
 -- a look-up reads the first columns alone
-pub found_front : (params : List Atom) (n : ℕ) (lookup : Lookup) → list_all (λ place. nat_lt place n) lookup.places ≡ true → OnPrefix n (is_found params lookup [])
-found_front params n lookup e = λ row next le.
-    ap (λ k. list_any (λ values. pointwise atom_eq (key_at params [] values) k) lookup.keys) (same_key lookup.places n row next le e)
+pub found_prefix : (params : List Atom) (n : ℕ) (lookup : Lookup) → list_all (λ ordinal. nat_lt ordinal n) lookup.ordinals ≡ true → OnPrefix n (is_found params lookup [])
+found_prefix params n lookup e = λ row next le.
+    ap (λ k. list_any (λ values. pointwise atom_eq (key_at params [] values) k) lookup.keys) (same_key lookup.ordinals n row next le e)
 
 abbrev event_row : List Atom → Event
 event_row row = Ok row

@@ -7,7 +7,7 @@ use Rattle.sql_tree.specs.declared.operands.Operand as tree
 use Rattle.lookups.specs.declared.finding.Lookup as code
 use Rattle.lookups.specs.Lookups.{Lookup}
 
--- operands that are lent
+-- operands that are borrowed
 abbrev pub operands_lent : List (Bor (tree.Operand ℕ ℕ)) → List BoundOperand
 operands_lent operands = map (λ v. operand_of v.now) operands
 
@@ -15,4 +15,4 @@ abbrev pub operands_listed : List (List (Bor (tree.Operand ℕ ℕ))) → List (
 operands_listed keys = map operands_lent keys
 
 abbrev pub lookup_made : code.Lookup → Lookup
-lookup_made lookup = record { places = lookup.places; keys = operands_listed lookup.keys }
+lookup_made lookup = record { ordinals = lookup.ordinals; keys = operands_listed lookup.keys }

@@ -20,7 +20,7 @@ use std::alloc::{AllocError, Global};
 /// The columns of a unique key, and the keys that they are to have.
 #[derive(Drop)]
 pub struct Lookup<'a> {
-    pub places: Seq<usize>,
+    pub ordinals: Seq<usize>,
     pub keys: Seq<Seq<&'a BoundOperand>>,
 }
 
@@ -36,36 +36,36 @@ fn is_known(width: usize, operand: &BoundOperand) -> bool
     }
 }
 
-/// The column of a place, behind the first ones.
-fn is_column(width: usize, place: usize, operand: &BoundOperand) -> bool
-    ensures { result ≡ is_column width place (operand_of operand.now) }
+/// The column of an ordinal, after the first ones.
+fn is_column(width: usize, ordinal: usize, operand: &BoundOperand) -> bool
+    ensures { result ≡ is_column width ordinal (operand_of operand.now) }
 {
     match operand {
-        Operand::Column { column, .. } => is_behind(width, place, *column),
+        Operand::Column { column, .. } => is_behind(width, ordinal, *column),
         Operand::Literal { .. } | Operand::Param { .. } | Operand::Minus { .. } => false,
         Operand::Sum { .. } => false,
     }
 }
 
-fn is_behind(width: usize, place: usize, column: usize) -> bool
-    ensures { result ≡ (column == width + place) }
+fn is_behind(width: usize, ordinal: usize, column: usize) -> bool
+    ensures { result ≡ (column == width + ordinal) }
 {
-    column >= width && column - width == place
+    column >= width && column - width == ordinal
 }
 
 /// What a column is asked to equal.
 fn pin_between<'a>(
     width: usize,
-    place: usize,
+    ordinal: usize,
     left: &'a BoundOperand,
     right: &'a BoundOperand,
 ) -> Option<&'a BoundOperand>
     ensures { option_map (λ v. operand_of v.now) result
-        ≡ pin_between width place (operand_of left.now) (operand_of right.now) }
+        ≡ pin_between width ordinal (operand_of left.now) (operand_of right.now) }
 {
-    if is_column(width, place, left) && is_known(width, right) {
+    if is_column(width, ordinal, left) && is_known(width, right) {
         Some(right)
-    } else if is_column(width, place, right) && is_known(width, left) {
+    } else if is_column(width, ordinal, right) && is_known(width, left) {
         Some(left)
     } else {
         None
@@ -74,17 +74,17 @@ fn pin_between<'a>(
 
 fn pin_of_comparison<'a>(
     width: usize,
-    place: usize,
+    ordinal: usize,
     comparison: &Comparison,
     left: &'a BoundOperand,
     right: &'a BoundOperand,
 ) -> Option<&'a BoundOperand>
     ensures { option_map (λ v. operand_of v.now) result
-        ≡ pin_of_comparison width place comparison.now
+        ≡ pin_of_comparison width ordinal comparison.now
         (operand_of left.now) (operand_of right.now) }
 {
     match comparison {
-        Comparison::Equal => pin_between(width, place, left, right),
+        Comparison::Equal => pin_between(width, ordinal, left, right),
         Comparison::NotEqual
         | Comparison::Less
         | Comparison::LessEqual
@@ -93,9 +93,13 @@ fn pin_of_comparison<'a>(
     }
 }
 
-fn pin_in<'a>(width: usize, place: usize, condition: &'a BoundCondition) -> Option<&'a BoundOperand>
+fn pin_in<'a>(
+    width: usize,
+    ordinal: usize,
+    condition: &'a BoundCondition,
+) -> Option<&'a BoundOperand>
     ensures { option_map (λ v. operand_of v.now) result
-        ≡ pin_in width place (condition_of condition.now) }
+        ≡ pin_in width ordinal (condition_of condition.now) }
 {
     match condition {
         Condition::Compare {
@@ -103,7 +107,7 @@ fn pin_in<'a>(width: usize, place: usize, condition: &'a BoundCondition) -> Opti
             left,
             right,
             ..
-        } => pin_of_comparison(width, place, comparison, left, right),
+        } => pin_of_comparison(width, ordinal, comparison, left, right),
         Condition::IsNull { .. } | Condition::In { .. } | Condition::Not(_) => None,
         Condition::AllOf(_) | Condition::AnyOf(_) => None,
     }
@@ -112,14 +116,14 @@ fn pin_in<'a>(width: usize, place: usize, condition: &'a BoundCondition) -> Opti
 /// The first condition that says it.
 fn first_pin<'a>(
     width: usize,
-    place: usize,
+    ordinal: usize,
     conditions: &[&'a BoundCondition],
 ) -> Option<&'a BoundOperand>
     ensures { option_map (λ v. operand_of v.now) result
-        ≡ first_pin width place (lent conditions.now) }
+        ≡ first_pin width ordinal (lent conditions.now) }
 {
     for condition in conditions {
-        if let Some(value) = pin_in(width, place, condition) {
+        if let Some(value) = pin_in(width, ordinal, condition) {
             return Some(value);
         }
     }
@@ -131,14 +135,14 @@ fn pins<'a>(
     alloc: Global,
     width: usize,
     conditions: &[&'a BoundCondition],
-    places: &[usize],
+    ordinals: &[usize],
 ) -> Result<Option<Seq<&'a BoundOperand>>, AllocError>
     ensures { IfOk result (λ found. option_map operands_lent found
-        ≡ pins width (lent conditions.now) places.now) }
+        ≡ pins width (lent conditions.now) ordinals.now) }
 {
     let mut values = Seq::new(alloc);
-    for place in places {
-        match first_pin(width, *place, conditions) {
+    for ordinal in ordinals {
+        match first_pin(width, *ordinal, conditions) {
             Some(value) => values.push(value)?,
             None => return Ok(None),
         }
@@ -161,11 +165,11 @@ fn all_known(width: usize, operands: &[BoundOperand]) -> bool
 /// The operands that a column is asked to be among.
 fn choice_in<'a>(
     width: usize,
-    place: usize,
+    ordinal: usize,
     condition: &'a BoundCondition,
 ) -> Option<&'a [BoundOperand]>
     ensures { option_map (λ list. map operand_of list.now) result
-        ≡ choice_in width place (condition_of condition.now) }
+        ≡ choice_in width ordinal (condition_of condition.now) }
 {
     match condition {
         Condition::In {
@@ -173,7 +177,7 @@ fn choice_in<'a>(
             operand,
             list,
             ..
-        } => choice_of(width, place, *negated, operand, list),
+        } => choice_of(width, ordinal, *negated, operand, list),
         Condition::Compare { .. } | Condition::IsNull { .. } | Condition::Not(_) => None,
         Condition::AllOf(_) | Condition::AnyOf(_) => None,
     }
@@ -181,16 +185,16 @@ fn choice_in<'a>(
 
 fn choice_of<'a>(
     width: usize,
-    place: usize,
+    ordinal: usize,
     negated: bool,
     operand: &'a BoundOperand,
     list: &'a [BoundOperand],
 ) -> Option<&'a [BoundOperand]>
     ensures { (at : ℕ) → option_map (λ list. map operand_of list.now) result
-        ≡ choice_in width place
+        ≡ choice_in width ordinal
         (conditions.In at negated (operand_of operand.now) (map operand_of list.now)) }
 {
-    if !negated && is_column(width, place, operand) && all_known(width, list) {
+    if !negated && is_column(width, ordinal, operand) && all_known(width, list) {
         Some(list)
     } else {
         None
@@ -200,14 +204,14 @@ fn choice_of<'a>(
 /// The first condition that says it.
 fn first_choice<'a>(
     width: usize,
-    place: usize,
+    ordinal: usize,
     conditions: &[&'a BoundCondition],
 ) -> Option<&'a [BoundOperand]>
     ensures { option_map (λ list. map operand_of list.now) result
-        ≡ first_choice width place (lent conditions.now) }
+        ≡ first_choice width ordinal (lent conditions.now) }
 {
     for condition in conditions {
-        if let Some(list) = choice_in(width, place, condition) {
+        if let Some(list) = choice_in(width, ordinal, condition) {
             return Some(list);
         }
     }
@@ -218,13 +222,13 @@ fn first_choice<'a>(
 fn choices<'a>(
     width: usize,
     conditions: &[&'a BoundCondition],
-    places: &[usize],
+    ordinals: &[usize],
 ) -> Option<&'a [BoundOperand]>
     ensures { option_map (λ list. map operand_of list.now) result
-        ≡ choices width (lent conditions.now) places.now }
+        ≡ choices width (lent conditions.now) ordinals.now }
 {
-    match places {
-        [place] => first_choice(width, *place, conditions),
+    match ordinals {
+        [ordinal] => first_choice(width, *ordinal, conditions),
         [] | [_, _, ..] => None,
     }
 }
@@ -252,12 +256,12 @@ fn only<'a>(alloc: Global, operand: &'a BoundOperand) -> Result<Seq<&'a BoundOpe
     Ok(key)
 }
 
-/// Whether all places are below a number.
-fn all_within(more: usize, places: &[usize]) -> bool
-    ensures { result ≡ list_all (λ place. nat_lt place more) places.now }
+/// Whether all ordinals are below a number.
+fn all_within(more: usize, ordinals: &[usize]) -> bool
+    ensures { result ≡ list_all (λ ordinal. nat_lt ordinal more) ordinals.now }
 {
-    for place in places {
-        if *place >= more {
+    for ordinal in ordinals {
+        if *ordinal >= more {
             return false;
         }
     }
@@ -291,12 +295,12 @@ fn one_key<'a>(
     values: Seq<&'a BoundOperand>,
 ) -> Result<Option<Lookup<'a>>, AllocError>
     ensures { IfOk result (λ found. option_map lookup_made found
-        ≡ Some (record { places = key.now; keys = operands_lent values.entry ∷ [] })) }
+        ≡ Some (record { ordinals = key.now; keys = operands_lent values.entry ∷ [] })) }
 {
     let mut keys = Seq::new(alloc);
     keys.push(values)?;
     Ok(Some(Lookup {
-        places: key.copy()?,
+        ordinals: key.copy()?,
         keys,
     }))
 }
@@ -312,7 +316,7 @@ fn each_key<'a>(
     match list {
         None => Ok(None),
         Some(list) => Ok(Some(Lookup {
-            places: key.copy()?,
+            ordinals: key.copy()?,
             keys: one_each(alloc, list)?,
         })),
     }

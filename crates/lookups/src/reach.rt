@@ -98,11 +98,11 @@ fn can_negate(value: &Value) -> bool
     }
 }
 
-fn is_below(width: Option<usize>, place: usize) -> bool
-    ensures { result ≡ is_below width place }
+fn is_below(width: Option<usize>, ordinal: usize) -> bool
+    ensures { result ≡ is_below width ordinal }
 {
     match width {
-        Some(width) => place < width,
+        Some(width) => ordinal < width,
         None => true,
     }
 }

@@ -1,4 +1,4 @@
-//! The peer: listed answers, and what was asked and answered.
+//! The peer: listed answers, and a record of requests and answers.
 
 ghost use Rattle.std.specs.Prelude.{◌≡◌, ◌≤◌, ◌∷◌, ◌++◌, ◌↔◌, [], IfOk, IsTrue, MatchResult, Some, None, length};
 ghost use Rattle.wire_messages.specs.Exchanges.{HasKinds};
@@ -15,7 +15,7 @@ use std::marker::Model;
 use wire_messages::replies::Reply;
 use wire_messages::requests::Request;
 
-/// A peer in memory, which gives listed answers in order, and keeps what was asked and answered.
+/// A peer in memory, which gives listed answers in order, and records requests and answers.
 pub struct MemPeer {
     answers: VecDeque<Seq<Reply<'static>>>,
     exchanges: Vec<Exchange>,

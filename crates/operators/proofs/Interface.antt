@@ -8,7 +8,7 @@ pub use Rattle.operators.proofs.Collected.{fault_handed, if_ok, made_all}
 pub use Rattle.operators.proofs.Grouping.{alike_back, alike_on-keys, any-map, any_same, atom_read}
 pub use Rattle.operators.proofs.Grouping.{map-push}
 -- Groups keep what holds of each row, and go alike over rows that correspond.
-pub use Rattle.operators.proofs.GroupsAlike.{GroupCorresponds, OfFirst, at_places, grouped_alike}
+pub use Rattle.operators.proofs.GroupsAlike.{GroupCorresponds, OfFirst, at_ordinals, grouped_alike}
 pub use Rattle.operators.proofs.GroupsAlike.{grouped_all}
 -- DISTINCT, ORDER BY and TOP keep what holds of each row, and go alike over rows that correspond.
 pub use Rattle.operators.proofs.Keeping.{FoundCorresponds, Founds, all_first, all_sorted, all_top}
@@ -24,8 +24,8 @@ pub use Rattle.operators.proofs.Looking.{position_there}
 pub use Rattle.operators.proofs.Pairs.{EventsCorrespond, alike_there, any_alike, asks_alike}
 pub use Rattle.operators.proofs.Pairs.{both_before, both_then, both_within, each_alike}
 pub use Rattle.operators.proofs.Pairs.{filtered_alike, joined_alike, scanned_alike, zip_append}
--- An item of a list that was read, and what stands behind it.
-pub use Rattle.operators.proofs.Places.{All_there, all_at, all_mapped, drop_there, map_there}
+-- An item of a list that was read, and what stands after it.
+pub use Rattle.operators.proofs.Ordinals.{All_there, all_at, all_mapped, drop_there, map_there}
 -- What holds of each row that the operators of a walk meet.
 pub use Rattle.operators.proofs.Rowwise.{AllRows, rows_filtered, rows_joined, rows_scanned}
 -- A walk goes on from row to row, up to the first fault.

@@ -8,7 +8,7 @@ mod Limits
 mod Looking
 mod Orders
 mod Pairs
-mod Places
+mod Ordinals
 mod Rowwise
 mod Sorting
 mod Walking

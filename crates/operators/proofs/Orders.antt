@@ -91,7 +91,7 @@ rows_cmp keys row other = keys_cmp keys (keys_of keys row) (keys_of keys other)
 
 pub rows_total : (keys : List BoundOrderKey) → IsTotalOrder (rows_cmp keys)
 rows_total [] = point_total
-rows_total (key ∷ keys) = then_total (on_total (λ (row : List Atom). atom_at row key.place) (turned_total key.descending)) (rows_total keys)
+rows_total (key ∷ keys) = then_total (on_total (λ (row : List Atom). atom_at row key.ordinal) (turned_total key.descending)) (rows_total keys)
 
 -- ---- what a query shows
 

@@ -5,13 +5,13 @@ use Rattle.std.specs.Cmp.Lexicographic.{pointwise}
 use Rattle.ae_base.specs.Atoms.{Atom, alike}
 use Rattle.scalar.specs.Eval.{atom_at}
 
--- what a row has in the columns of these places
+-- what a row has in the columns of these ordinals
 abbrev pub key_of : List ℕ → List Atom → List Atom
-key_of places row = map (atom_at row) places
+key_of ordinals row = map (atom_at row) ordinals
 
--- two rows are alike on the columns of these places
+-- two rows are alike on the columns of these ordinals
 abbrev pub alike_on : List ℕ → List Atom → List Atom → Bool
-alike_on places row other = list_all (λ place. alike (atom_at row place) (atom_at other place)) places
+alike_on ordinals row other = list_all (λ ordinal. alike (atom_at row ordinal) (atom_at other ordinal)) ordinals
 
 -- two rows are alike in all their columns
 abbrev pub are_alike : List Atom → List Atom → Bool

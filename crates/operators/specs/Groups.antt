@@ -11,18 +11,18 @@ pub record Group : Type 0 where
 
 -- one more row: counted in the group that it is alike to, else a group of its own at the end
 abbrev pub grouped_row : List ℕ → List Group → List Atom → List Group
-grouped_row places [] row = record { first = row; count = 1 } ∷ []
-grouped_row places (group ∷ groups) row =
-    if alike_on places group.first row then record { first = group.first; count = group.count + 1 } ∷ groups else group ∷ grouped_row places groups row
+grouped_row ordinals [] row = record { first = row; count = 1 } ∷ []
+grouped_row ordinals (group ∷ groups) row =
+    if alike_on ordinals group.first row then record { first = group.first; count = group.count + 1 } ∷ groups else group ∷ grouped_row ordinals groups row
 
 abbrev pub grouping_of : List ℕ → List Group → List (List Atom) → List Group
-grouping_of places groups [] = groups
-grouping_of places groups (row ∷ rows) = grouping_of places (grouped_row places groups row) rows
+grouping_of ordinals groups [] = groups
+grouping_of ordinals groups (row ∷ rows) = grouping_of ordinals (grouped_row ordinals groups row) rows
 
 -- what the rows of each group have in these columns
 abbrev pub keys_on : List ℕ → List Group → List (List Atom)
-keys_on places groups = map (λ group. map (atom_at group.first) places) groups
+keys_on ordinals groups = map (λ group. map (atom_at group.first) ordinals) groups
 
--- a group of the code, whose first row is lent
+-- a group of the code, whose first row is borrowed
 abbrev pub group_of : {K : Type 0} → code.Group K → Group
 group_of group = record { first = group.first.now; count = group.count }

@@ -8,12 +8,12 @@ ghost use Rattle.operators.specs.Hashed.{datum_fed};
 use ae_base::atoms::{Atom, AtomOf, Row};
 use ae_base::sameness::Same;
 use ae_base::values::Datum;
-use sql_tree::bound::PlaceAt;
+use sql_tree::bound::OrdinalAt;
 use std::alloc::{AllocError, Global};
 use std::hash::{Hash, Hasher};
 use std::marker::Model;
 
-/// A lent atom, compared as unique keys, DISTINCT and GROUP BY do: NULL is like NULL.
+/// A borrowed atom, compared as unique keys, DISTINCT and GROUP BY do: NULL is like NULL.
 #[derive(Drop)]
 pub struct Alike<'a, K: Same> {
     atom: &'a Atom<K>,
@@ -29,7 +29,7 @@ impl<'a, K: Same> Model for Alike<'a, K> {
 }
 
 impl<'a, K: Same> Alike<'a, K> {
-    /// The atom, lent.
+    /// The atom, borrowed.
     pub fn new(atom: &'a Atom<K>) -> Alike<'a, K>
         ensures { result ≡ atom.now }
     {
@@ -116,17 +116,17 @@ pub(crate) fn atoms_of<'a, K: Same>(
 /// The atoms of a row in some columns.
 pub(crate) fn atoms_at<'a, K: Same>(
     alloc: Global,
-    columns: &[PlaceAt],
+    columns: &[OrdinalAt],
     row: &'a Row<K>,
 ) -> Result<Vec<Alike<'a, K>>, AllocError>
-    requires { All (λ column. column.place < length row.now) columns.now }
+    requires { All (λ column. column.ordinal < length row.now) columns.now }
     ensures { IfOk result
-        (λ atoms. atoms.items ≡ map (λ column. atom_at row.now column.place) columns.now) }
+        (λ atoms. atoms.items ≡ map (λ column. atom_at row.now column.ordinal) columns.now) }
 {
     let mut atoms = Vec::with_capacity(alloc, columns.len())?;
     for column in columns {
         atoms.push(Alike {
-            atom: row.get(column.place),
+            atom: row.get(column.ordinal),
         })?;
     }
     Ok(atoms)

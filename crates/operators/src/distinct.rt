@@ -1,4 +1,4 @@
-//! Rows without those that came before.
+//! Rows without repetitions.
 
 ghost use Rattle.std.specs.Prelude.{◌≡◌, ◌++◌, [], ◌∷◌, List, map, if◌then◌else◌, IfOk, OnOk};
 ghost use Rattle.sql_tree.specs.declared.bound.BoundOrderKey.{BoundOrderKey};

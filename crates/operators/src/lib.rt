@@ -1,5 +1,5 @@
-//! What a walk through tables meets, row by row up to the first fault, and what comes behind it,
-//! each its definition over lists: groups, DISTINCT, ORDER BY and TOP.
+//! What a walk through tables meets, row by row up to the first fault, and what follows it, each
+//! its definition over lists: groups, DISTINCT, ORDER BY and TOP.
 #![tactic(auto)]
 
 pub mod alike;

@@ -15,7 +15,7 @@ use sql_tree::bound::BoundOrderKey;
 use std::alloc::AllocError;
 use std::cmp::Ordering;
 
-/// Puts rows in the order of some keys; rows whose keys are equal stay as they stood.
+/// Sorts rows by some keys; rows whose keys are equal stay in their order.
 pub fn order<K: Same>(
     found: &mut Vec<Found<'_, K>>,
     keys: &[BoundOrderKey],
@@ -44,12 +44,12 @@ fn by_keys<K: Same>(keys: &[BoundOrderKey], row: &Row<K>, other: &Row<K>) -> Ord
 fn by_key<K: Same>(key: BoundOrderKey, row: &Row<K>, other: &Row<K>) -> Ordering
     ensures { result
         ≡ in_direction key.descending
-        (atom_cmp (atom_at row.now key.place) (atom_at other.now key.place)) }
+        (atom_cmp (atom_at row.now key.ordinal) (atom_at other.now key.ordinal)) }
 {
     let null = Atom::new(AtomOf::Null);
     let order = atom_order(
-        row.as_slice().get(key.place).unwrap_or(&null),
-        other.as_slice().get(key.place).unwrap_or(&null),
+        row.as_slice().get(key.ordinal).unwrap_or(&null),
+        other.as_slice().get(key.ordinal).unwrap_or(&null),
     );
     if key.descending {
         order.reverse()

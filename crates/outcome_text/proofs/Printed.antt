@@ -103,11 +103,11 @@ cut_at rest i j utf8 found =
     let inside : i < length rest = omega (arith, length-drop i rest) in
     let at : get_or rest i 0 ≡ 39 = found.1.byte (omega arith) in
     let boundary : IsCharBoundary rest i = IsCharBoundary-before_ascii rest i inside (omega arith) in
-    let front : IsUtf8 (take i rest) = IsUtf8-take rest i utf8 boundary in
+    let prefix : IsUtf8 (take i rest) = IsUtf8-take rest i utf8 boundary in
     let back : IsUtf8 (drop i rest) = IsUtf8-drop rest i utf8 boundary in
     let behind : IsUtf8 (drop j rest) = IsUtf8-drop rest j utf8 (subst (IsCharBoundary rest) (sym found.1.ends) found.1.after) in
     let characters : chars rest ≡ chars (take i rest) ++ 39 ∷ chars (drop j rest) =
-    ap chars (sym (take-append-drop i rest)) ∙ chars-append (take i rest) (drop i rest) front
+    ap chars (sym (take-append-drop i rest)) ∙ chars-append (take i rest) (drop i rest) prefix
     ∙ ap (λ more. chars (take i rest) ++ more) (chars_past_char (drop i rest) (drop j rest) 39 back split) in
     record {
       utf8 = behind;
@@ -115,7 +115,7 @@ cut_at rest i j utf8 found =
           ap (λ cs. encode_utf8_all (doubled cs)) characters
           ∙ ap encode_utf8_all (doubled_at (chars (take i rest)) (chars (drop j rest)))
           ∙ encoded_at (doubled (chars (take i rest))) (doubled (chars (drop j rest)))
-          ∙ ap (λ front. front ++ 39 ∷ 39 ∷ encode_utf8_all (doubled (chars (drop j rest)))) (plain_part (take i rest) front found.0);
+          ∙ ap (λ prefix. prefix ++ 39 ∷ 39 ∷ encode_utf8_all (doubled (chars (drop j rest)))) (plain_part (take i rest) prefix found.0);
     }
 
 -- what is left once the text before a ' and the ' are put

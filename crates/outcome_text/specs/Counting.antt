@@ -1,6 +1,6 @@
 -- What a run counts: the outcomes that are refusals, the result rows that its text has, and its requests; and the summary of these.
 use Rattle.std.specs.Prelude.{ℕ, ◌+◌, List, [], ◌∷◌, ◌++◌, length, codes, decimal, Bool, nat_lt, if◌then◌else◌}
-use Rattle.conversation.specs.Paths.{Event, Asked, Took, Strayed, Drew, Opened, Printed}
+use Rattle.conversation.specs.Paths.{Event, Asked, Took, GotUnexpected, Drew, Opened, Printed}
 use Rattle.conversation.specs.declared.outcomes.Outcome.{Outcome}
 use Rattle.conversation.specs.declared.outcomes.Outcome.TheVariants as outcome
 use Rattle.outcome_text.specs.Printing.{line, is_refusal}
@@ -49,7 +49,7 @@ abbrev pub count : Event → Tally → Tally
 count (Asked request replies) t = asked t
 count (Printed comes) t = printed comes t
 count (Took reply) t = t
-count (Strayed next) t = t
+count (GotUnexpected next) t = t
 count (Drew bytes) t = t
 count (Opened meta key) t = t
 

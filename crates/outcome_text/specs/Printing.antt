@@ -55,7 +55,7 @@ printed_enc (named.Rnd key) = codes "randomized " ++ encode_utf8_all key
 abbrev pub printed_param : DescribedParam → List ℕ
 printed_param p = line (codes "@" ++ encode_utf8_all p.name ++ codes " " ++ printed_enc p.enc)
 
--- the error line behind an answer that broke off, where it is a refusal
+-- the error line after an answer that broke off, where it is a refusal
 abbrev pub printed_why : Option DriverFault → List ℕ
 printed_why None = []
 printed_why (Some f) = line (printed_fault f)

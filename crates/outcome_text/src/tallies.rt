@@ -117,7 +117,7 @@ impl Tally {
     }
 }
 
-/// The four lines that stand for a run's text: its steps, and what it counted.
+/// The four lines printed in place of a run's text: its steps, and what it counted.
 pub fn summary_text(alloc: Global, steps: usize, tally: &Tally) -> Result<String, AllocError>
     ensures { IfOk result (λ text. string_bytes text ≡ counting.summary steps tally.now) }
 {

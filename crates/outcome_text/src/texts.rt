@@ -29,7 +29,7 @@ pub fn is_refusal(outcome: &Outcome) -> bool
 }
 
 /// The printed lines of an outcome, each ended by LF. A row's values have tabs between, NULL is
-/// `NULL`, a number stands in decimal, a text as `N'..'` with `'` doubled, and bytes as `0x` and
+/// `NULL`, a number is decimal, a text as `N'..'` with `'` doubled, and bytes as `0x` and
 /// lower-case digits.
 pub fn text_of(alloc: Global, outcome: &Outcome) -> Result<String, AllocError>
     ensures { IfOk result (λ text. string_bytes text ≡ printing.printed_outcome outcome.now) }
@@ -172,7 +172,7 @@ fn push_value(text: &mut String, value: &Value) -> Result<(), AllocError>
     Ok(())
 }
 
-/// N'..' with each ' doubled. What stands between two of them is put whole.
+/// N'..' with each ' doubled. The text between two of them is written whole.
 fn push_characters(text: &mut String, characters: &str) -> Result<(), AllocError>
     ensures { OnOk result (string_bytes text.new ≡ string_bytes text.old ++ codes "N'"
         ++ encode_utf8_all (printing.doubled (chars characters.now)) ++ codes "'") }
@@ -189,7 +189,7 @@ fn push_characters(text: &mut String, characters: &str) -> Result<(), AllocError
     Ok(())
 }
 
-/// 0x and two lower-case digits for each byte, which are put whole.
+/// 0x and two lower-case digits for each byte, which are written whole.
 fn push_bytes(text: &mut String, bytes: &[u8]) -> Result<(), AllocError>
     ensures { OnOk result (string_bytes text.new ≡ string_bytes text.old ++ codes "0x"
         ++ flat_map printing.hex_digits bytes.now) }

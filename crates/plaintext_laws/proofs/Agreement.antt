@@ -25,8 +25,8 @@ use Rattle.wire_messages.specs.declared.replies.Reply.TheVariants as reply
 use Rattle.wire_messages.specs.declared.replies.Done.TheVariants as done_as
 use Rattle.ae_base.specs.declared.types.Enc.{Enc}
 use Rattle.wire_messages.specs.Messages.{Description}
-use Rattle.statement_analysis.specs.Describing.{Meant, understood, describe, description, keys_of}
-use Rattle.statement_analysis.specs.Params.{declaration_of, suited}
+use Rattle.statement_analysis.specs.Describing.{Analysis, analyzed, describe, description, keys_of}
+use Rattle.statement_analysis.specs.Params.{declaration_of, checked_params}
 use Rattle.server_core.specs.Serve.{State, catalog_of, described, answered, executed, sent_column, header, serve}
 use Rattle.server_core.specs.States.{is_short}
 use Rattle.conversation.specs.Batches.{why_unfit, unless}
@@ -55,7 +55,7 @@ use Rattle.hmac_kdf.specs.Keys.{Keys}
 use Rattle.plaintext_laws.specs.Alike.{Fits}
 use Rattle.plaintext_laws.specs.Below.{LawsBelow}
 use Rattle.plaintext_laws.specs.Laws.{Agrees, EndsWith}
-use Rattle.plaintext_laws.specs.Batches.{Came, came, declarations_of}
+use Rattle.plaintext_laws.specs.Batches.{BatchEnd, batch_end, declarations_of}
 use Rattle.wire_messages.specs.declared.requests.Request.TheVariants as request
 use Rattle.conversation.specs.declared.outcomes.Outcome as outcomes
 use Rattle.conversation.specs.declared.outcomes.Outcome.TheVariants as outcome
@@ -63,11 +63,11 @@ use Rattle.conversation.specs.declared.sessions.Session.TheVariants as session
 use Rattle.plaintext_laws.specs.Batches as plain
 use Rattle.plaintext_laws.proofs.Between.{StandsFor, IsSendableParam, DescribedAs, Always, HoldsBatch, HoldsIn, Goes, stays_so, goes_by, sessions_fit, resting}
 use Rattle.plaintext_laws.proofs.Pairs.{stands, Standing, standing_is_one_to_one, standing_is_within}
-use Rattle.plaintext_laws.proofs.Sending.{Each, told_among}
+use Rattle.plaintext_laws.proofs.Sending.{Each, known_among}
 use Rattle.plaintext_laws.proofs.Rows.{rows_opened, rows_skipped}
 use Rattle.plaintext_laws.proofs.Sealed.{key_of_map}
-use Rattle.plaintext_laws.proofs.Suiting.{encs_alone, plain_atoms_of, suits, is_held, told_here, keys_told}
-use Rattle.plaintext_laws.proofs.Understood.{transact_alone}
+use Rattle.plaintext_laws.proofs.Suiting.{encs_alone, plain_atoms_of, suits, is_held, known_here, keys_known}
+use Rattle.plaintext_laws.proofs.Analyzed.{transact_alone}
 use Rattle.plaintext_laws.proofs.Used.{tys_in, plain_in, atoms_in, sent_typed, sent_stands}
 use Rattle.plaintext_laws.proofs.Walk.{AnswersOf, AreSealed, encs_in, types_shown, same_uses, unopened_is, sealing_goes, read_by, skipped_by, reading_goes, sixteen}
 
@@ -82,7 +82,7 @@ abbrev pub first : Bool → outcomes.Outcome → List outcomes.Outcome → List 
 first true comes rest = comes ∷ rest
 first false comes rest = rest
 
-abbrev pub text : Bool → Rest → Came → List outcomes.Outcome
+abbrev pub text : Bool → Rest → BatchEnd → List outcomes.Outcome
 text aloud rest c = first aloud c.comes (rest c.comes c.accepted c.held c.state)
 
 pub printed : (comes : outcomes.Outcome) (end : End) (outs wanted : List outcomes.Outcome) → EndsWith end outs wanted → EndsWith end (comes ∷ outs) (comes ∷ wanted)
@@ -102,27 +102,27 @@ whole_count rows = omega arith
 -- ---- what is sent
 
 -- the statement over the parameters that it uses alone, over the atoms that are sent
-abbrev pub execution_alone : Meant → List SentParam → Execution
-execution_alone meant sent = record { bound = alone meant.bound; encs = encs_alone meant; params = atoms_in sent }
+abbrev pub execution_alone : Analysis → List SentParam → Execution
+execution_alone analysis sent = record { bound = alone analysis.bound; encs = encs_alone analysis; params = atoms_in sent }
 
-abbrev pub done_alone : State → ℕ → Meant → List SentParam → Transacted
-done_alone state n meant sent = transact state n (ask_of (execution_alone meant sent))
+abbrev pub done_alone : State → ℕ → Analysis → List SentParam → Transacted
+done_alone state n analysis sent = transact state n (ask_of (execution_alone analysis sent))
 
 -- what is sent is executed so, over values that stand for the plain ones
-pub record Ready (key_for : ℕ → List ℕ) (now : State) (n : ℕ) (p : Pending) (meant : Meant) (sent : List SentParam) : Type 0 where
-  pub served : executed now n (understood (catalog_of now n) p.batch.text (map declaration_of sent) >>= λ meant. suited meant.encs sent >>= λ atoms. Ok (meant, atoms))
-      ≡ answered (catalog_of now n) (done_alone now n meant sent).answer (done_alone now n meant sent).after
-  pub may : MayAsk is_short (world_of now n).world (ask_of (execution_alone meant sent))
-  pub pairs : RowsCorrespond (Standing key_for) (param_classes (alone meant.bound).params (encs_alone meant)) (atoms_in sent) (used_among (is_used meant.bound) 0 (plain_atoms_of p.batch))
-  pub encs : encs_in (uses_of p) ≡ encs_alone meant
-  pub types : tys_in (uses_of p) ≡ (alone meant.bound).params
+pub record Ready (key_for : ℕ → List ℕ) (now : State) (n : ℕ) (p : Pending) (analysis : Analysis) (sent : List SentParam) : Type 0 where
+  pub served : executed now n (analyzed (catalog_of now n) p.batch.text (map declaration_of sent) >>= λ analysis. checked_params analysis.encs sent >>= λ atoms. Ok (analysis, atoms))
+      ≡ answered (catalog_of now n) (done_alone now n analysis sent).answer (done_alone now n analysis sent).after
+  pub may : MayAsk is_short (world_of now n).world (ask_of (execution_alone analysis sent))
+  pub pairs : RowsCorrespond (Standing key_for) (param_classes (alone analysis.bound).params (encs_alone analysis)) (atoms_in sent) (used_among (is_used analysis.bound) 0 (plain_atoms_of p.batch))
+  pub encs : encs_in (uses_of p) ≡ encs_alone analysis
+  pub types : tys_in (uses_of p) ≡ (alone analysis.bound).params
 
 module _ (laws : LawsBelow) (keys : KeyMap) (trusted : List (List ℕ)) (key_for : ℕ → List ℕ) (now : State) (n : ℕ) (fits : Fits keys key_for (catalog_of now n)) where
   pub is_ready : (p : Pending) → Each IsSendableParam p.batch.params → (d : DescribedAs (catalog_of now n) p)
-      → (sent : List SentParam) → AreSealed keys trusted p.keys (uses_of p) sent → Ready key_for now n p d.meant sent
+      → (sent : List SentParam) → AreSealed keys trusted p.keys (uses_of p) sent → Ready key_for now n p d.analysis sent
   is_ready p sendable d sent sealed =
-      let b = d.meant.bound in
-      let es = encs_alone d.meant in
+      let b = d.analysis.bound in
+      let es = encs_alone d.analysis in
       let atoms = atoms_in sent in
       let us = uses_of p in
       let s = suits laws (AnswersOf keys trusted) (key_of_map laws.seals keys trusted) (catalog_of now n) p sendable d sent sealed in
@@ -130,27 +130,27 @@ module _ (laws : LawsBelow) (keys : KeyMap) (trusted : List (List ℕ)) (key_for
       let values : AreValuesOf is_short (alone b).params es atoms =
       subst (λ tys. AreValuesOf is_short tys es atoms) s.types (subst (λ es. AreValuesOf is_short (tys_in us) es atoms) s.encs (sent_typed laws.seals keys trusted p.keys us sent s.fit sealed)) in
       record {
-        served = ap (λ r. executed now n (r >>= λ meant. suited meant.encs sent >>= λ atoms. Ok (meant, atoms))) s.understood
-            ∙ ap (λ r. executed now n (r >>= λ atoms. Ok (record { bound = alone b; encs = es }, atoms))) s.suited;
-        may = may_ask is_short (world_of now n).world (alone b).statement (execution_alone d.meant sent) (record { bound = s.on; typed = admitted; values = values });
+        served = ap (λ r. executed now n (r >>= λ analysis. checked_params analysis.encs sent >>= λ atoms. Ok (analysis, atoms))) s.analyzed
+            ∙ ap (λ r. executed now n (r >>= λ atoms. Ok (record { bound = alone b; encs = es }, atoms))) s.checked_params;
+        may = may_ask is_short (world_of now n).world (alone b).statement (execution_alone d.analysis sent) (record { bound = s.on; typed = admitted; values = values });
         pairs = subst (λ xs. RowsCorrespond (Standing key_for) (param_classes (alone b).params es) atoms xs) s.values
             (subst (λ tys. RowsCorrespond (Standing key_for) (param_classes tys es) atoms (plain_in us)) s.types
             (subst (λ es. RowsCorrespond (Standing key_for) (param_classes (tys_in us) es) atoms (plain_in us))
-            s.encs (sent_stands laws.seals keys trusted p.keys key_for (keys_told laws keys key_for (catalog_of now n) fits p d) us sent s.fit sealed)));
+            s.encs (sent_stands laws.seals keys trusted p.keys key_for (keys_known laws keys key_for (catalog_of now n) fits p d) us sent s.fit sealed)));
         encs = s.encs;
         types = s.types;
       }
 
 module _ (laws : LawsBelow) (keys : KeyMap) (trusted : List (List ℕ)) (key_for : ℕ → List ℕ) where
   -- over this state and these replies a conversation has those outcomes, whatever random bytes are there
-  abbrev pub IsMeant : State → List Reply → Talk → List outcomes.Outcome → Type 0
-  IsMeant state queue t wanted = (taken : ℕ) (left : List ℕ) → AreBytes left → Agrees (over serve keys t taken left state queue) wanted
+  abbrev pub IsAnalysis : State → List Reply → Talk → List outcomes.Outcome → Type 0
+  IsAnalysis state queue t wanted = (taken : ℕ) (left : List ℕ) → AreBytes left → Agrees (over serve keys t taken left state queue) wanted
 
   -- whatever the result of a turn, over states that go on from these, it goes on as it is meant, where what is asked of the rest holds
   abbrev pub GoesOn : State → ℕ → turns.Onward → Rest → (outcomes.Outcome → Accepted → Option Pending → State → Type 0) → Type 0
   GoesOn state n k rest Holds = (comes : outcomes.Outcome) (columns : Accepted) (after : Option Pending) (now beside : State)
       → StandsFor keys key_for now beside → Goes Always state n now after → Holds comes columns after beside
-      → IsMeant now [] (k comes columns (resting after)) (rest comes columns after beside)
+      → IsAnalysis now [] (k comes columns (resting after)) (rest comes columns after beside)
 
   -- what is executed over both answers alike, and goes on in both
   pub record StandsOn (state : State) (n : ℕ) (did other : Transacted) : Type 0 where
@@ -159,15 +159,15 @@ module _ (laws : LawsBelow) (keys : KeyMap) (trusted : List (List ℕ)) (key_for
     pub answers : BothAnswer (AnswersCorrespond (Standing key_for)) did.answer other.answer
     pub typed : IsAnswerOf is_short did.answer
 
-  abbrev plain_alone : Meant → Pending → Execution
-  plain_alone meant p = record { bound = alone meant.bound; encs = encs_alone meant; params = used_among (is_used meant.bound) 0 (plain_atoms_of p.batch) }
+  abbrev plain_alone : Analysis → Pending → Execution
+  plain_alone analysis p = record { bound = alone analysis.bound; encs = encs_alone analysis; params = used_among (is_used analysis.bound) 0 (plain_atoms_of p.batch) }
 
   pub stands_on : (state plainly : State) (n : ℕ) → Fits keys key_for (catalog_of state n) → StandsFor keys key_for state plainly
-      → (meant : Meant) (sent : List SentParam) (p : Pending) → Ready key_for state n p meant sent
-      → StandsOn state n (done_alone state n meant sent) (transact plainly n (ask_of (plain_alone meant p)))
-  stands_on state plainly n fits st meant sent p r =
-      let e = execution_alone meant sent in
-      let f = plain_alone meant p in
+      → (analysis : Analysis) (sent : List SentParam) (p : Pending) → Ready key_for state n p analysis sent
+      → StandsOn state n (done_alone state n analysis sent) (transact plainly n (ask_of (plain_alone analysis p)))
+  stands_on state plainly n fits st analysis sent p r =
+      let e = execution_alone analysis sent in
+      let f = plain_alone analysis p in
       let did = transact state n (ask_of e) in
       let alike_asked = asks_alike (Standing key_for) e.bound.statement e f (record { bound = refl; encs = refl; params = r.pairs }) in
       let sim = laws.simulates is_short (stands key_for) state plainly n (ask_of e) (ask_of f) (standing_is_one_to_one key_for) (standing_is_within key_for) st.state st.stores alike_asked r.may in
@@ -184,36 +184,36 @@ module _ (laws : LawsBelow) (keys : KeyMap) (trusted : List (List ℕ)) (key_for
 
   module _ (state : State) (queue : List Reply) where
     says : (aloud : Bool) (t : Talk) (comes : outcomes.Outcome) (wanted : List outcomes.Outcome)
-        → IsMeant state queue t wanted → IsMeant state queue (saying aloud (Some comes) t) (first aloud comes wanted)
+        → IsAnalysis state queue t wanted → IsAnalysis state queue (saying aloud (Some comes) t) (first aloud comes wanted)
     says true t comes wanted h = λ taken left a. printed comes _ _ _ (h taken left a)
     says false t comes wanted h = h
 
-    says_nothing : (aloud : Bool) (t : Talk) (wanted : List outcomes.Outcome) → IsMeant state queue t wanted → IsMeant state queue (saying aloud None t) wanted
+    says_nothing : (aloud : Bool) (t : Talk) (wanted : List outcomes.Outcome) → IsAnalysis state queue t wanted → IsAnalysis state queue (saying aloud None t) wanted
     says_nothing true t wanted h = h
     says_nothing false t wanted h = h
 
     hears : (aloud : Bool) (before : Session) (shown : Listing) (f : Heard → Talk) (heard : Heard) (wanted : List outcomes.Outcome)
         → ((lost : Session → Listing → Option outcomes.Outcome) (taken : ℕ) → (n : ℕ) × (listen lost queue before shown taken ≡ Caught heard n []))
-        → IsMeant state [] (f heard) wanted → IsMeant state queue (hearing aloud before shown f) wanted
+        → IsAnalysis state [] (f heard) wanted → IsAnalysis state queue (hearing aloud before shown f) wanted
     hears aloud before shown f heard wanted l h = by aloud
       where
         at : (left : List ℕ) (x : Listened) (n : ℕ) → x ≡ Caught heard n [] → Agrees (over serve keys (f heard) n left state []) wanted
             → Agrees (passed_on (λ heard n more. over serve keys (f heard) n left state more) left state x) wanted
         at left x n e h = rw e h
 
-        by : (b : Bool) → IsMeant state queue (hearing b before shown f) wanted
+        by : (b : Bool) → IsAnalysis state queue (hearing b before shown f) wanted
         by true = λ taken left a. at left (listen broken queue before shown taken) (l broken taken).0 (l broken taken).1 (h (l broken taken).0 left a)
         by false = λ taken left a. at left (listen nothing_broken queue before shown taken) (l nothing_broken taken).0 (l nothing_broken taken).1 (h (l nothing_broken taken).0 left a)
 
     opens : (wanted : List outcomes.Outcome) (m : KeyMeta) (f g : Result Keys DriverFault → Talk)
-        → ((r : Result Keys DriverFault) → AnswersOf keys trusted m r → IsMeant state queue (f r) wanted) → IsMeant state queue (opening_by trusted m f) wanted
+        → ((r : Result Keys DriverFault) → AnswersOf keys trusted m r → IsAnalysis state queue (f r) wanted) → IsAnalysis state queue (opening_by trusted m f) wanted
     opens wanted m f g h = at (trusted_meta trusted m) refl
       where
-        at : (t : Result KeyMeta DriverFault) → trusted_meta trusted m ≡ t → IsMeant state queue (on_result (λ told. Opens told f) (λ e. f (Err e)) t) wanted
-        at (Ok told) e = h (open_key keys told) (ap (λ t. t >>= open_key keys) e)
+        at : (t : Result KeyMeta DriverFault) → trusted_meta trusted m ≡ t → IsAnalysis state queue (on_result (λ known. Opens known f) (λ e. f (Err e)) t) wanted
+        at (Ok known) e = h (open_key keys known) (ap (λ t. t >>= open_key keys) e)
         at (Err fault) e = h (Err fault) (ap (λ t. t >>= open_key keys) e)
 
-    draws : (wanted : List outcomes.Outcome) (f g : List ℕ → Talk) → ((iv vi : List ℕ) → IsBlock iv → IsBlock vi → IsMeant state queue (f iv) wanted) → IsMeant state queue (Draws f) wanted
+    draws : (wanted : List outcomes.Outcome) (f g : List ℕ → Talk) → ((iv vi : List ℕ) → IsBlock iv → IsBlock vi → IsAnalysis state queue (f iv) wanted) → IsAnalysis state queue (Draws f) wanted
     draws wanted f g h = λ taken left a. at taken left a (nat_lt (length left) 16) refl
       where
         at : (taken : ℕ) (left : List ℕ) → AreBytes left → (b : Bool) → nat_lt (length left) 16 ≡ b
@@ -229,7 +229,7 @@ module _ (laws : LawsBelow) (keys : KeyMap) (trusted : List (List ℕ)) (key_for
     abbrev Held : Option Pending → Type 0
     Held s = HoldsIn Always state.shared (transaction_at state n) s
 
-    abbrev RestOf : Came → Type 0
+    abbrev RestOf : BatchEnd → Type 0
     RestOf c = Holding c.comes c.accepted c.held c.state
 
     nothing : Held None
@@ -239,18 +239,18 @@ module _ (laws : LawsBelow) (keys : KeyMap) (trusted : List (List ℕ)) (key_for
     seen_here = (seen_alike (Standing key_for) state plainly n st.stores).worlds.catalog
 
     pub prints : (comes : outcomes.Outcome) (after : Option Pending) → Held after → Holding comes None after plainly
-        → IsMeant state [] (saying aloud (Some comes) (k comes None (resting after))) (first aloud comes (rest comes None after plainly))
+        → IsAnalysis state [] (saying aloud (Some comes) (k comes None (resting after))) (first aloud comes (rest comes None after plainly))
     prints comes after h r =
         says state [] aloud (k comes None (resting after)) comes (rest comes None after plainly) (go comes None after state plainly st (stays_so Always state n after h) r)
 
     -- ---- an answer
 
     module _ (now beside : State) (after : StandsFor keys key_for now beside) (goes : Goes Always state n now None) where
-      abbrev onward : (comes : outcomes.Outcome) (columns : Accepted) → Holding comes columns None beside → IsMeant now [] (k comes columns session.Idle) (rest comes columns None beside)
+      abbrev onward : (comes : outcomes.Outcome) (columns : Accepted) → Holding comes columns None beside → IsAnalysis now [] (k comes columns session.Idle) (rest comes columns None beside)
       onward comes columns r = go comes columns None now beside after goes r
 
       comes_to : (comes : outcomes.Outcome) (columns : Accepted) → Holding comes columns None beside
-          → IsMeant now [] (saying aloud (Some comes) (k comes columns session.Idle)) (first aloud comes (rest comes columns None beside))
+          → IsAnalysis now [] (saying aloud (Some comes) (k comes columns session.Idle)) (first aloud comes (rest comes columns None beside))
       comes_to comes columns r = says now [] aloud (k comes columns session.Idle) comes (rest comes columns None beside) (onward comes columns r)
 
       abbrev wanted_of : Result Answer SqlFault → List outcomes.Outcome
@@ -262,7 +262,7 @@ module _ (laws : LawsBelow) (keys : KeyMap) (trusted : List (List ℕ)) (key_for
       rows_agree : (columns : List ResultColumn) (rows others : List (List Atom)) → AreResults is_short columns rows
           → AllZip (RowsCorrespond (Standing key_for) (map class_of_result columns)) rows others
           → holding_of (Ok (Rows columns others))
-          → IsMeant now (map Row rows ++ Ended (Answered (length rows)) ∷ []) (reading aloud trusted (header here columns) k) (wanted_of (Ok (Rows columns others)))
+          → IsAnalysis now (map Row rows ++ Ended (Answered (length rows)) ∷ []) (reading aloud trusted (header here columns) k) (wanted_of (Ok (Rows columns others)))
       rows_agree columns rows others typed pairs r =
           let metas = keys_of here (plain.encs_shown columns) in
           let titles = titles_of (header here columns) in
@@ -272,22 +272,22 @@ module _ (laws : LawsBelow) (keys : KeyMap) (trusted : List (List ℕ)) (key_for
           let wanted = plain.answered keys trusted here (Ok (Rows columns others)) in
           let all = wanted_of (Ok (Rows columns others)) in
           let shown : Option DriverFault → outcomes.Outcome = plain.shown (plain.titled columns others) in
-          let told = told_here laws keys key_for here fits (plain.encs_shown columns) in
-          reading_goes trusted (AnswersOf keys trusted) (λ t u. IsMeant now queue t all) (opens now queue all) aloud here columns k k
+          let known = known_here laws keys key_for here fits (plain.encs_shown columns) in
+          reading_goes trusted (AnswersOf keys trusted) (λ t u. IsAnalysis now queue t all) (opens now queue all) aloud here columns k k
           (λ os none opened.
           let is : wanted ≡ outcome.Rows listing =
           ap shown (unopened_is keys trusted metas (plain.encs_shown columns) None none) ∙ ap
           (λ t. outcome.Rows (record { titles = t; rows = map (map plain.value_of) others })) (sym (titles_sent columns)) in
           let r0 : Holding (outcome.Rows listing) sent None beside = subst (λ (o : outcomes.Outcome). Holding o sent None beside) is r in
-          subst (λ (o : outcomes.Outcome). IsMeant now queue (read_by aloud here columns k os) (first aloud o (rest o sent None beside))) (sym is)
+          subst (λ (o : outcomes.Outcome). IsAnalysis now queue (read_by aloud here columns k os) (first aloud o (rest o sent None beside))) (sym is)
           (hears now queue aloud (session.Reading (types_shown columns) os 0) (record { titles = titles; rows = [] })
           (rows_on aloud (λ comes. k comes sent)) (Said (Some (outcome.Rows listing)) session.Idle) (first aloud (outcome.Rows listing) (rest (outcome.Rows listing) sent None beside))
-          (λ lost taken. rows_opened keys trusted is_short key_for metas told columns os opened rows others
+          (λ lost taken. rows_opened keys trusted is_short key_for metas known columns os opened rows others
           typed pairs lost titles [] 0 (length rows) taken (whole_count rows)) (comes_to (outcome.Rows listing) sent r0)))
           (λ f some.
           let is : wanted ≡ outcome.Failed f = ap shown (unopened_is keys trusted metas (plain.encs_shown columns) (Some f) some) in
           let r0 : Holding (outcome.Failed f) sent None beside = subst (λ (o : outcomes.Outcome). Holding o sent None beside) is r in
-          subst (λ (o : outcomes.Outcome). IsMeant now queue (skipped_by aloud here columns k f) (first aloud o (rest o sent None beside))) (sym is)
+          subst (λ (o : outcomes.Outcome). IsAnalysis now queue (skipped_by aloud here columns k f) (first aloud o (rest o sent None beside))) (sym is)
           (says now queue aloud (rested aloud (k (outcome.Failed f) sent) (session.Skipping (types_shown columns) 0)) (outcome.Failed f) (rest (outcome.Failed f) sent None beside)
           (hears now queue aloud (session.Skipping (types_shown columns) 0) nothing_shown
           (over_on aloud (k (outcome.Failed f) sent)) (Said None session.Idle) (rest (outcome.Failed f) sent None beside)
@@ -296,73 +296,75 @@ module _ (laws : LawsBelow) (keys : KeyMap) (trusted : List (List ℕ)) (key_for
 
       -- the columns are heard first
       opened_on : (columns : List ResultColumn) (rows : List (List Atom)) (queue : List Reply) (wanted : List outcomes.Outcome)
-          → IsMeant now queue (reading aloud trusted (header here columns) k) wanted
-          → IsMeant now (reply.Columns (header here columns) ∷ queue) (hearing aloud session.Sent nothing_shown (answered_on aloud trusted k)) wanted
+          → IsAnalysis now queue (reading aloud trusted (header here columns) k) wanted
+          → IsAnalysis now (reply.Columns (header here columns) ∷ queue) (hearing aloud session.Sent nothing_shown (answered_on aloud trusted k)) wanted
       opened_on columns rows queue wanted m = by aloud refl
         where
-          by : (b : Bool) → aloud ≡ b → IsMeant now (reply.Columns (header here columns) ∷ queue) (hearing b session.Sent nothing_shown (answered_on aloud trusted k)) wanted
+          by : (b : Bool) → aloud ≡ b → IsAnalysis now (reply.Columns (header here columns) ∷ queue) (hearing b session.Sent nothing_shown (answered_on aloud trusted k)) wanted
           by true e = λ taken left a. m (suc taken) left a
           by false e = λ taken left a. m (suc taken) left a
 
       -- one reply is heard
       heard_once : (queue : List Reply) (reply : Reply) (comes : outcomes.Outcome) (wanted : List outcomes.Outcome)
           → queue ≡ reply ∷ [] → hear session.Sent nothing_shown reply ≡ Got (Said (Some comes) session.Idle)
-          → IsMeant now [] (saying aloud (Some comes) (k comes None session.Idle)) wanted → IsMeant now queue (hearing aloud session.Sent nothing_shown (answered_on aloud trusted k)) wanted
+          → IsAnalysis now [] (saying aloud (Some comes) (k comes None session.Idle)) wanted → IsAnalysis now queue (hearing aloud session.Sent nothing_shown (answered_on aloud trusted k)) wanted
       heard_once queue reply comes wanted e h m =
           hears now queue aloud session.Sent nothing_shown (answered_on aloud trusted k) (Said (Some comes) session.Idle) wanted (λ lost taken. (suc taken, rw (e, h) refl)) m
 
       answer_agrees : (x y : Result Answer SqlFault) → BothAnswer (AnswersCorrespond (Standing key_for)) x y → IsAnswerOf is_short x → holding_of y
-          → let s = answered here x now in IsMeant s.after s.replies (hearing aloud session.Sent nothing_shown (answered_on aloud trusted k)) (wanted_of y)
+          → let s = answered here x now in IsAnalysis s.after s.replies (hearing aloud session.Sent nothing_shown (answered_on aloud trusted k)) (wanted_of y)
       answer_agrees (Ok (Rows columns rows)) (Ok (Rows columns2 rows2)) c typed r =
           let queue : List Reply = map Row rows ++ Ended (Answered (length rows)) ∷ [] in
           subst (λ cs. holding_of (Ok (Rows cs rows2))
-          → IsMeant now (reply.Columns (header here columns) ∷ queue) (hearing aloud session.Sent nothing_shown (answered_on aloud trusted k)) (wanted_of (Ok (Rows cs rows2)))) (sym c.0)
+          → IsAnalysis now (reply.Columns (header here columns) ∷ queue) (hearing aloud session.Sent nothing_shown (answered_on aloud trusted k)) (wanted_of (Ok (Rows cs rows2)))) (sym c.0)
           (λ r. opened_on columns rows queue (wanted_of (Ok (Rows columns rows2))) (rows_agree columns rows rows2 typed c.1 r)) r
       answer_agrees (Ok (Changed count)) (Ok (Changed other)) c typed r = heard_once _ (Ended (done_as.Changed count))
           (outcome.Changed count) _ refl refl
-          (subst (λ n. IsMeant now [] (saying aloud (Some (outcome.Changed count)) (k (outcome.Changed count) None session.Idle)) (wanted_of (Ok (Changed n))))
+          (subst (λ n. IsAnalysis now [] (saying aloud (Some (outcome.Changed count)) (k (outcome.Changed count) None session.Idle)) (wanted_of (Ok (Changed n))))
           (sym c) (comes_to (outcome.Changed count) None (subst (λ n. holding_of (Ok (Changed n))) c r)))
       answer_agrees (Ok Defined) (Ok Defined) c typed r = heard_once _ (Ended done_as.Defined) outcome.Defined _ refl refl (comes_to outcome.Defined None r)
       answer_agrees (Err f) (Err g) c typed r = heard_once _ (reply.Refused f) (outcome.Refused f) _ refl refl
-          (subst (λ h. IsMeant now [] (saying aloud (Some (outcome.Refused f)) (k (outcome.Refused f) None session.Idle)) (wanted_of (Err h)))
+          (subst (λ h. IsAnalysis now [] (saying aloud (Some (outcome.Refused f)) (k (outcome.Refused f) None session.Idle)) (wanted_of (Err h)))
           (sym c) (comes_to (outcome.Refused f) None (subst (λ h. holding_of (Err h)) c r)))
       answer_agrees x y c typed r = absurd c
 
     -- ---- what is pending is executed
 
-    abbrev stepped_at : Pending → Came
-    stepped_at p = plain.stepped keys trusted plainly n p.batch (understood (catalog_of plainly n) p.batch.text (declarations_of p.batch))
+    abbrev stepped_at : Pending → BatchEnd
+    stepped_at p = plain.stepped keys trusted plainly n p.batch (analyzed (catalog_of plainly n) p.batch.text (declarations_of p.batch))
 
     runs_agrees : (p : Pending) → HoldsBatch Always here p → DescribedAs here p → (sent : List SentParam) → AreSealed keys trusted p.keys (uses_of p) sent → RestOf (stepped_at p)
-        → let s = executed state n (understood here p.batch.text (map declaration_of sent) >>= λ meant. suited meant.encs sent >>= λ atoms. Ok (meant, atoms)) in
-        IsMeant s.after s.replies (hearing aloud session.Sent nothing_shown (answered_on aloud trusted k)) (text aloud rest (stepped_at p))
+        → let s = executed state n (analyzed here p.batch.text (map declaration_of sent) >>= λ analysis. checked_params analysis.encs sent >>= λ atoms. Ok (analysis, atoms)) in
+        IsAnalysis s.after s.replies (hearing aloud session.Sent nothing_shown (answered_on aloud trusted k)) (text aloud rest (stepped_at p))
     runs_agrees p h d sent sealed r =
-        let meant = d.meant in
+        let analysis = d.analysis in
         let atoms = plain_atoms_of p.batch in
         let ready = is_ready laws keys trusted key_for state n fits p (h.sendable tt) d sent sealed in
-        let did = done_alone state n meant sent in
-        let other = transact plainly n (ask_of (plain_alone meant p)) in
-        let whole = transact plainly n (ask_of (execution meant.bound meant.encs atoms)) in
+        let did = done_alone state n analysis sent in
+        let other = transact plainly n (ask_of (plain_alone analysis p)) in
+        let whole = transact plainly n (ask_of (execution analysis.bound analysis.encs atoms)) in
         let served = ready.served in
-        let on = stands_on state plainly n fits st meant sent p ready in
-        let same : other ≡ whole = transact_alone plainly n meant.bound meant.encs atoms in
-        let u : understood (catalog_of plainly n) p.batch.text (declarations_of p.batch) ≡ Ok meant = ap
-        (λ (c : Catalog). understood c p.batch.text (declarations_of p.batch)) seen_here ∙ d.understood in
-        let whole_rest : RestOf (plain.came_by keys trusted (catalog_of plainly n) whole) = rw u at r in
-        let other_rest : RestOf (plain.came_by keys trusted here other) = subst
-        (λ (c : Catalog). RestOf (plain.came_by keys trusted c other)) seen_here (subst (λ (o : Transacted). RestOf (plain.came_by keys trusted (catalog_of plainly n) o)) (sym same) whole_rest) in
+        let on = stands_on state plainly n fits st analysis sent p ready in
+        let same : other ≡ whole = transact_alone plainly n analysis.bound analysis.encs atoms in
+        let u : analyzed (catalog_of plainly n) p.batch.text (declarations_of p.batch) ≡ Ok analysis = ap
+        (λ (c : Catalog). analyzed c p.batch.text (declarations_of p.batch)) seen_here ∙ d.analyzed in
+        let whole_rest : RestOf (plain.batch_end_by keys trusted (catalog_of plainly n) whole) = rw u at r in
+        let other_rest : RestOf (plain.batch_end_by keys trusted here other) = subst
+        (λ (c : Catalog). RestOf (plain.batch_end_by keys trusted c other)) seen_here
+        (subst (λ (o : Transacted). RestOf (plain.batch_end_by keys trusted (catalog_of plainly n) o)) (sym same) whole_rest) in
         let all_agrees = answer_agrees did.after other.after on.stands on.goes did.answer other.answer on.answers on.typed other_rest in
-        let meant_so : text aloud rest (plain.came_by keys trusted here other) ≡ text aloud rest (plain.came_by keys trusted (catalog_of plainly n) whole) =
-        ap (λ (o : Transacted). text aloud rest (plain.came_by keys trusted here o)) same
-        ∙ ap (λ c. text aloud rest (plain.came_by keys trusted c whole)) (sym seen_here) in
+        let analysis_so : text aloud rest (plain.batch_end_by keys trusted here other) ≡ text aloud rest (plain.batch_end_by keys trusted (catalog_of plainly n) whole) =
+        ap (λ (o : Transacted). text aloud rest (plain.batch_end_by keys trusted here o)) same
+        ∙ ap (λ c. text aloud rest (plain.batch_end_by keys trusted c whole)) (sym seen_here) in
         λ taken left a. rw (served, u)
         (subst (λ wanted. Agrees
         (over serve keys (hearing aloud session.Sent nothing_shown (answered_on aloud trusted k)) taken
-        left (answered here did.answer did.after).after (answered here did.answer did.after).replies) wanted) meant_so (all_agrees taken left a))
+        left (answered here did.answer did.after).after (answered here did.answer did.after).replies) wanted) analysis_so (all_agrees taken left a))
 
     -- a refusal is heard
     refused_agrees : (f : SqlFault) → Holding (outcome.Refused f) None None plainly
-        → IsMeant state (reply.Refused f ∷ []) (hearing aloud session.Sent nothing_shown (answered_on aloud trusted k)) (first aloud (outcome.Refused f) (rest (outcome.Refused f) None None plainly))
+        → IsAnalysis state (reply.Refused f ∷ []) (hearing aloud session.Sent nothing_shown (answered_on aloud trusted k))
+        (first aloud (outcome.Refused f) (rest (outcome.Refused f) None None plainly))
     refused_agrees f r = hears state (reply.Refused f ∷ []) aloud session.Sent nothing_shown (answered_on aloud trusted k)
         (Said (Some (outcome.Refused f)) session.Idle) (first aloud (outcome.Refused f) (rest (outcome.Refused f) None None plainly))
         (λ lost taken. (suc taken, refl)) (prints (outcome.Refused f) None nothing r)
@@ -371,21 +373,22 @@ module _ (laws : LawsBelow) (keys : KeyMap) (trusted : List (List ℕ)) (key_for
     moved p now = Moved (record { seen = p.version; now = now })
 
     asked_agrees : (p : Pending) → HoldsBatch Always here p → (sent : List SentParam) → AreSealed keys trusted p.keys (uses_of p) sent → (b : Bool) → (p.version == here.version) ≡ b
-        → RestOf (cond b (stepped_at p) (came (outcome.Refused (moved p here.version)) None plainly))
-        → let s = executed state n (cond b (understood here p.batch.text (map declaration_of sent)) (Err (moved p here.version)) >>= λ meant. suited meant.encs sent >>= λ atoms. Ok (meant, atoms)) in
-        IsMeant s.after s.replies (hearing aloud session.Sent nothing_shown (answered_on aloud trusted k))
-        (text aloud rest (cond b (stepped_at p) (came (outcome.Refused (moved p here.version)) None plainly)))
+        → RestOf (cond b (stepped_at p) (batch_end (outcome.Refused (moved p here.version)) None plainly))
+        → let s = executed state n (cond b (analyzed here p.batch.text (map declaration_of sent)) (Err (moved p here.version)) >>= λ analysis. checked_params analysis.encs sent
+        >>= λ atoms. Ok (analysis, atoms)) in
+        IsAnalysis s.after s.replies (hearing aloud session.Sent nothing_shown (answered_on aloud trusted k))
+        (text aloud rest (cond b (stepped_at p) (batch_end (outcome.Refused (moved p here.version)) None plainly)))
     asked_agrees p h sent s true e r = runs_agrees p h (h.same (eqb-true p.version here.version e)) sent s r
     asked_agrees p h sent s false e r = refused_agrees (moved p here.version) r
 
     pub executing_agrees : (p : Pending) → HoldsBatch Always here p → RestOf (plain.execution_of keys trusted plainly n p)
-        → IsMeant state [] (executing aloud trusted n (session.Pending p) k) (text aloud rest (plain.execution_of keys trusted plainly n p))
+        → IsAnalysis state [] (executing aloud trusted n (session.Pending p) k) (text aloud rest (plain.execution_of keys trusted plainly n p))
     executing_agrees p h r =
         let onward : Session → Talk = λ after. hearing aloud after nothing_shown (answered_on aloud trusted k) in
         let wanted = text aloud rest (plain.execution_of keys trusted plainly n p) in
         let sends : List SentParam → Talk = λ params. asked aloud onward k (Ok (request.Execute n p.version p.batch.text params)) session.Sent in
         let fails : DriverFault → Talk = λ f. asked aloud onward k (Err f) session.Idle in
-        sealing_goes trusted (AnswersOf keys trusted) (λ t u. IsMeant state [] t wanted) (opens state [] wanted)
+        sealing_goes trusted (AnswersOf keys trusted) (λ t u. IsAnalysis state [] t wanted) (opens state [] wanted)
         p.keys (draws state [] wanted) (uses_of p) (uses_of p) (same_uses (uses_of p)) sends sends fails fails
         (λ sent other none s z. λ taken left a.
         let e = unopened_is keys trusted p.keys (encs_in (uses_of p)) None none in
@@ -398,21 +401,21 @@ module _ (laws : LawsBelow) (keys : KeyMap) (trusted : List (List ℕ)) (key_for
       where
         versioned : (sent : List SentParam) → AreSealed keys trusted p.keys (uses_of p) sent → RestOf (plain.executed_with keys trusted plainly n p None)
             → let x = executed state n
-            (cond (p.version == here.version) (understood here p.batch.text (map declaration_of sent))
-            (Err (moved p here.version)) >>= λ meant. suited meant.encs sent >>= λ atoms. Ok (meant, atoms)) in
-            IsMeant x.after x.replies (hearing aloud session.Sent nothing_shown (answered_on aloud trusted k)) (text aloud rest (plain.executed_with keys trusted plainly n p None))
+            (cond (p.version == here.version) (analyzed here p.batch.text (map declaration_of sent))
+            (Err (moved p here.version)) >>= λ analysis. checked_params analysis.encs sent >>= λ atoms. Ok (analysis, atoms)) in
+            IsAnalysis x.after x.replies (hearing aloud session.Sent nothing_shown (answered_on aloud trusted k)) (text aloud rest (plain.executed_with keys trusted plainly n p None))
         versioned sent s =
-            subst (λ (v : ℕ). let c = cond (p.version == v) (stepped_at p) (came (outcome.Refused (moved p v)) None plainly) in
+            subst (λ (v : ℕ). let c = cond (p.version == v) (stepped_at p) (batch_end (outcome.Refused (moved p v)) None plainly) in
             let x = executed state n
-            (cond (p.version == here.version) (understood here p.batch.text (map declaration_of sent))
-            (Err (moved p here.version)) >>= λ meant. suited meant.encs sent >>= λ atoms. Ok (meant, atoms)) in
-            RestOf c → IsMeant x.after x.replies (hearing aloud session.Sent nothing_shown (answered_on aloud trusted k)) (text aloud rest c))
+            (cond (p.version == here.version) (analyzed here p.batch.text (map declaration_of sent))
+            (Err (moved p here.version)) >>= λ analysis. checked_params analysis.encs sent >>= λ atoms. Ok (analysis, atoms)) in
+            RestOf c → IsAnalysis x.after x.replies (hearing aloud session.Sent nothing_shown (answered_on aloud trusted k)) (text aloud rest c))
             (sym (ap (λ (c : Catalog). c.version) seen_here)) (asked_agrees p h sent s (p.version == here.version) refl)
 
     -- ---- a batch is described
 
-    module _ (batch : Batch) (params : HasParams batch) (proper : HasProperParams batch) (ready : Pending → Talk) (readied : Pending → Came)
-        (ready_agrees : (p : Pending) → HoldsBatch Always here p → p.version ≡ here.version → RestOf (readied p) → IsMeant state [] (ready p) (text aloud rest (readied p))) where
+    module _ (batch : Batch) (params : HasParams batch) (proper : HasProperParams batch) (ready : Pending → Talk) (readied : Pending → BatchEnd)
+        (ready_agrees : (p : Pending) → HoldsBatch Always here p → p.version ≡ here.version → RestOf (readied p) → IsAnalysis state [] (ready p) (text aloud rest (readied p))) where
       abbrev awaiting : Talk
       awaiting = hearing aloud (session.Begun batch) nothing_shown (described_on aloud ready k)
 
@@ -420,21 +423,21 @@ module _ (laws : LawsBelow) (keys : KeyMap) (trusted : List (List ℕ)) (key_for
       readied_agrees : (d : Description) (encs : List (Option Enc)) → let p : Pending = record { batch = batch; version = d.version; keys = d.keys; encs = encs } in
           d.version ≡ here.version → HoldsBatch Always here p → (o : Option (List ℕ)) → first_open batch.forced batch.params encs ≡ o → RestOf (plain.readied plainly readied p)
           → let t = conversation.readied batch d encs o in
-          IsMeant state [] (described_on aloud ready k (Said (described_outcome t.answer) t.after)) (text aloud rest (plain.readied plainly readied p))
+          IsAnalysis state [] (described_on aloud ready k (Said (described_outcome t.answer) t.after)) (text aloud rest (plain.readied plainly readied p))
       readied_agrees d encs v h None e r =
           let p : Pending = record { batch = batch; version = d.version; keys = d.keys; encs = encs } in
           rw e (says_nothing state [] aloud (ready p) (text aloud rest (readied p)) (ready_agrees p h v (rw e at r)))
       readied_agrees d encs v h (Some name) e r = rw e (prints (outcome.Failed (NotEncrypted name)) None nothing (rw e at r))
 
-      described_agrees : why_unfit batch ≡ None → (r : Result Meant SqlFault) → understood here batch.text (declarations_of batch) ≡ r
-          → let d = r >>= λ meant. Ok (description here (declarations_of batch) meant) in
+      described_agrees : why_unfit batch ≡ None → (r : Result Analysis SqlFault) → analyzed here batch.text (declarations_of batch) ≡ r
+          → let d = r >>= λ analysis. Ok (description here (declarations_of batch) analysis) in
           RestOf (plain.described plainly batch (plain.readied plainly readied) d) → let s = described state d in
-          IsMeant s.after s.replies awaiting (text aloud rest (plain.described plainly batch (plain.readied plainly readied) d))
-      described_agrees fit (Ok meant) e r =
-          let h = is_held laws Always here batch params (λ _. proper) fit meant e in
+          IsAnalysis s.after s.replies awaiting (text aloud rest (plain.described plainly batch (plain.readied plainly readied) d))
+      described_agrees fit (Ok analysis) e r =
+          let h = is_held laws Always here batch params (λ _. proper) fit analysis e in
           let found = h.0 in
-          let d = description here (declarations_of batch) meant in
-          let p : Pending = record { batch = batch; version = here.version; keys = d.keys; encs = told_among (is_used meant.bound) 0 meant.encs } in
+          let d = description here (declarations_of batch) analysis in
+          let p : Pending = record { batch = batch; version = here.version; keys = d.keys; encs = known_among (is_used analysis.bound) 0 analysis.encs } in
           let r0 : RestOf (plain.readied plainly readied p) = rw found at r in
           let t = conversation.readied batch d p.encs (first_open batch.forced batch.params p.encs) in
           rw found (hears state (reply.Described d ∷ []) aloud (session.Begun batch) nothing_shown
@@ -449,22 +452,22 @@ module _ (laws : LawsBelow) (keys : KeyMap) (trusted : List (List ℕ)) (key_for
       begins_so o = let t = begun n (unless o batch) in asked aloud (λ after. hearing aloud after nothing_shown (described_on aloud ready k)) k t.answer t.after
 
       begun_agrees : (o : Option DriverFault) → why_unfit batch ≡ o → RestOf (plain.begun plainly n batch (plain.readied plainly readied) o)
-          → IsMeant state [] (begins_so o) (text aloud rest (plain.begun plainly n batch (plain.readied plainly readied) o))
+          → IsAnalysis state [] (begins_so o) (text aloud rest (plain.begun plainly n batch (plain.readied plainly readied) o))
       begun_agrees (Some f) e r = prints (outcome.Failed f) None nothing r
       begun_agrees None e r =
-          subst (λ (c : Catalog). let came = plain.described plainly batch (plain.readied plainly readied) (describe c batch.text (declarations_of batch)) in RestOf came
-          → IsMeant state [] (begins_so None) (text aloud rest came)) (sym seen_here)
-          (described_agrees e (understood here batch.text (declarations_of batch)) refl) r
+          subst (λ (c : Catalog). let batch_end = plain.described plainly batch (plain.readied plainly readied) (describe c batch.text (declarations_of batch)) in RestOf batch_end
+          → IsAnalysis state [] (begins_so None) (text aloud rest batch_end)) (sym seen_here)
+          (described_agrees e (analyzed here batch.text (declarations_of batch)) refl) r
 
       pub begins_agrees : (before : Option Pending) → Held before → RestOf (plain.begins plainly n batch (plain.readied plainly readied) before)
-          → IsMeant state [] (describing aloud n batch (resting before) ready k) (text aloud rest (plain.begins plainly n batch (plain.readied plainly readied) before))
+          → IsAnalysis state [] (describing aloud n batch (resting before) ready k) (text aloud rest (plain.begins plainly n batch (plain.readied plainly readied) before))
       begins_agrees None h = begun_agrees (why_unfit batch) refl
       begins_agrees (Some p) h = prints (outcome.Failed StillPending) (Some p) h
 
     -- a whole batch, aloud or quietly: its outcome goes on
     pub running_agrees : (batch : Batch) → HasParams batch → HasProperParams batch → (before : Option Pending)
         → Held before → RestOf (plain.begins plainly n batch (plain.readied plainly (plain.execution_of keys trusted plainly n)) before)
-        → IsMeant state [] (running aloud trusted n batch (resting before) k)
+        → IsAnalysis state [] (running aloud trusted n batch (resting before) k)
         (text aloud rest (plain.begins plainly n batch (plain.readied plainly (plain.execution_of keys trusted plainly n)) before))
     running_agrees batch params proper before h r = begins_agrees batch params proper
         (λ p. executing aloud trusted n (session.Pending p) k) (plain.execution_of keys trusted plainly n) (λ p held v. executing_agrees p held) before h r

@@ -1,4 +1,4 @@
--- Over the server from the empty state each reply is awaited: whatever is asked, the server's replies are of their kinds, and its rows of their columns.
+-- Over the server from the empty state each reply is expected: whatever is asked, the server's replies are of their kinds, and its rows of their columns.
 -- And where the vault's answers are keys, and the scripts proper, no refusal is of a parameter as it is sent: each suits what was described.
 use Rattle.std.proofs.Common.{◌≡◌, ℕ, ◌+◌, ◌-◌, List, [], ◌∷◌, ◌++◌, map, length, Option, Some, None, Result, Ok, Err, Bool, true, false, cond, refl, sym, ap, ◌∙◌, subst, arith, eq-eqb}
 use Rattle.std.specs.Prelude.{IfErr, ◌==◌}
@@ -40,8 +40,8 @@ use Rattle.wire_messages.specs.declared.replies.Done.TheVariants as done_as
 use Rattle.wire_messages.specs.declared.replies.Reply.{Reply}
 use Rattle.wire_messages.specs.declared.replies.Reply.TheVariants.{Row, Ended}
 use Rattle.wire_messages.specs.declared.replies.Reply.TheVariants as reply
-use Rattle.statement_analysis.specs.Describing.{Meant, understood, description}
-use Rattle.statement_analysis.specs.Params.{declaration_of, suited}
+use Rattle.statement_analysis.specs.Describing.{Analysis, analyzed, description}
+use Rattle.statement_analysis.specs.Params.{declaration_of, checked_params}
 use Rattle.server_core.specs.Serve.{State, catalog_of, header, sent_column, refused, described, answered, executed}
 use Rattle.server_core.specs.States.{any_cell}
 use Rattle.conversation.specs.Batches.{why_unfit, unless}
@@ -71,15 +71,15 @@ use Rattle.plaintext_laws.specs.Batches.{declarations_of}
 use Rattle.plaintext_laws.specs.Suits.{IsPlainReply, IsVaultAnswer}
 use Rattle.plaintext_laws.proofs.Agreement.{whole_count}
 use Rattle.plaintext_laws.proofs.Between.{HoldsBatch, HoldsIn, Goes, stays_so, goes_by, resting}
-use Rattle.plaintext_laws.proofs.Causes.{understood_plain, transact_plain}
+use Rattle.plaintext_laws.proofs.Causes.{analyzed_plain, transact_plain}
 use Rattle.plaintext_laws.proofs.ItsOwn.{are_own, IsOwnState}
 use Rattle.plaintext_laws.proofs.ProperValues.{read_values, sent_proper, sent_types_proper}
 use Rattle.plaintext_laws.proofs.Saying.{Says}
-use Rattle.plaintext_laws.proofs.Sending.{told_among}
+use Rattle.plaintext_laws.proofs.Sending.{known_among}
 use Rattle.plaintext_laws.proofs.Suiting.{encs_alone, suits, is_held}
 use Rattle.plaintext_laws.proofs.Sound.{AreProperValues, AreTyped, IsProperShown, Leaves, sent_types, stays_proper}
 use Rattle.plaintext_laws.proofs.Used.{atoms_in, uses_sendable}
-use Rattle.plaintext_laws.proofs.Rows.{IsAt, row_awaited, count_rows}
+use Rattle.plaintext_laws.proofs.Rows.{IsAt, row_expected, count_rows}
 use Rattle.plaintext_laws.proofs.Walk.{AreSealedBy, types_shown, same_uses, sealing_goes, reading_goes}
 
 -- ---- rows of their columns
@@ -102,7 +102,7 @@ module _ (columns : List ResultColumn) (total : ℕ) where
       let s = eq-eqb total count same in
       rw s h
   skipped P (row ∷ rows) t c shown count e h =
-      let x = row_awaited any_cell (Related own_cell) own_cells columns row row (All-head (AllZip (IsAt any_cell) columns) row rows t) c.0 in
+      let x = row_expected any_cell (Related own_cell) own_cells columns row row (All-head (AllZip (IsAt any_cell) columns) row rows t) c.0 in
       let s : total ≡ (count + 1) + length rows = e ∙ sym (count_rows count row rows) in
       rw x (skipped P rows (All-tail (AllZip (IsAt any_cell) columns) row rows t) c.1 shown (count + 1) s h)
 
@@ -137,8 +137,8 @@ module _ (laws : LawsBelow) (Proper : Type 0) where
         → Goes_on (opening_by trusted m f) now queue
     opens trusted m f g h = at (trusted_meta trusted m)
       where
-        at : (t : Result KeyMeta DriverFault) → Goes_on (on_result (λ told. Opens told f) (λ e. f (Err e)) t) now queue
-        at (Ok told) = h
+        at : (t : Result KeyMeta DriverFault) → Goes_on (on_result (λ known. Opens known f) (λ e. f (Err e)) t) now queue
+        at (Ok known) = h
         at (Err fault) = h (Err fault) (λ is. tt)
 
     draws : (f g : List ℕ → Talk) → ((iv vi : List ℕ) → IsBlock iv → IsBlock vi → Goes_on (f iv) now queue) → Goes_on (Draws f) now queue
@@ -159,13 +159,13 @@ module _ (laws : LawsBelow) (Proper : Type 0) where
     hears false before shown f h = h
 
   -- no refusal of a parameter as it is sent; and where the scripts are proper, values and types are
-  pub record IsToldOf (comes : outcomes.Outcome) (accepted : Accepted) : Type 0 where
+  pub record IsKnownOf (comes : outcomes.Outcome) (accepted : Accepted) : Type 0 where
     pub plain : Fine comes
     pub types : Proper → AreTyped accepted
     pub shown : Proper → IsProperShown comes
 
-  told_none : (comes : outcomes.Outcome) → Fine comes → IsProperShown comes → IsToldOf comes None
-  told_none comes p shown = record { plain = p; types = λ is. tt; shown = λ is. shown }
+  known_none : (comes : outcomes.Outcome) → Fine comes → IsProperShown comes → IsKnownOf comes None
+  known_none comes p shown = record { plain = p; types = λ is. tt; shown = λ is. shown }
 
   -- a state's cells stand for themselves; and where the scripts are proper, what is stored is
   pub record Stands (state : State) : Type 0 where
@@ -204,7 +204,7 @@ module _ (laws : LawsBelow) (Proper : Type 0) where
         let s = eq-eqb total count same in
         rw s (says now [] aloud (k (outcome.Rows shown) session.Idle) (outcome.Rows shown) (λ is. tt) (go (outcome.Rows shown) (λ is. tt) values))
     read (row ∷ rows) t c atoms shown values count e =
-        let x = row_awaited any_cell (Related own_cell) own_cells columns row row (All-head (AllZip (IsAt any_cell) columns) row rows t) c.0 in
+        let x = row_expected any_cell (Related own_cell) own_cells columns row row (All-head (AllZip (IsAt any_cell) columns) row rows t) c.0 in
         let s : total ≡ (count + 1) + length rows = e ∙ sym (count_rows count row rows) in
         let more = All-tail (AllZip (IsAt any_cell) columns) row rows t in
         rw x (on_read (queue_of columns total rows) shown (count + 1) (read_atoms (count + 1) 1 (types_shown columns) os row)
@@ -221,7 +221,7 @@ module _ (laws : LawsBelow) (Proper : Type 0) where
 
   -- whatever the result of a turn, the conversation goes on so; H holds of what its session holds
   abbrev pub Onward : (Option Pending → Type 0) → State → ℕ → turns.Onward → Type 0
-  Onward H state n k = (comes : outcomes.Outcome) (accepted : Accepted) (after : Option Pending) (now : State) → Stands now → Goes Proper state n now after → H after → IsToldOf comes accepted
+  Onward H state n k = (comes : outcomes.Outcome) (accepted : Accepted) (after : Option Pending) (now : State) → Stands now → Goes Proper state n now after → H after → IsKnownOf comes accepted
       → Goes_on (k comes accepted (resting after)) now []
 
   module _ (H : Option Pending → Type 0) (none : H None) (trusted : List (List ℕ)) (state : State) (n : ℕ) (stands : Stands state) (aloud : Bool) (k : turns.Onward) (go : Onward H state n k) where
@@ -235,7 +235,7 @@ module _ (laws : LawsBelow) (Proper : Type 0) where
     pub prints : (comes : outcomes.Outcome) → Fine comes → IsProperShown comes → (after : Option Pending) → HoldsIn Proper state.shared (transaction_at state n) after → H after
         → Goes_on (saying aloud (Some comes) (k comes None (resting after))) state []
     prints comes p shown after h held =
-        says state [] aloud (k comes None (resting after)) comes p (go comes None after state stands (stays_so Proper state n after h) held (told_none comes p shown))
+        says state [] aloud (k comes None (resting after)) comes p (go comes None after state stands (stays_so Proper state n after h) held (known_none comes p shown))
 
     -- a refusal is heard
     refused_awaits : (f : SqlFault) → Fine (outcome.Refused f) → Answers answering (refused state f)
@@ -244,7 +244,7 @@ module _ (laws : LawsBelow) (Proper : Type 0) where
 
     -- ---- an answer
 
-    module _ (now : State) (onward : (comes : outcomes.Outcome) (accepted : Accepted) → IsToldOf comes accepted → Goes_on (k comes accepted session.Idle) now []) where
+    module _ (now : State) (onward : (comes : outcomes.Outcome) (accepted : Accepted) → IsKnownOf comes accepted → Goes_on (k comes accepted session.Idle) now []) where
       rows_await : (columns : List ResultColumn) (rows : List (List Atom)) → AreResults any_cell columns rows → AllZip (RowsCorrespond (Related own_cell) (map class_of_result columns)) rows rows
           → (Proper → AreProperAnswers columns rows) → Goes_on (reading aloud trusted (header here columns) k) now (map Row rows ++ Ended (Answered (length rows)) ∷ [])
       rows_await columns rows t c proper =
@@ -266,7 +266,7 @@ module _ (laws : LawsBelow) (Proper : Type 0) where
           → Goes_on answering now queue
       one_reply queue reply comes e h p shown =
           hears now queue aloud session.Sent nothing_shown (answered_on aloud trusted k)
-          (rw (e, h) (says now [] aloud (k comes None session.Idle) comes p (onward comes None (told_none comes p shown))))
+          (rw (e, h) (says now [] aloud (k comes None session.Idle) comes p (onward comes None (known_none comes p shown))))
 
       answer_awaits : (x : Result Answer SqlFault) → IfErr x IsPlainFault → IsAnswerOf any_cell x → BothAnswer (AnswersCorrespond (Related own_cell)) x x
           → (Proper → IsProperAnswer x) → Answers answering (answered here x now)
@@ -287,80 +287,81 @@ module _ (laws : LawsBelow) (Proper : Type 0) where
       types : All (λ (d : ParamDecl). IsType d.ty) (map declaration_of sent)
       values : All IsProperAtom atoms
 
-    step_awaits : (text : List ℕ) (sent : List SentParam) (meant : Meant) (atoms : List Atom)
-        → understood here text (map declaration_of sent) ≡ Ok meant → suited meant.encs sent ≡ Ok atoms → (Proper → AreProperSent sent atoms)
-        → let done = transact state n (ask_of (execution meant.bound meant.encs atoms)) in
+    step_awaits : (text : List ℕ) (sent : List SentParam) (analysis : Analysis) (atoms : List Atom)
+        → analyzed here text (map declaration_of sent) ≡ Ok analysis → checked_params analysis.encs sent ≡ Ok atoms → (Proper → AreProperSent sent atoms)
+        → let done = transact state n (ask_of (execution analysis.bound analysis.encs atoms)) in
         Answers answering (answered here done.answer done.after)
-    step_awaits text sent meant atoms u s sends =
-        let b = meant.bound in
+    step_awaits text sent analysis atoms u s sends =
+        let b = analysis.bound in
         let declarations = map declaration_of sent in
-        let parts = parts_of here text declarations meant u in
+        let parts = parts_of here text declarations analysis u in
         let bound = laws.bound here parts.statement declarations b parts.binds in
-        let typings = laws.typings b meant.encs parts.infers in
+        let typings = laws.typings b analysis.encs parts.infers in
         let types : map type_of declarations ≡ b.params = sym bound.params in
         let many : length b.params ≡ length sent = ap length bound.params ∙ length-map declarations type_of ∙ length-map sent declaration_of in
-        let owns = are_own meant.encs sent atoms (typings.0 ∙ many) s in
-        let on : IsBoundOn here b meant.encs atoms = record {
+        let owns = are_own analysis.encs sent atoms (typings.0 ∙ many) s in
+        let on : IsBoundOn here b analysis.encs atoms = record {
           placed = bound.placed;
           tables = bound.tables;
           definable = bound.definable;
           encs = typings.0;
           values = owns.count ∙ sym many;
         } in
-        let admitted = laws.admitted b meant.encs bound.placed parts.infers in
-        let values : AreValuesOf any_cell b.params meant.encs atoms = subst (λ tys. AreValuesOf any_cell tys meant.encs atoms) types owns.typed in
-        let pairs : RowsCorrespond (Related own_cell) (param_classes b.params meant.encs) atoms atoms = subst
-        (λ tys. RowsCorrespond (Related own_cell) (param_classes tys meant.encs) atoms atoms) types owns.paired in
-        let e : Execution = record { bound = b; encs = meant.encs; params = atoms } in
+        let admitted = laws.admitted b analysis.encs bound.placed parts.infers in
+        let values : AreValuesOf any_cell b.params analysis.encs atoms = subst (λ tys. AreValuesOf any_cell tys analysis.encs atoms) types owns.typed in
+        let pairs : RowsCorrespond (Related own_cell) (param_classes b.params analysis.encs) atoms atoms = subst
+        (λ tys. RowsCorrespond (Related own_cell) (param_classes tys analysis.encs) atoms atoms) types owns.paired in
+        let e : Execution = record { bound = b; encs = analysis.encs; params = atoms } in
         let may = may_ask any_cell (world_of state n).world b.statement e (record { bound = on; typed = admitted; values = values }) in
         let alike_asked = asks_alike (Related own_cell) b.statement e e (record { bound = refl; encs = refl; params = pairs }) in
         let kept = laws.keeps_stores any_cell state n (ask_of e) stands.own.typed may in
         let sim = laws.simulates any_cell own_cell state state n (ask_of e) (ask_of e) own_is_one_to_one own_is_within stands.own.typed stands.own.paired alike_asked may in
         let done = transact state n (ask_of e) in
-        let stays : Proper → Leaves IsProperStore done = λ is. stays_proper laws state n text declarations meant atoms (stands.proper is) (sends is).types (sends is).values u in
+        let stays : Proper → Leaves IsProperStore done = λ is. stays_proper laws state n text declarations analysis atoms (stands.proper is) (sends is).types (sends is).values u in
         let after : Stands done.after = record { own = record { typed = kept.0; paired = sim.stores }; proper = λ is. (stays is).state } in
         answer_awaits done.after
-        (λ comes accepted told. go comes accepted None done.after after (goes_by Proper state n e (store_begun any_cell state stands.own.typed)) none told)
+        (λ comes accepted known. go comes accepted None done.after after (goes_by Proper state n e (store_begun any_cell state stands.own.typed)) none known)
         done.answer (transact_plain state n (ask_of e)) kept.1 sim.answers
         (λ is. (stays is).answer)
 
     -- what is sent suits what it means
-    record IsSuited (text : List ℕ) (sent : List SentParam) : Type 0 where
-      meant : Meant
-      means : understood here text (map declaration_of sent) ≡ Ok meant
+    record IsChecked (text : List ℕ) (sent : List SentParam) : Type 0 where
+      analysis : Analysis
+      means : analyzed here text (map declaration_of sent) ≡ Ok analysis
       atoms : List Atom
-      suits : suited meant.encs sent ≡ Ok atoms
+      suits : checked_params analysis.encs sent ≡ Ok atoms
       proper : AreProperSent sent atoms
 
-    suits_await : (text : List ℕ) (sent : List SentParam) (meant : Meant) → (Proper → IsSuited text sent)
-        → understood here text (map declaration_of sent) ≡ Ok meant → (r : Result (List Atom) SqlFault) → suited meant.encs sent ≡ r
-        → Answers answering (executed state n (r >>= λ atoms. Ok (meant, atoms)))
-    suits_await text sent meant f u (Ok atoms) s = step_awaits text sent meant atoms u s (λ is. so (f is))
+    suits_await : (text : List ℕ) (sent : List SentParam) (analysis : Analysis) → (Proper → IsChecked text sent)
+        → analyzed here text (map declaration_of sent) ≡ Ok analysis → (r : Result (List Atom) SqlFault) → checked_params analysis.encs sent ≡ r
+        → Answers answering (executed state n (r >>= λ atoms. Ok (analysis, atoms)))
+    suits_await text sent analysis f u (Ok atoms) s = step_awaits text sent analysis atoms u s (λ is. so (f is))
       where
-        so : IsSuited text sent → AreProperSent sent atoms
+        so : IsChecked text sent → AreProperSent sent atoms
         so x =
-            let i : Ok meant ≡ Ok x.meant = sym u ∙ x.means in
-            let m : meant ≡ x.meant = cc in
-            let j : Ok x.atoms ≡ Ok atoms = sym x.suits ∙ ap (λ (m : Meant). suited m.encs sent) (sym m) ∙ s in
+            let i : Ok analysis ≡ Ok x.analysis = sym u ∙ x.means in
+            let m : analysis ≡ x.analysis = cc in
+            let j : Ok x.atoms ≡ Ok atoms = sym x.suits ∙ ap (λ (m : Analysis). checked_params m.encs sent) (sym m) ∙ s in
             let a : x.atoms ≡ atoms = cc in
             subst (AreProperSent sent) a x.proper
-    suits_await text sent meant f u (Err e) s = refused_awaits e (λ is. never (f is))
+    suits_await text sent analysis f u (Err e) s = refused_awaits e (λ is. never (f is))
       where
-        never : IsSuited text sent → IsPlainFault e
+        never : IsChecked text sent → IsPlainFault e
         never x =
-            let i : Ok meant ≡ Ok x.meant = sym u ∙ x.means in
-            let m : meant ≡ x.meant = cc in
-            let j : Err e ≡ Ok x.atoms = sym s ∙ ap (λ (m : Meant). suited m.encs sent) m ∙ x.suits in
+            let i : Ok analysis ≡ Ok x.analysis = sym u ∙ x.means in
+            let m : analysis ≡ x.analysis = cc in
+            let j : Err e ≡ Ok x.atoms = sym s ∙ ap (λ (m : Analysis). checked_params m.encs sent) m ∙ x.suits in
             absurd cc
 
-    means_await : (text : List ℕ) (sent : List SentParam) → (Proper → IsSuited text sent) → (r : Result Meant SqlFault) → IfErr r IsPlainFault → understood here text (map declaration_of sent) ≡ r
-        → Answers answering (executed state n (r >>= λ meant. suited meant.encs sent >>= λ atoms. Ok (meant, atoms)))
-    means_await text sent f (Ok meant) b u = suits_await text sent meant f u (suited meant.encs sent) refl
+    means_await : (text : List ℕ) (sent : List SentParam) → (Proper → IsChecked text sent) → (r : Result Analysis SqlFault) → IfErr r IsPlainFault → analyzed here text (map declaration_of sent) ≡ r
+        → Answers answering (executed state n (r >>= λ analysis. checked_params analysis.encs sent >>= λ atoms. Ok (analysis, atoms)))
+    means_await text sent f (Ok analysis) b u = suits_await text sent analysis f u (checked_params analysis.encs sent) refl
     means_await text sent f (Err e) b u = refused_awaits e (λ is. b)
 
     asked_awaits : (p : Pending) → HoldsBatch Proper here p → (sent : List SentParam) → AreSealedBy IsAnswer p.keys (uses_of p) sent → (t : Bool) → (p.version == here.version) ≡ t
         → let moved : SqlFault = Moved (record { seen = p.version; now = here.version }) in
-        Answers answering (executed state n (cond t (understood here p.batch.text (map declaration_of sent)) (Err moved) >>= λ meant. suited meant.encs sent >>= λ atoms. Ok (meant, atoms)))
+        Answers answering (executed state n (cond t (analyzed here p.batch.text (map declaration_of sent)) (Err moved) >>= λ analysis. checked_params analysis.encs sent
+        >>= λ atoms. Ok (analysis, atoms)))
     asked_awaits p h sent sealed true e =
         means_await p.batch.text sent
         (λ is.
@@ -371,8 +372,8 @@ module _ (laws : LawsBelow) (Proper : Type 0) where
           types = sent_types_proper IsAnswer p.keys (uses_of p) sent sendable sealed;
           values = sent_proper IsAnswer p.keys (uses_of p) sent sendable sealed;
         } in
-        record { meant = record { bound = alone d.meant.bound; encs = encs_alone d.meant }; means = s.understood; atoms = atoms_in sent; suits = s.suited; proper = proper })
-        (understood here p.batch.text (map declaration_of sent)) (understood_plain here p.batch.text (map declaration_of sent)) refl
+        record { analysis = record { bound = alone d.analysis.bound; encs = encs_alone d.analysis }; means = s.analyzed; atoms = atoms_in sent; suits = s.checked_params; proper = proper })
+        (analyzed here p.batch.text (map declaration_of sent)) (analyzed_plain here p.batch.text (map declaration_of sent)) refl
     asked_awaits p h sent sealed false e = refused_awaits (Moved (record { seen = p.version; now = here.version })) (λ is. tt)
 
     pub pending_awaits : (p : Pending) → HoldsBatch Proper here p → Goes_on (executing aloud trusted n (session.Pending p) k) state []
@@ -403,13 +404,13 @@ module _ (laws : LawsBelow) (Proper : Type 0) where
       abbrev awaiting : Talk
       awaiting = hearing aloud (session.Begun batch) nothing_shown (described_on aloud ready k)
 
-      described_awaits : why_unfit batch ≡ None → (r : Result Meant SqlFault) → IfErr r IsPlainFault → understood here batch.text (declarations_of batch) ≡ r
-          → Answers awaiting (described state (r >>= λ meant. Ok (description here (declarations_of batch) meant)))
-      described_awaits fit (Ok meant) b e =
-          let h = is_held laws Proper here batch params proper fit meant e in
+      described_awaits : why_unfit batch ≡ None → (r : Result Analysis SqlFault) → IfErr r IsPlainFault → analyzed here batch.text (declarations_of batch) ≡ r
+          → Answers awaiting (described state (r >>= λ analysis. Ok (description here (declarations_of batch) analysis)))
+      described_awaits fit (Ok analysis) b e =
+          let h = is_held laws Proper here batch params proper fit analysis e in
           let found = h.0 in
-          let d = description here (declarations_of batch) meant in
-          let encs = told_among (is_used meant.bound) 0 meant.encs in (
+          let d = description here (declarations_of batch) analysis in
+          let encs = known_among (is_used analysis.bound) 0 analysis.encs in (
             one_fine (reply.Described d) (λ is. tt),
             hears state (reply.Described d ∷ []) aloud (session.Begun batch) nothing_shown (described_on aloud ready k)
                 (rw found (readied_awaits d encs h.1 (first_open batch.forced batch.params encs))),
@@ -422,7 +423,7 @@ module _ (laws : LawsBelow) (Proper : Type 0) where
       begun_awaits : (o : Option DriverFault) → why_unfit batch ≡ o
           → let t = begun n (unless o batch) in Goes_on (asked aloud (λ after. hearing aloud after nothing_shown (described_on aloud ready k)) k t.answer t.after) state []
       begun_awaits (Some f) e = prints (outcome.Failed f) (λ is. tt) tt None tt none
-      begun_awaits None e = described_awaits e (understood here batch.text (declarations_of batch)) (understood_plain here batch.text (declarations_of batch)) refl
+      begun_awaits None e = described_awaits e (analyzed here batch.text (declarations_of batch)) (analyzed_plain here batch.text (declarations_of batch)) refl
 
       pub describing_awaits : (before : Option Pending) → HoldsIn Proper state.shared (transaction_at state n) before → H before → Goes_on (describing aloud n batch (resting before) ready k) state []
       describing_awaits None h held = begun_awaits (why_unfit batch) refl

@@ -17,7 +17,7 @@ use Rattle.transactions.specs.Counted.{Counted, Execution}
 use Rattle.transactions.specs.Stores.{Transaction, ask_of, transact, transaction_at, seen_by}
 use Rattle.transactions.specs.WellKept.{IsStore}
 use Rattle.transactions.proofs.Interface.{zip_at, zip_set, all_at, all_set, set_back, shared_by, slot_of, AreBegun, IsNext, IsOwnCatalog, IsSlotOf}
-use Rattle.statement_analysis.specs.Describing.{Meant, understood, keys_of}
+use Rattle.statement_analysis.specs.Describing.{Analysis, analyzed, keys_of}
 use Rattle.server_core.specs.Serve.{State, empty_state, catalog_of}
 use Rattle.server_core.specs.States.{is_short}
 use Rattle.server_core.proofs.Interface.{no_sessions, empty_is_state}
@@ -29,7 +29,7 @@ use Rattle.plaintext_laws.specs.Reference.{nothing_held, held_at, with_held}
 use Rattle.conversation.specs.declared.sessions.Session.TheVariants as session
 use Rattle.plaintext_laws.proofs.Pairs.{Standing}
 use Rattle.plaintext_laws.proofs.Sealed.{IsSendable}
-use Rattle.plaintext_laws.proofs.Sending.{Each, told_among}
+use Rattle.plaintext_laws.proofs.Sending.{Each, known_among}
 use Rattle.plaintext_laws.proofs.Versions.{Newer, step_leaves}
 
 abbrev pub FitsIn : KeyMap → (ℕ → List ℕ) → Option Transaction → Type 0
@@ -55,11 +55,11 @@ seen_fits keys key_for state plainly number shared st =
     fits_by keys key_for state.shared (transaction_at state number) shared (all_at (FitsIn keys key_for) state.sessions (number - 1) None st.fits tt)
 
 pub record DescribedAs (catalog : Catalog) (p : Pending) : Type 0 where
-  pub meant : Meant
-  pub understood : understood catalog p.batch.text (declarations_of p.batch) ≡ Ok meant
-  pub long : length meant.encs ≡ length p.batch.params
-  pub encs : p.encs ≡ told_among (is_used meant.bound) 0 meant.encs
-  pub metas : p.keys ≡ keys_of catalog (used_among (is_used meant.bound) 0 meant.encs)
+  pub analysis : Analysis
+  pub analyzed : analyzed catalog p.batch.text (declarations_of p.batch) ≡ Ok analysis
+  pub long : length analysis.encs ≡ length p.batch.params
+  pub encs : p.encs ≡ known_among (is_used analysis.bound) 0 analysis.encs
+  pub metas : p.keys ≡ keys_of catalog (used_among (is_used analysis.bound) 0 analysis.encs)
 
 abbrev pub IsSendableParam : Param → Type 0
 IsSendableParam q = IsSendable q.declaration.ty q.value
@@ -119,8 +119,8 @@ module _ (Proper : Type 0) where
       subst (λ os. AllZip (HoldsIn Proper now.shared) os (with_held holds number after)) (sym goes.sessions)
       (zip_set (HoldsIn Proper now.shared) state.sessions holds (number - 1) goes.slot after (zip_newer state.shared now.shared goes.newer state.sessions holds all) goes.held)
 
-  pub hold_place : (state : State) (number : ℕ) (holds : List (Option Pending)) → AllHold Proper state holds → HoldsIn Proper state.shared (transaction_at state number) (held_at holds number)
-  hold_place state number holds h = zip_at (HoldsIn Proper state.shared) state.sessions holds (number - 1) None None h tt
+  pub hold_position : (state : State) (number : ℕ) (holds : List (Option Pending)) → AllHold Proper state holds → HoldsIn Proper state.shared (transaction_at state number) (held_at holds number)
+  hold_position state number holds h = zip_at (HoldsIn Proper state.shared) state.sessions holds (number - 1) None None h tt
 
   -- where nothing is asked, and where something is
   pub stays_so : (state : State) (n : ℕ) (after : Option Pending) → HoldsIn Proper state.shared (transaction_at state n) after → Goes Proper state n state after
@@ -177,13 +177,13 @@ set_resting (x ∷ os) zero o = refl
 set_resting (x ∷ os) (suc k) o = ap (λ ss. resting x ∷ ss) (set_resting os k o)
 
 -- what a client is told of a key goes by the keys alone
-abbrev told_by : List MasterKey → List ColumnKey → ℕ → Option KeyMeta
-told_by masters keys id = key_meta (record nothing_defined { masters = masters; keys = keys }) id
+abbrev known_by : List MasterKey → List ColumnKey → ℕ → Option KeyMeta
+known_by masters keys id = key_meta (record nothing_defined { masters = masters; keys = keys }) id
 
 pub same_keys_fit : (keys : KeyMap) (key_for : ℕ → List ℕ) (catalog next : Catalog) → next.masters ≡ catalog.masters → next.keys ≡ catalog.keys → Fits keys key_for catalog → Fits keys key_for next
 same_keys_fit keys key_for catalog next same_masters same_keys h id =
     subst (λ o. IfSome o (λ (meta : KeyMeta). All (GivesOnly keys (key_for id)) (each_of meta.values)))
-    (sym (ap (λ ms. told_by ms next.keys id) same_masters ∙ ap (λ ks. told_by catalog.masters ks id) same_keys)) (h id)
+    (sym (ap (λ ms. known_by ms next.keys id) same_masters ∙ ap (λ ks. known_by catalog.masters ks id) same_keys)) (h id)
 
 pub next_fits : (keys : KeyMap) (key_for : ℕ → List ℕ) (catalog next : Catalog) → IsNext catalog next → Fits keys key_for catalog → Fits keys key_for next
 next_fits keys key_for catalog next s h = same_keys_fit keys key_for catalog next s.masters s.keys h

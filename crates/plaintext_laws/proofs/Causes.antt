@@ -62,7 +62,7 @@ use Rattle.sql_tree.specs.Bound.{
   BoundStatement,
 }
 use Rattle.sql_tree.specs.Bound as bound
-use Rattle.sql_tree.specs.Sorts.{is_definition, target}
+use Rattle.sql_tree.specs.Kinds.{is_definition, target}
 use Rattle.sql_tree.specs.Statements.{Statement}
 use Rattle.sql_tree.specs.Tokens.{tokens_of}
 use Rattle.sql_grammar.specs.Texts.{parsed_tree, parsed_narrow, parsed_tokens, statement_in}
@@ -71,9 +71,9 @@ use Rattle.catalog.specs.Catalogs.{
   master_named,
   key_named,
   table_named,
-  master_place,
-  key_place,
-  table_place,
+  master_position,
+  key_position,
+  table_position,
   is_full_of_masters,
   is_full_of_keys,
   is_full_of_tables,
@@ -104,7 +104,7 @@ use Rattle.engine.specs.Worlds.{World, rows_of}
 use Rattle.transactions.specs.Counted.{Execution, Counted, CountedOutcome, count_of, is_at_last_count, counted, counted_step, step_of}
 use Rattle.transactions.specs.Stores.{Store, Ask, Begins, Commits, RollsBack, Executes, Transaction, Transacted, transaction_at, conflict, why_not, committed, transacted, transact}
 use Rattle.transactions.specs.declared.uses.Used.{Used}
-use Rattle.statement_analysis.specs.Describing.{with_encs, typed, binding_of, understood}
+use Rattle.statement_analysis.specs.Describing.{with_encs, typed, binding_of, analyzed}
 use Rattle.plaintext_laws.specs.PlainOutcomes.{IsPlainFault}
 
 -- each fault but those of typing and of parameters as they are sent
@@ -194,14 +194,14 @@ module _ (P : SqlFault → Type 0) (ordinary : (f : SqlFault) → IsOrdinaryFaul
   bound_within r (Ok b) e h clashes = typed_within b (inferred_encs b) refl (λ at i. clashes b at e i)
   bound_within r (Err f) e h clashes = ordinary f h
 
-  pub understood_within : (catalog : Catalog) (text : List ℕ) (declarations : List ParamDecl)
-      → ((b : Bound) (at : ℕ) → binding_of catalog text declarations ≡ Ok b → inferred_encs b ≡ Err at → P (fault.EncryptionClash at)) → IfErr (understood catalog text declarations) P
-  unfolding understood
-  understood_within catalog text declarations clashes =
+  pub analyzed_within : (catalog : Catalog) (text : List ℕ) (declarations : List ParamDecl)
+      → ((b : Bound) (at : ℕ) → binding_of catalog text declarations ≡ Ok b → inferred_encs b ≡ Err at → P (fault.EncryptionClash at)) → IfErr (analyzed catalog text declarations) P
+  unfolding analyzed
+  analyzed_within catalog text declarations clashes =
       let r = binding_of catalog text declarations in bound_within r r refl (binding_blames catalog text declarations) clashes
 
-pub understood_plain : (catalog : Catalog) (text : List ℕ) (declarations : List ParamDecl) → IfErr (understood catalog text declarations) IsPlainFault
-understood_plain catalog text declarations = understood_within IsPlainFault ordinary_plain catalog text declarations (λ b at e i. tt)
+pub analyzed_plain : (catalog : Catalog) (text : List ℕ) (declarations : List ParamDecl) → IfErr (analyzed catalog text declarations) IsPlainFault
+analyzed_plain catalog text declarations = analyzed_within IsPlainFault ordinary_plain catalog text declarations (λ b at e i. tt)
 
 -- ---- definitions
 
@@ -234,13 +234,13 @@ defined_blames catalog (definition.DropValue name master) =
     (λ key. dropped_blames (not (has_value master key.values)) (other_value master key.values) (is_at_last_version catalog) master name (λ value. with_values catalog name (one_or_two.only value)))
 defined_blames catalog (definition.CreateTable table) = exists_or_full (is_some (table_named catalog table.def.name)) (is_full_of_tables catalog) table.def.name _
 defined_blames catalog (definition.DropTable name) =
-    both (or_fault (fault.NoSuch name) (table_place catalog name)) _ (looked_up (fault.NoSuch name) (table_place catalog name) tt) (λ place. full_or (is_at_last_version catalog) _)
+    both (or_fault (fault.NoSuch name) (table_position catalog name)) _ (looked_up (fault.NoSuch name) (table_position catalog name) tt) (λ ordinal. full_or (is_at_last_version catalog) _)
 defined_blames catalog (definition.DropMaster name) =
-    both (or_fault (fault.NoSuch name) (master_place catalog name)) _ (looked_up (fault.NoSuch name) (master_place catalog name) tt)
-    (λ place. used_or_full (is_master_used catalog name) (is_at_last_version catalog) name _)
+    both (or_fault (fault.NoSuch name) (master_position catalog name)) _ (looked_up (fault.NoSuch name) (master_position catalog name) tt)
+    (λ ordinal. used_or_full (is_master_used catalog name) (is_at_last_version catalog) name _)
 defined_blames catalog (definition.DropKey name) =
-    both (or_fault (fault.NoSuch name) (key_place catalog name)) _ (looked_up (fault.NoSuch name) (key_place catalog name) tt)
-    (λ place. used_or_full (is_key_used catalog name) (is_at_last_version catalog) name _)
+    both (or_fault (fault.NoSuch name) (key_position catalog name)) _ (looked_up (fault.NoSuch name) (key_position catalog name) tt)
+    (λ ordinal. used_or_full (is_key_used catalog name) (is_at_last_version catalog) name _)
 defined_blames catalog (definition.ReplaceTable old new) = full_or (is_at_last_version catalog) _
 
 -- ---- values on their way into a table
@@ -254,27 +254,27 @@ admitted_blames column Null = unless column.not_null (Ok Null) (fault.NullNotAll
 admitted_blames column (Plain datum) = only_if (is_within datum column.ty) (Plain datum) (fault.Truncated column.name) tt
 admitted_blames column (Sealed cell) = tt
 
-value_blames : (columns : List ColumnDef) (row params : List Atom) (place : ℕ) (v : BoundOperand) → Blames (value_into columns row params place v)
-value_blames columns row params place v =
+value_blames : (columns : List ColumnDef) (row params : List Atom) (ordinal : ℕ) (v : BoundOperand) → Blames (value_into columns row params ordinal v)
+value_blames columns row params ordinal v =
     both (or_overflow (eval row params v)) _ (overflow_blames (eval row params v))
-    (λ atom. only (admitted (column_at columns place) atom) (λ kept. (place, kept)) (admitted_blames (column_at columns place) atom))
+    (λ atom. only (admitted (column_at columns ordinal) atom) (λ kept. (ordinal, kept)) (admitted_blames (column_at columns ordinal) atom))
 
-values_blame : (columns : List ColumnDef) (row params : List Atom) (places : List ℕ) (vs : List BoundOperand) → Blames (values_into columns row params places vs)
+values_blame : (columns : List ColumnDef) (row params : List Atom) (ordinals : List ℕ) (vs : List BoundOperand) → Blames (values_into columns row params ordinals vs)
 values_blame columns row params [] vs = tt
-values_blame columns row params (place ∷ places) [] = tt
-values_blame columns row params (place ∷ places) (v ∷ vs) =
-    both (value_into columns row params place v) _ (value_blames columns row params place v)
-    (λ given. only (values_into columns row params places vs) (λ rest. given ∷ rest) (values_blame columns row params places vs))
+values_blame columns row params (ordinal ∷ ordinals) [] = tt
+values_blame columns row params (ordinal ∷ ordinals) (v ∷ vs) =
+    both (value_into columns row params ordinal v) _ (value_blames columns row params ordinal v)
+    (λ given. only (values_into columns row params ordinals vs) (λ rest. given ∷ rest) (values_blame columns row params ordinals vs))
 
 given_blames : (column : ColumnDef) (o : Option Atom) → Blames (value_or_null column o)
 given_blames column (Some atom) = tt
 given_blames column None = admitted_blames column Null
 
-completed_blames : (place : ℕ) (given : List (ℕ × Atom)) (columns : List ColumnDef) → Blames (completed place given columns)
-completed_blames place given [] = tt
-completed_blames place given (column ∷ columns) =
-    both (value_or_null column (value_at given place)) _ (given_blames column (value_at given place))
-    (λ atom. only (completed (place + 1) given columns) (λ rest. atom ∷ rest) (completed_blames (place + 1) given columns))
+completed_blames : (ordinal : ℕ) (given : List (ℕ × Atom)) (columns : List ColumnDef) → Blames (completed ordinal given columns)
+completed_blames ordinal given [] = tt
+completed_blames ordinal given (column ∷ columns) =
+    both (value_or_null column (value_at given ordinal)) _ (given_blames column (value_at given ordinal))
+    (λ atom. only (completed (ordinal + 1) given columns) (λ rest. atom ∷ rest) (completed_blames (ordinal + 1) given columns))
 
 row_blames : (columns : List ColumnDef) (named : List ℕ) (params : List Atom) (values : List BoundOperand) → Blames (new_row columns named params values)
 row_blames columns named params values =
@@ -297,7 +297,7 @@ selects_blame params (Some condition) row = asks_blame params condition row
 
 updated_blames : (columns : List ColumnDef) (u : BoundUpdate) (params row : List Atom) (hit : Bool) → Blames (updated_row columns u params row hit)
 updated_blames columns u params row true = only (set_values columns row params u.assignments) _
-    (values_blame columns row params (map (λ (a : BoundAssignment). a.place) u.assignments) (map (λ (a : BoundAssignment). a.value) u.assignments))
+    (values_blame columns row params (map (λ (a : BoundAssignment). a.ordinal) u.assignments) (map (λ (a : BoundAssignment). a.value) u.assignments))
 updated_blames columns u params row false = tt
 
 update_blames : (columns : List ColumnDef) (u : BoundUpdate) (params row : List Atom) → Blames (row_to_update columns u params row)
@@ -334,9 +334,9 @@ where_blames row (Ok true) h = (tt, tt)
 where_blames row (Ok false) h = tt
 where_blames row (Err f) h = (h, tt)
 
-place_blames : (f : List Atom → List Event) → ((row : List Atom) → AllBlame (f row)) → (e : Event) → Blames e → AllBlame (in_place f e)
-place_blames f one (Ok row) h = one row
-place_blames f one (Err e) h = (h, tt)
+ordinal_blames : (f : List Atom → List Event) → ((row : List Atom) → AllBlame (f row)) → (e : Event) → Blames e → AllBlame (in_place f e)
+ordinal_blames f one (Ok row) h = one row
+ordinal_blames f one (Err e) h = (h, tt)
 
 scan_blames : (rows : List (List Atom)) → AllBlame (scan_of rows)
 scan_blames [] = tt
@@ -345,14 +345,14 @@ scan_blames (row ∷ rows) = (tt, scan_blames rows)
 filter_blames : (params : List Atom) (condition : BoundCondition) (events : List Event) → AllBlame events → AllBlame (filtered params condition events)
 filter_blames params condition events h =
     let f : List Atom → List Event = λ row. row_where row (asks params condition row) in
-    of_events (in_place f) (place_blames f (λ row. where_blames row (asks params condition row) (asks_blame params condition row))) events h
+    of_events (in_place f) (ordinal_blames f (λ row. where_blames row (asks params condition row) (asks_blame params condition row))) events h
 
 behind_blames : (params : List Atom) (on : BoundCondition) (rows : List (List Atom)) (row : List Atom) → AllBlame (behind params on rows row)
 behind_blames params on rows row =
     of_rows (λ next. row_where (row ++ next) (asks params on (row ++ next))) (λ next. where_blames (row ++ next) (asks params on (row ++ next)) (asks_blame params on (row ++ next))) rows
 
 join_blames : (params : List Atom) (on : BoundCondition) (rows : List (List Atom)) (events : List Event) → AllBlame events → AllBlame (join_of params on rows events)
-join_blames params on rows events h = of_events (in_place (behind params on rows)) (place_blames (behind params on rows) (behind_blames params on rows)) events h
+join_blames params on rows events h = of_events (in_place (behind params on rows)) (ordinal_blames (behind params on rows) (behind_blames params on rows)) events h
 
 joins_blame : (world : World) (params : List Atom) (joins : List BoundJoin) (events : List Event) → AllBlame events → AllBlame (walked (rows_of world) params joins events)
 joins_blame world params [] events h = h
@@ -406,8 +406,8 @@ done_blames : (world : World) (b : Bound) (encs : List Enc) (statement : BoundSt
 done_blames world b encs (bound.Definition d) params = only (defined_by world.catalog d) _ (defined_blames world.catalog d)
 done_blames world b encs (bound.Insert i) params =
     only (rows_to_insert world i params) _
-    (both (new_rows (columns_of world i.table) i.named params (length (rows_of world i.table)) i.rows) _
-    (rows_blame (columns_of world i.table) i.named params (length (rows_of world i.table)) i.rows) (λ rows. twins_blame _ rows))
+    (both (new_rows (columns_of world i.table) i.columns params (length (rows_of world i.table)) i.rows) _
+    (rows_blame (columns_of world i.table) i.columns params (length (rows_of world i.table)) i.rows) (λ rows. twins_blame _ rows))
 done_blames world b encs (bound.Update u) params =
     only (rows_to_update world u params) _
     (both (each (row_to_update (columns_of world u.table) u params) (rows_of world u.table)) _

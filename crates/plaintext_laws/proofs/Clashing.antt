@@ -12,7 +12,7 @@ use Rattle.sql_tree.specs.Bound.{Bound}
 use Rattle.catalog.specs.Catalogs.{Catalog}
 use Rattle.enc_types.specs.Least.{inferred_encs}
 use Rattle.inference.specs.Laws.{InferredExactly, RefusedAtFirst}
-use Rattle.statement_analysis.specs.Describing.{binding_of, typed, with_encs, understood}
+use Rattle.statement_analysis.specs.Describing.{binding_of, typed, with_encs, analyzed}
 use Rattle.server_core.specs.Serve.{State, catalog_of}
 use Rattle.conversation.specs.Pending.{Pending}
 use Rattle.conversation.specs.declared.outcomes.Outcome.TheVariants as outcome
@@ -22,8 +22,8 @@ use Rattle.plaintext_laws.specs.Clashes.{IsBoundAs, IsClash, IsReached, IsRunIn,
 use Rattle.plaintext_laws.specs.Laws.{ClashesExactly}
 use Rattle.plaintext_laws.specs.Batches.{readied, declarations_of, execution_of, waits}
 use Rattle.plaintext_laws.specs.Reference.{means}
-use Rattle.plaintext_laws.proofs.Blaming.{IsClashFault, IsRefused, begun_clashes, clash_place, rotation_clashes}
-use Rattle.plaintext_laws.proofs.Causes.{IsOrdinaryFault, understood_within}
+use Rattle.plaintext_laws.proofs.Blaming.{IsClashFault, IsRefused, begun_clashes, clash_offset, rotation_clashes}
+use Rattle.plaintext_laws.proofs.Causes.{IsOrdinaryFault, analyzed_within}
 use Rattle.plaintext_laws.proofs.Refusals.{IsWithin, means_within}
 
 -- ---- only there
@@ -48,8 +48,8 @@ module _ (exact : InferredExactly) (first : RefusedAtFirst) where
       let At = IsUntypedTurn keys trusted number act held state in
       subst (IsWithin (ClashesAt At)) e
       (means_within (ClashesAt At) (ordinary_clashes At) keys trusted number act held state (λ batch now its.
-      understood_within (ClashesAt At) (ordinary_clashes At) (catalog_of now number) batch.text (declarations_of batch) (λ bound at is_bound clash.
-      (batch, now, its, record { bound = bound; is_bound = is_bound; untyped = (exact bound).refused.0 (rw clash refl); place = first bound at clash }))))
+      analyzed_within (ClashesAt At) (ordinary_clashes At) (catalog_of now number) batch.text (declarations_of batch) (λ bound at is_bound clash.
+      (batch, now, its, record { bound = bound; is_bound = is_bound; untyped = (exact bound).refused.0 (rw clash refl); offset = first bound at clash }))))
 
 -- of a turn with a batch it is that one, in the turn's state
 run_is_own : (keys : KeyMap) (trusted : List (List ℕ)) (number : ℕ) (act : Act) (held : Option Pending) (state : State) (batch other : Batch) (now : State) → batch_of act held ≡ Some batch
@@ -61,10 +61,10 @@ run_is_own keys trusted number (Rotate old new) held state batch other now its r
 
 -- ---- always there
 
-understood_is : (catalog : Catalog) (text : List ℕ) (declarations : List ParamDecl) (bound : Bound) → binding_of catalog text declarations ≡ Ok bound
-    → understood catalog text declarations ≡ typed bound
-unfolding understood
-understood_is catalog text declarations bound e = ap (λ r. r >>= typed) e
+analyzed_is : (catalog : Catalog) (text : List ℕ) (declarations : List ParamDecl) (bound : Bound) → binding_of catalog text declarations ≡ Ok bound
+    → analyzed catalog text declarations ≡ typed bound
+unfolding analyzed
+analyzed_is catalog text declarations bound e = ap (λ r. r >>= typed) e
 
 refused_typing : (bound : Bound) (r : Result (List Enc) ℕ) → IsErr r → IsClashFault (with_encs bound r)
 refused_typing bound (Ok encs) is = absurd cc
@@ -93,7 +93,7 @@ clashes_exactly exact first = record {
   only = only_there exact first;
   exactly = λ keys trusted number act held state batch bound reached its is_bound. (
     λ is.
-        let clash = clash_place (means keys trusted number act held state).comes is in
+        let clash = clash_offset (means keys trusted number act held state).comes is in
         let there = only_there exact first keys trusted number act held state clash.0 clash.1 in
         let own = run_is_own keys trusted number act held state batch there.0 there.1 its there.2 in
         let untyped = there.3 in
@@ -102,18 +102,18 @@ clashes_exactly exact first = record {
         subst (λ b. ¬ (IsTyped b)) same untyped.untyped,
     λ untyped.
         let refused = refused_typing bound (inferred_encs bound) ((exact bound).refused.1 untyped) in
-        let understood_so = understood_is (catalog_of state number) batch.text (declarations_of batch) bound is_bound in
+        let analyzed_so = analyzed_is (catalog_of state number) batch.text (declarations_of batch) bound is_bound in
         reached_clashes keys trusted number act held state reached
-        (subst (λ o. IfSome o (IsRefused state number)) (sym its) (refused.0, understood_so ∙ refused.1)),
+        (subst (λ o. IfSome o (IsRefused state number)) (sym its) (refused.0, analyzed_so ∙ refused.1)),
   );
   rotated = λ keys trusted number old new state. (
     λ is.
-        let clash = clash_place (means keys trusted number (Rotate old new) None state).comes is in
+        let clash = clash_offset (means keys trusted number (Rotate old new) None state).comes is in
         let there = only_there exact first keys trusted number (Rotate old new) None state clash.0 clash.1 in
         record { batch = there.0; now = there.1; run = there.2; bound = there.3.bound; is_bound = there.3.is_bound; untyped = there.3.untyped },
     λ r.
         let refused = refused_typing r.bound (inferred_encs r.bound) ((exact r.bound).refused.1 r.untyped) in
-        let understood_so = understood_is (catalog_of r.now number) r.batch.text (declarations_of r.batch) r.bound r.is_bound in
-        rotation_clashes keys trusted number old new state r.run.0 r.batch r.now r.run.1 r.run.2 (refused.0, understood_so ∙ refused.1),
+        let analyzed_so = analyzed_is (catalog_of r.now number) r.batch.text (declarations_of r.batch) r.bound r.is_bound in
+        rotation_clashes keys trusted number old new state r.run.0 r.batch r.now r.run.1 r.run.2 (refused.0, analyzed_so ∙ refused.1),
   );
 }

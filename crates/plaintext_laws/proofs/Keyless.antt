@@ -17,7 +17,7 @@ use Rattle.sql_tree.specs.declared.bound.BoundDefinition.TheVariants as made_as
 use Rattle.sql_tree.specs.declared.statements.Definition.{Definition}
 use Rattle.sql_tree.specs.declared.statements.Definition.TheVariants as written
 use Rattle.sql_grammar.specs.Texts.{statement_in}
-use Rattle.catalog.specs.Catalogs.{Catalog, is_at_last_version, renamed_tables, table_place}
+use Rattle.catalog.specs.Catalogs.{Catalog, is_at_last_version, renamed_tables, table_position}
 use Rattle.catalog.specs.Definitions.{defined_by}
 use Rattle.resolve.specs.Bind.{bind, bound_over, resolution}
 use Rattle.resolve.specs.Definitions.{bind_definition, new_sites}
@@ -28,11 +28,11 @@ use Rattle.semantic_checks.specs.Checks.{check_of}
 use Rattle.transactions.specs.Counted.{Execution}
 use Rattle.transactions.specs.Stores.{ask_of, transact}
 use Rattle.transactions.proofs.Interface.{AreBegun, same_execution, shared_by}
-use Rattle.statement_analysis.specs.Describing.{Meant, understood}
+use Rattle.statement_analysis.specs.Describing.{Analysis, analyzed}
 use Rattle.server_core.specs.Serve.{State}
 use Rattle.plaintext_laws.specs.Alike.{Fits}
 use Rattle.plaintext_laws.proofs.Between.{next_fits, same_keys_fit}
-use Rattle.plaintext_laws.proofs.Understood.{parts_of}
+use Rattle.plaintext_laws.proofs.Analyzed.{parts_of}
 use Rattle.plaintext_laws.proofs.Versions.{step_leaves_so}
 
 -- ---- statements that define no key
@@ -56,8 +56,8 @@ WritesNoKey (tree.Definition d) = IsWrittenReplacement d
 WritesNoKey other = Unit {0}
 
 -- a text that parses to none other
-abbrev pub TellsNoKey : List ℕ → Type 0
-TellsNoKey text = IfOk (statement_in (encode_utf8_all text)) WritesNoKey
+abbrev pub GivesNoKey : List ℕ → Type 0
+GivesNoKey text = IfOk (statement_in (encode_utf8_all text)) WritesNoKey
 
 then_ok : {A B : Type 0} (P : B → Type 0) (r : Result A SqlFault) (f : A → Result B SqlFault) → ((x : A) → IfOk (f x) P) → IfOk (r >>= f) P
 then_ok P (Ok x) f h = h x
@@ -102,24 +102,24 @@ unfolding bind
 bound_so catalog s ds h = checked_binds (resolution catalog s ds) (resolution_binds catalog s ds h)
 
 -- what such a text means
-pub means_no_key : (catalog : Catalog) (text : List ℕ) (declarations : List ParamDecl) (meant : Meant)
-    → TellsNoKey text → understood catalog text declarations ≡ Ok meant → KeepsKeys meant.bound.statement
-means_no_key catalog text declarations meant tells e =
-    let p = parts_of catalog text declarations meant e in
+pub means_no_key : (catalog : Catalog) (text : List ℕ) (declarations : List ParamDecl) (analysis : Analysis)
+    → GivesNoKey text → analyzed catalog text declarations ≡ Ok analysis → KeepsKeys analysis.bound.statement
+means_no_key catalog text declarations analysis gives e =
+    let p = parts_of catalog text declarations analysis e in
     let reads = p.reads in
     let binds = p.binds in
-    let writes : WritesNoKey p.statement = rw reads at tells in
+    let writes : WritesNoKey p.statement = rw reads at gives in
     let so = bound_so catalog p.statement declarations writes in
     rw binds at so
 
 -- ---- what it leaves
 
 replaced_next : (c new : Catalog) (old by : List ℕ) (last : Bool) → let r : Result Catalog SqlFault = if last then Err fault.Full
-    else Ok (record c { tables = renamed_tables by old (remove c.tables (unwrap_or (table_place c old) 0)); version = c.version + 1 }) in r ≡ Ok new
+    else Ok (record c { tables = renamed_tables by old (remove c.tables (unwrap_or (table_position c old) 0)); version = c.version + 1 }) in r ≡ Ok new
     → (new.masters ≡ c.masters) × (new.keys ≡ c.keys)
 replaced_next c new old by true e = absurd cc
 replaced_next c new old by false e =
-    let is : record c { tables = renamed_tables by old (remove c.tables (unwrap_or (table_place c old) 0)); version = c.version + 1 } ≡ new = cc in
+    let is : record c { tables = renamed_tables by old (remove c.tables (unwrap_or (table_position c old) 0)); version = c.version + 1 } ≡ new = cc in
     (sym (ap (λ (c : Catalog). c.masters) is), sym (ap (λ (c : Catalog). c.keys) is))
 
 module _ (keys : KeyMap) (key_for : ℕ → List ℕ) where

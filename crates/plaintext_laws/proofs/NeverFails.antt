@@ -18,8 +18,8 @@ use Rattle.plaintext_laws.specs.PlainOutcomes.{IsPlainFault, IsPlainOutcome}
 use Rattle.plaintext_laws.specs.Batches.{declarations_of}
 use Rattle.plaintext_laws.specs.Reference.{means, nothing_held, held_at, with_held, reference}
 use Rattle.script_talk.specs.Steps.{talk}
-use Rattle.plaintext_laws.proofs.Awaited.{refusals_are_plain}
-use Rattle.plaintext_laws.proofs.Causes.{ordinary_plain, understood_plain}
+use Rattle.plaintext_laws.proofs.Expected.{refusals_are_plain}
+use Rattle.plaintext_laws.proofs.Causes.{ordinary_plain, analyzed_plain}
 use Rattle.plaintext_laws.proofs.Refusals.{IsWithin, means_within}
 
 -- ---- a step
@@ -33,7 +33,7 @@ plain_of other h = tt
 means_plain : (keys : KeyMap) (trusted : List (List ℕ)) (number : ℕ) (act : Act) (held : Option Pending) (state : State) → IsPlainOutcome (means keys trusted number act held state).comes
 means_plain keys trusted number act held state =
     plain_of (means keys trusted number act held state).comes
-    (means_within IsPlainFault ordinary_plain keys trusted number act held state (λ batch now e. understood_plain (catalog_of now number) batch.text (declarations_of batch)))
+    (means_within IsPlainFault ordinary_plain keys trusted number act held state (λ batch now e. analyzed_plain (catalog_of now number) batch.text (declarations_of batch)))
 
 -- ---- all steps
 
@@ -44,13 +44,13 @@ reference_plain keys (Turn number act ∷ steps) trusted holds state =
     All-cons IsPlainOutcome c.comes _ (means_plain keys trusted number act (held_at holds number) state) (reference_plain keys steps trusted (with_held holds number c.held) c.state)
 reference_plain keys (Trust path ∷ steps) trusted holds state = reference_plain keys steps (trusted ++ path ∷ []) holds state
 
-front_all : (front rest : List Outcome) → All IsPlainOutcome (front ++ rest) → All IsPlainOutcome front
-front_all [] rest h = All-nil IsPlainOutcome
-front_all (o ∷ front) rest h = All-cons IsPlainOutcome o front (All-head IsPlainOutcome o (front ++ rest) h) (front_all front rest (All-tail IsPlainOutcome o (front ++ rest) h))
+prefix_all : (prefix rest : List Outcome) → All IsPlainOutcome (prefix ++ rest) → All IsPlainOutcome prefix
+prefix_all [] rest h = All-nil IsPlainOutcome
+prefix_all (o ∷ prefix) rest h = All-cons IsPlainOutcome o prefix (All-head IsPlainOutcome o (prefix ++ rest) h) (prefix_all prefix rest (All-tail IsPlainOutcome o (prefix ++ rest) h))
 
 ends_plain : (end : End) (outcomes wanted : List Outcome) → EndsWith end outcomes wanted → All IsPlainOutcome wanted → All IsPlainOutcome outcomes
 ends_plain (Done sessions) outcomes wanted e h = subst (All IsPlainOutcome) (sym e) h
-ends_plain Dry outcomes wanted e h = front_all outcomes e.rest (subst (All IsPlainOutcome) e.is h)
+ends_plain Dry outcomes wanted e h = prefix_all outcomes e.rest (subst (All IsPlainOutcome) e.is h)
 ends_plain (BadReply taken) outcomes wanted e h = absurd e
 
 pub cells_never_fail : LawsBelow → ServedIsPlain → CellsNeverFail

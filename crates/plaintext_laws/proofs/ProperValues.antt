@@ -24,7 +24,7 @@ use Rattle.cell_codec.specs.declared.faults.CellFault.TheVariants as cell_fault
 use Rattle.wire_messages.specs.declared.params.SentParam.{SentParam}
 use Rattle.statement_analysis.specs.Params.{declaration_of}
 use Rattle.proper_value_laws.specs.Proper.{IsProperAtom}
-use Rattle.conversation.specs.Cells.{at_place, normal, read_atom, read_atoms, value_in}
+use Rattle.conversation.specs.Cells.{at_position, normal, read_atom, read_atoms, value_in}
 use Rattle.conversation.specs.Pending.{Use}
 use Rattle.conversation.specs.declared.faults.CellFailure.{CellFailure}
 use Rattle.conversation.specs.declared.faults.DriverFault.{DriverFault}
@@ -57,7 +57,7 @@ module _ (the_one : ValueIsTheOne) where
   read_value (Some ks) t (atom.Sealed cell) v e h = in_cell t (content_of ks cell) v e
   read_value None t (atom.Sealed cell) v e h = absurd cc
 
-  placed : (row at : ℕ) (r : Result Value CellFailure) (v : Value) → at_place row at r ≡ Ok v → r ≡ Ok v
+  placed : (row at : ℕ) (r : Result Value CellFailure) (v : Value) → at_position row at r ≡ Ok v → r ≡ Ok v
   placed row at (Ok w) v e = let is : w ≡ v = cc in ap Ok is
   placed row at (Err why) v e = absurd cc
 
@@ -77,7 +77,7 @@ module _ (the_one : ValueIsTheOne) where
   read_values row at (c ∷ cs) [] atoms values e h = nothing_read values e
   read_values row at (c ∷ cs) (k ∷ ks) [] values e h = nothing_read values e
   read_values row at (c ∷ cs) (k ∷ ks) (a ∷ atoms) values e h =
-      then_values (at_place row at (read_atom k c.ty a)) (read_atoms row (at + 1) cs ks atoms) values
+      then_values (at_position row at (read_atom k c.ty a)) (read_atoms row (at + 1) cs ks atoms) values
       (λ v f. read_value k c.ty a v (placed row at (read_atom k c.ty a) v f) (All-head IsProperAtom a atoms h))
       (λ more f. read_values row (at + 1) cs ks atoms more f (All-tail IsProperAtom a atoms h)) e
 

@@ -24,7 +24,7 @@ use Rattle.engine.specs.Step.{Answer, Rows, Changed, Defined}
 use Rattle.transactions.specs.Counted.{execution}
 use Rattle.transactions.specs.Stores.{ask_of, transact}
 use Rattle.wire_messages.specs.Messages.{Description}
-use Rattle.statement_analysis.specs.Describing.{Meant, understood, describe, description, keys_of}
+use Rattle.statement_analysis.specs.Describing.{Analysis, analyzed, describe, description, keys_of}
 use Rattle.server_core.specs.Serve.{State, catalog_of}
 use Rattle.conversation.specs.Batches.{unfit_by, why_unfit}
 use Rattle.conversation.specs.Keys.{seen, open_key, open_trusted, is_trusted, with_values, meta_of}
@@ -40,13 +40,13 @@ use Rattle.script_lang.specs.declared.steps.Act.TheVariants.{Whole, Half, Execut
 use Rattle.driver.specs.declared.outcomes.Fault.{Fault}
 use Rattle.column_rotate.specs.Moves as moves
 use Rattle.column_rotate.specs.Moves.{Move, Sends, Finishes, move_of}
-use Rattle.column_rotate.specs.Rotating.{fault_as, told_of}
+use Rattle.column_rotate.specs.Rotating.{fault_as, driver_outcome}
 use Rattle.column_rotate.specs.declared.sent.Sent.{Sent}
 use Rattle.plaintext_laws.specs.Clashes.{IsRunIn, IsSentIn, behind_one, first_of_all}
 use Rattle.plaintext_laws.specs.PlainOutcomes.{IsPlainFailure}
 use Rattle.plaintext_laws.specs.Batches.{
-  Came,
-  came,
+  BatchEnd,
+  batch_end,
   declarations_of,
   unopened_or,
   why_unopened,
@@ -68,7 +68,7 @@ use Rattle.plaintext_laws.specs.Batches.{
 }
 use Rattle.plaintext_laws.specs.Reference.{means}
 use Rattle.plaintext_laws.specs.Rotations.{beginning}
-use Rattle.plaintext_laws.proofs.Rotating.{IsFineTold, all_of_it}
+use Rattle.plaintext_laws.proofs.Rotating.{IsFineKnown, all_of_it}
 use Rattle.plaintext_laws.proofs.Causes.{IsOrdinaryFault, Blames, transact_blames}
 
 -- ---- keys
@@ -101,26 +101,26 @@ unopened_fails keys trusted metas (enc.Det id ∷ encs) = first_fails (open_trus
 unopened_fails keys trusted metas (enc.Rnd id ∷ encs) = first_fails (open_trusted keys trusted (meta_of metas id))
     (why_unopened keys trusted metas encs) (opened_fails keys trusted (meta_of metas id)) (unopened_fails keys trusted metas encs)
 
--- ---- a session that holds nothing holds nothing behind a whole batch
+-- ---- a session that holds nothing holds nothing after a whole batch
 
 module _ (keys : KeyMap) (trusted : List (List ℕ)) (number : ℕ) (batch : Batch) (state : State) where
-  abbrev HoldsNone : Came → Type 0
+  abbrev HoldsNone : BatchEnd → Type 0
   HoldsNone c = c.held ≡ None
 
-  stepped_holds : (b : Batch) (r : Result Meant SqlFault) → HoldsNone (stepped keys trusted state number b r)
-  stepped_holds b (Ok meant) = refl
+  stepped_holds : (b : Batch) (r : Result Analysis SqlFault) → HoldsNone (stepped keys trusted state number b r)
+  stepped_holds b (Ok analysis) = refl
   stepped_holds b (Err f) = refl
 
   executed_holds : (p : Pending) (o : Option DriverFault) → HoldsNone (executed_with keys trusted state number p o)
   executed_holds p (Some f) = refl
   executed_holds p None = by (p.version == (catalog_of state number).version)
     where
-      by : (b : Bool) → HoldsNone (if b then stepped keys trusted state number p.batch (understood (catalog_of state number) p.batch.text (declarations_of p.batch))
-          else came (outcome.Refused (Moved (record { seen = p.version; now = (catalog_of state number).version }))) None state)
-      by true = stepped_holds p.batch (understood (catalog_of state number) p.batch.text (declarations_of p.batch))
+      by : (b : Bool) → HoldsNone (if b then stepped keys trusted state number p.batch (analyzed (catalog_of state number) p.batch.text (declarations_of p.batch))
+          else batch_end (outcome.Refused (Moved (record { seen = p.version; now = (catalog_of state number).version }))) None state)
+      by true = stepped_holds p.batch (analyzed (catalog_of state number) p.batch.text (declarations_of p.batch))
       by false = refl
 
-  unless_holds : (o : Option (List ℕ)) (c : Came) → HoldsNone c → HoldsNone (unless_open state o c)
+  unless_holds : (o : Option (List ℕ)) (c : BatchEnd) → HoldsNone c → HoldsNone (unless_open state o c)
   unless_holds (Some name) c h = refl
   unless_holds None c h = h
 
@@ -152,7 +152,7 @@ unfit_fails None true = tt
 unfit_fails None false = tt
 
 module _ (P : SqlFault → Type 0) (ordinary : (f : SqlFault) → IsOrdinaryFault f → P f) where
-  abbrev Within : Came → Type 0
+  abbrev Within : BatchEnd → Type 0
   Within c = IsWithin P c.comes
 
   shown_within : (listing : Listing) (o : Option DriverFault) → Fails o → IsWithin P (shown listing o)
@@ -172,43 +172,44 @@ module _ (P : SqlFault → Type 0) (ordinary : (f : SqlFault) → IsOrdinaryFaul
     here = catalog_of state number
 
     -- a batch is understood, or refused with a fault of P
-    abbrev Understood : Batch → Type 0
-    Understood batch = IfErr (understood here batch.text (declarations_of batch)) P
+    abbrev Analyzed : Batch → Type 0
+    Analyzed batch = IfErr (analyzed here batch.text (declarations_of batch)) P
 
-    stepped_within : (batch : Batch) (r : Result Meant SqlFault) → IfErr r P → Within (stepped keys trusted state number batch r)
-    stepped_within batch (Ok meant) h =
-        let ask = ask_of (execution meant.bound meant.encs (map (λ (p : Param). plain_atom p.value) batch.params)) in
+    stepped_within : (batch : Batch) (r : Result Analysis SqlFault) → IfErr r P → Within (stepped keys trusted state number batch r)
+    stepped_within batch (Ok analysis) h =
+        let ask = ask_of (execution analysis.bound analysis.encs (map (λ (p : Param). plain_atom p.value) batch.params)) in
         answered_within keys trusted here (transact state number ask).answer (transact_blames state number ask)
     stepped_within batch (Err f) h = h
 
-    versions_within : (p : Pending) → Understood p.batch → (same : Bool) → let moved : SqlFault = Moved (record { seen = p.version; now = here.version }) in
-        Within (if same then stepped keys trusted state number p.batch (understood here p.batch.text (declarations_of p.batch)) else came (outcome.Refused moved) None state)
-    versions_within p h true = stepped_within p.batch (understood here p.batch.text (declarations_of p.batch)) h
+    versions_within : (p : Pending) → Analyzed p.batch → (same : Bool) → let moved : SqlFault = Moved (record { seen = p.version; now = here.version }) in
+        Within (if same then stepped keys trusted state number p.batch (analyzed here p.batch.text (declarations_of p.batch)) else batch_end (outcome.Refused moved) None state)
+    versions_within p h true = stepped_within p.batch (analyzed here p.batch.text (declarations_of p.batch)) h
     versions_within p h false = ordinary (Moved (record { seen = p.version; now = here.version })) tt
 
-    executed_within : (p : Pending) → Understood p.batch → (o : Option DriverFault) → Fails o → Within (executed_with keys trusted state number p o)
+    executed_within : (p : Pending) → Analyzed p.batch → (o : Option DriverFault) → Fails o → Within (executed_with keys trusted state number p o)
     executed_within p h (Some f) k = k
     executed_within p h None k = versions_within p h (p.version == here.version)
 
-    execution_within : (p : Pending) → Understood p.batch → Within (execution_of keys trusted state number p)
+    execution_within : (p : Pending) → Analyzed p.batch → Within (execution_of keys trusted state number p)
     execution_within p h = let encs = map (λ u. u.enc) (uses_of p) in executed_within p h (why_unopened keys trusted p.keys encs) (unopened_fails keys trusted p.keys encs)
 
-    unless_within : (o : Option (List ℕ)) (c : Came) → Within c → Within (unless_open state o c)
+    unless_within : (o : Option (List ℕ)) (c : BatchEnd) → Within c → Within (unless_open state o c)
     unless_within (Some name) c h = tt
     unless_within None c h = h
 
-    readied_within : (ready : Pending → Came) (p : Pending) → Within (ready p) → Within (readied state ready p)
+    readied_within : (ready : Pending → BatchEnd) (p : Pending) → Within (ready p) → Within (readied state ready p)
     readied_within ready p h = unless_within (first_open p.batch.forced p.batch.params p.encs) (ready p) h
 
-    module _ (batch : Batch) (h : why_unfit batch ≡ None → Understood batch) (ready : Pending → Came)
+    module _ (batch : Batch) (h : why_unfit batch ≡ None → Analyzed batch) (ready : Pending → BatchEnd)
         (ready_within : (d : Description) → why_unfit batch ≡ None → Within (ready (pending batch d))) where
-      described_within : why_unfit batch ≡ None → (r : Result Meant SqlFault) → IfErr r P → Within (described state batch ready (r >>= λ meant. Ok (description here (declarations_of batch) meant)))
-      described_within fit (Ok meant) k = ready_within (description here (declarations_of batch) meant) fit
+      described_within : why_unfit batch ≡ None → (r : Result Analysis SqlFault) → IfErr r P
+          → Within (described state batch ready (r >>= λ analysis. Ok (description here (declarations_of batch) analysis)))
+      described_within fit (Ok analysis) k = ready_within (description here (declarations_of batch) analysis) fit
       described_within fit (Err f) k = k
 
       begun_within : (o : Option DriverFault) → why_unfit batch ≡ o → Fails o → Within (begun state number batch ready o)
       begun_within (Some f) e k = k
-      begun_within None e k = described_within e (understood here batch.text (declarations_of batch)) (h e)
+      begun_within None e k = described_within e (analyzed here batch.text (declarations_of batch)) (h e)
 
       begins_within : (held : Option Pending) → Within (begins state number batch ready held)
       begins_within None = begun_within (why_unfit batch) refl (unfit_fails (first_unfit batch.params) (nat_lt most_statement_bytes (length (encode_utf8_all batch.text))))
@@ -218,25 +219,25 @@ module _ (P : SqlFault → Type 0) (ordinary : (f : SqlFault) → IsOrdinaryFaul
 
   module _ (keys : KeyMap) (trusted : List (List ℕ)) (number : ℕ) where
     -- a batch is understood in a state, or refused with a fault of P
-    abbrev UnderstoodIn : State → Batch → Type 0
-    UnderstoodIn state batch = Understood keys trusted state number batch
+    abbrev AnalyzedIn : State → Batch → Type 0
+    AnalyzedIn state batch = Analyzed keys trusted state number batch
 
-    whole_within : (batch : Batch) (state : State) → (why_unfit batch ≡ None → UnderstoodIn state batch) → (held : Option Pending) → Within (runs_whole keys trusted number batch held state)
+    whole_within : (batch : Batch) (state : State) → (why_unfit batch ≡ None → AnalyzedIn state batch) → (held : Option Pending) → Within (runs_whole keys trusted number batch held state)
     whole_within batch state h held =
         begins_within keys trusted state number batch h (readied state (execution_of keys trusted state number))
         (λ d fit. readied_within keys trusted state number (execution_of keys trusted state number) (pending batch d) (execution_within keys trusted state number (pending batch d) (h fit))) held
 
     module _ (old new : List ℕ) (start : State)
-        (h : (batch : Batch) (now : State) (sends : Sent) → IsSentIn keys trusted number old new start sends batch now → why_unfit batch ≡ None → UnderstoodIn now batch) where
+        (h : (batch : Batch) (now : State) (sends : Sent) → IsSentIn keys trusted number old new start sends batch now → why_unfit batch ≡ None → AnalyzedIn now batch) where
       abbrev Fine : Fault → Type 0
       Fine f = IsWithin P (fault_as f)
 
-      fine_told : (comes : Outcome) → IsWithin P comes → IsFineTold Fine (told_of comes)
-      fine_told (outcome.Broken listing why) k = absurd k
-      fine_told (outcome.Refused f) k = k
-      fine_told (outcome.Failed f) k = k
-      fine_told (outcome.Rows listing) k = tt
-      fine_told other k = tt
+      fine_known : (comes : Outcome) → IsWithin P comes → IsFineKnown Fine (driver_outcome comes)
+      fine_known (outcome.Broken listing why) k = absurd k
+      fine_known (outcome.Refused f) k = k
+      fine_known (outcome.Failed f) k = k
+      fine_known (outcome.Rows listing) k = tt
+      fine_known other k = tt
 
       -- a batch that is sent is one of the rotation's
       abbrev IsReachedIn : Move → State → Type 0
@@ -244,7 +245,7 @@ module _ (P : SqlFault → Type 0) (ordinary : (f : SqlFault) → IsOrdinaryFaul
       IsReachedIn other now = Unit {0}
 
       reached_next : (sends : Sent) (batch : Batch) (now : State) → IsSentIn keys trusted number old new start sends batch now → (m : Move)
-          → (let c = runs_whole keys trusted number batch None now in (move_of old new sends c.accepted (told_of c.comes) ≡ m) → IsReachedIn m c.state)
+          → (let c = runs_whole keys trusted number batch None now in (move_of old new sends c.accepted (driver_outcome c.comes) ≡ m) → IsReachedIn m c.state)
       reached_next sends batch now reached (Sends next later) e = behind_one sends later batch next now reached e
       reached_next sends batch now reached (Finishes count) e = tt
       reached_next sends batch now reached (moves.Fails f) e = tt
@@ -257,14 +258,14 @@ module _ (P : SqlFault → Type 0) (ordinary : (f : SqlFault) → IsOrdinaryFaul
           (λ batch sends is_sent may t w next now reached.
           let c = runs_whole keys trusted number batch None now in
           let within = whole_within batch now (h batch now sends reached) None in
-          subst (λ held. Within (w c.accepted (told_of c.comes) held c.state)) (sym (whole_holds_none keys trusted number batch now))
-          (next c.accepted (told_of c.comes) (record { types = λ is. absurd is; rows = λ is. absurd is; fine = fine_told c.comes within }) c.state
-          (reached_next sends batch now reached (move_of old new sends c.accepted (told_of c.comes)) refl)))
+          subst (λ held. Within (w c.accepted (driver_outcome c.comes) held c.state)) (sym (whole_holds_none keys trusted number batch now))
+          (next c.accepted (driver_outcome c.comes) (record { types = λ is. absurd is; rows = λ is. absurd is; fine = fine_known c.comes within }) c.state
+          (reached_next sends batch now reached (move_of old new sends c.accepted (driver_outcome c.comes)) refl)))
           start first_of_all
 
   -- a turn is refused with a fault of P, if each batch that it runs is understood, or is refused so
   pub means_within : (keys : KeyMap) (trusted : List (List ℕ)) (number : ℕ) (act : Act) (held : Option Pending) (state : State)
-      → ((batch : Batch) (now : State) → IsRunIn keys trusted number act held state batch now → Understood keys trusted now number batch)
+      → ((batch : Batch) (now : State) → IsRunIn keys trusted number act held state batch now → Analyzed keys trusted now number batch)
       → Within (means keys trusted number act held state)
   means_within keys trusted number (Whole batch) held state h = whole_within keys trusted number batch state (λ fit. h batch state (refl, refl)) held
   means_within keys trusted number (Half batch) held state h =

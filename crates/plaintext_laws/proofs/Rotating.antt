@@ -27,20 +27,20 @@ use Rattle.conversation.specs.declared.sessions.Session.{Session}
 use Rattle.driver.specs.declared.outcomes.Fault.{Fault}
 use Rattle.driver.specs.declared.outcomes.Fault.TheVariants.{OfDriver}
 use Rattle.driver.specs.declared.outcomes.Outcome.{Outcome}
-use Rattle.driver.specs.declared.outcomes.Outcome.TheVariants as told
+use Rattle.driver.specs.declared.outcomes.Outcome.TheVariants as of_driver
 use Rattle.column_rotate.specs.Headers.{are_alike, are_same_columns, columns_in}
-use Rattle.column_rotate.specs.Moves.{Move, Sends, Finishes, Fails, accepted_move, back, compared, first, is_empty, move_of, putting, refused_move, rows_told}
+use Rattle.column_rotate.specs.Moves.{Move, Sends, Finishes, Fails, accepted_move, back, compared, first, is_empty, move_of, putting, refused_move, outcome_rows}
 use Rattle.column_rotate.specs.Rotating as talks
-use Rattle.column_rotate.specs.Rotating.{fault_as, told_of}
+use Rattle.column_rotate.specs.Rotating.{fault_as, driver_outcome}
 use Rattle.column_rotate.specs.Texts.{begins, commits, param_name, params_from, puts, reads_all, replaces, rolls_back}
 use Rattle.column_rotate.specs.declared.sent.Sent.{Sent}
 use Rattle.column_rotate.specs.declared.sent.Sent.TheVariants as sent
 use Rattle.script_lang.specs.Limits.{HasParams, HasProperParams, IsProperParam}
-use Rattle.plaintext_laws.specs.Batches.{Came, came}
+use Rattle.plaintext_laws.specs.Batches.{BatchEnd, batch_end}
 use Rattle.plaintext_laws.specs.Rotations as plain
-use Rattle.plaintext_laws.proofs.Keyless.{TellsNoKey}
+use Rattle.plaintext_laws.proofs.Keyless.{GivesNoKey}
 use Rattle.plaintext_laws.proofs.Sound.{AreProperValues, AreTyped, IsProperShown}
-use Rattle.plaintext_laws.proofs.Texts.{begins_tells, commits_tells, puts_tell, reads_tell, replaces_tell, rolls_back_tells}
+use Rattle.plaintext_laws.proofs.Texts.{begins_gives, commits_gives, puts_tell, reads_tell, replaces_tell, rolls_back_gives}
 
 -- ---- the parameters of a row
 
@@ -54,7 +54,7 @@ other_name k m less small = by (bytes_eq (param_name k) (param_name m)) refl
     by true e = let is : k ≡ m = decimal_injective k m (omega (arith, less, small)) small (ap (drop 1) ((bytes_eq-Decides (param_name k) (param_name m)).0 e)) in absurd (omega (arith, is, less))
     by false e = refl
 
--- none behind it has the name
+-- none after it has the name
 no_later : (k n : ℕ) (columns : List SentColumn) (row : List Value) → k < n → n + length columns < 2 ^ 64 → list_any (bytes_eq (param_name k)) (names_from n columns row) ≡ false
 no_later k n [] row less small = refl
 no_later k n (c ∷ cs) [] less small = refl
@@ -90,18 +90,18 @@ abbrev pub Any : Fault → Type 0
 Any f = Unit {0}
 
 -- a refusal is of one kind
-abbrev pub IsFineTold : (Fault → Type 0) → Outcome → Type 0
-IsFineTold IsFine (told.Refused f) = IsFine f
-IsFineTold IsFine other = Unit {0}
+abbrev pub IsFineKnown : (Fault → Type 0) → Outcome → Type 0
+IsFineKnown IsFine (of_driver.Refused f) = IsFine f
+IsFineKnown IsFine other = Unit {0}
 
 module _ (Proper : Type 0) where
   pub record MayRun (batch : Batch) : Type 0 where
     pub params : HasParams batch
     pub proper : Proper → HasProperParams batch
-    pub keyless : TellsNoKey batch.text
+    pub keyless : GivesNoKey batch.text
 
-  without_params : (batch : Batch) → batch.params ≡ [] → TellsNoKey batch.text → MayRun batch
-  without_params batch none tells = record { params = rw none (omega arith, refl); proper = λ is. rw none (All-nil IsProperParam); keyless = tells }
+  without_params : (batch : Batch) → batch.params ≡ [] → GivesNoKey batch.text → MayRun batch
+  without_params batch none gives = record { params = rw none (omega arith, refl); proper = λ is. rw none (All-nil IsProperParam); keyless = gives }
 
   may_put : (table : List ℕ) (columns : List SentColumn) (row : List Value) → length columns ≤ 64
       → (Proper → All (λ (c : SentColumn). IsType c.ty) columns) → (Proper → All IsProper row) → MayRun (puts table columns row)
@@ -111,16 +111,16 @@ module _ (Proper : Type 0) where
     keyless = puts_tell table columns;
   }
 
-  pub record IsTold (IsFine : Fault → Type 0) (columns : Accepted) (comes : Outcome) : Type 0 where
+  pub record IsKnown (IsFine : Fault → Type 0) (columns : Accepted) (comes : Outcome) : Type 0 where
     pub types : Proper → AreTyped columns
-    pub rows : Proper → AreProperValues (rows_told comes)
-    pub fine : IsFineTold IsFine comes
+    pub rows : Proper → AreProperValues (outcome_rows comes)
+    pub fine : IsFineKnown IsFine comes
 
-pub any_told : (comes : Outcome) → IsFineTold Any comes
-any_told (told.Refused f) = tt
-any_told other = tt
+pub any_known : (comes : Outcome) → IsFineKnown Any comes
+any_known (of_driver.Refused f) = tt
+any_known other = tt
 
-pub rows_of_shown : (comes : outcomes.Outcome) → IsProperShown comes → AreProperValues (rows_told (told_of comes))
+pub rows_of_shown : (comes : outcomes.Outcome) → IsProperShown comes → AreProperValues (outcome_rows (driver_outcome comes))
 rows_of_shown (outcome.Rows listing) h = h
 rows_of_shown (outcome.Broken listing (Some f)) h = All-nil (All IsProper)
 rows_of_shown (outcome.Broken listing None) h = All-nil (All IsProper)
@@ -151,64 +151,65 @@ IsSentAs other batch = Unit {0}
 
 -- ---- the whole by its parts
 
--- A node is what is left: in the conversation, and in the plain meaning. Where it holds at the ends, and of a batch if it holds behind it whatever
+-- A node is what is left: in the conversation, and in the plain meaning. Where it holds at the ends, and of a batch if it holds after it whatever
 -- is told of it, it holds of the whole.
 module _ (trusted : List (List ℕ)) (number : ℕ) (old new : List ℕ) (k : talks.Ends) (keys : KeyMap) (Proper : Type 0) (IsFine : Fault → Type 0)
     (not_alike : IsFine (OfDriver (NotAlike new))) (not_empty : IsFine (OfDriver (NotEmpty new)))
-    (Node : Move → (Session → Talk) → (Option Pending → State → Came) → Type 0)
-    (finishes : (count : ℕ) → Node (Finishes count) (λ after. k (outcome.Rotated count) after) (λ held state. came (outcome.Rotated count) held state))
-    (fails : (f : Fault) → IsFine f → Node (Fails f) (λ after. k (fault_as f) after) (λ held state. came (fault_as f) held state))
-    (runs : (batch : Batch) (sends : Sent) → IsSentAs sends batch → MayRun Proper batch → (t : Accepted → Outcome → Session → Talk) (w : Accepted → Outcome → Option Pending → State → Came)
-    → ((columns : Accepted) (comes : Outcome) → IsTold Proper IsFine columns comes
+    (Node : Move → (Session → Talk) → (Option Pending → State → BatchEnd) → Type 0)
+    (finishes : (count : ℕ) → Node (Finishes count) (λ after. k (outcome.Rotated count) after) (λ held state. batch_end (outcome.Rotated count) held state))
+    (fails : (f : Fault) → IsFine f → Node (Fails f) (λ after. k (fault_as f) after) (λ held state. batch_end (fault_as f) held state))
+    (runs : (batch : Batch) (sends : Sent) → IsSentAs sends batch → MayRun Proper batch → (t : Accepted → Outcome → Session → Talk) (w : Accepted → Outcome → Option Pending → State → BatchEnd)
+    → ((columns : Accepted) (comes : Outcome) → IsKnown Proper IsFine columns comes
     → Node (move_of old new sends columns comes) (λ after. t columns comes after) (λ held state. w columns comes held state))
     → Node (Sends batch sends) (λ before. talks.runs trusted number old new k batch before t) (λ held state. plain.runs keys trusted number old new batch held state w)) where
   -- a refusal goes one way, anything else the other
-  goes : (sends : Sent) (tf : Fault → Session → Talk) (tk : Outcome → Session → Talk) (wf : Fault → Option Pending → State → Came)
-      (wk : Outcome → Option Pending → State → Came) (columns : Accepted) (comes : Outcome)
-      → IsTold Proper IsFine columns comes
+  goes : (sends : Sent) (tf : Fault → Session → Talk) (tk : Outcome → Session → Talk) (wf : Fault → Option Pending → State → BatchEnd)
+      (wk : Outcome → Option Pending → State → BatchEnd) (columns : Accepted) (comes : Outcome)
+      → IsKnown Proper IsFine columns comes
       → ((f : Fault) → IsFine f → Node (refused_move sends f) (λ after. tf f after) (λ held state. wf f held state))
-      → Node (accepted_move old new sends columns (rows_told comes)) (λ after. tk comes after) (λ held state. wk comes held state)
+      → Node (accepted_move old new sends columns (outcome_rows comes)) (λ after. tk comes after) (λ held state. wk comes held state)
       → Node (move_of old new sends columns comes) (λ after. talks.unless_refused tf tk comes after) (λ held state. plain.unless_refused wf wk comes held state)
-  goes sends tf tk wf wk columns (told.Refused f) h bad good = bad f h.fine
-  goes sends tf tk wf wk columns (told.Rows rows) h bad good = good
-  goes sends tf tk wf wk columns (told.Changed count) h bad good = good
-  goes sends tf tk wf wk columns told.Defined h bad good = good
+  goes sends tf tk wf wk columns (of_driver.Refused f) h bad good = bad f h.fine
+  goes sends tf tk wf wk columns (of_driver.Rows rows) h bad good = good
+  goes sends tf tk wf wk columns (of_driver.Changed count) h bad good = good
+  goes sends tf tk wf wk columns of_driver.Defined h bad good = good
 
   abbrev tf : Fault → Session → Talk
   tf f after = talks.fails_with trusted number old new k f after
 
-  abbrev wf : Fault → Option Pending → State → Came
+  abbrev wf : Fault → Option Pending → State → BatchEnd
   wf f held state = plain.fails_with keys trusted number old new f held state
 
   abbrev tb : Fault → Session → Talk
   tb f before = talks.rolling_back trusted number old new k f before
 
-  abbrev wb : Fault → Option Pending → State → Came
+  abbrev wb : Fault → Option Pending → State → BatchEnd
   wb f held state = plain.rolling_back keys trusted number old new f held state
 
   failed_back : (f : Fault) → IsFine f → (columns : Accepted) (comes : Outcome) → Node (move_of old new (sent.RollBack f) columns comes) (λ after. tf f after) (λ held state. wf f held state)
-  failed_back f h columns (told.Refused g) = fails f h
-  failed_back f h columns (told.Rows rows) = fails f h
-  failed_back f h columns (told.Changed count) = fails f h
-  failed_back f h columns told.Defined = fails f h
+  failed_back f h columns (of_driver.Refused g) = fails f h
+  failed_back f h columns (of_driver.Rows rows) = fails f h
+  failed_back f h columns (of_driver.Changed count) = fails f h
+  failed_back f h columns of_driver.Defined = fails f h
 
   rolls : (f : Fault) → IsFine f → Node (back f) (λ before. tb f before) (λ held state. wb f held state)
   rolls f h =
-      runs rolls_back (sent.RollBack f) refl (without_params Proper rolls_back refl rolls_back_tells)
+      runs rolls_back (sent.RollBack f) refl (without_params Proper rolls_back refl rolls_back_gives)
       (λ columns comes after. tf f after) (λ columns comes held state. wf f held state) (λ columns comes t. failed_back f h columns comes)
 
   commit : (all : ℕ)
       → Node (Sends commits (sent.Commit all)) (λ before. talks.committing trusted number old new k all before) (λ held state. plain.committing keys trusted number old new all held state)
   commit all =
-      runs commits (sent.Commit all) tt (without_params Proper commits refl commits_tells)
-      (λ columns. talks.unless_refused tf (λ comes after. k (outcome.Rotated all) after)) (λ columns. plain.unless_refused wf (λ comes held state. came (outcome.Rotated all) held state))
-      (λ columns comes t. goes (sent.Commit all) tf (λ comes after. k (outcome.Rotated all) after) wf (λ comes held state. came (outcome.Rotated all) held state) columns comes t fails (finishes all))
+      runs commits (sent.Commit all) tt (without_params Proper commits refl commits_gives)
+      (λ columns. talks.unless_refused tf (λ comes after. k (outcome.Rotated all) after)) (λ columns. plain.unless_refused wf (λ comes held state. batch_end (outcome.Rotated all) held state))
+      (λ columns comes t. goes (sent.Commit all) tf (λ comes after. k (outcome.Rotated all) after) wf (λ comes held state. batch_end (outcome.Rotated all) held state) columns comes t fails
+      (finishes all))
 
   replace : (all : ℕ)
       → Node (Sends (replaces old new) (sent.Replace all)) (λ before. talks.replacing trusted number old new k all before) (λ held state. plain.replacing keys trusted number old new all held state)
   replace all =
       let tk : Outcome → Session → Talk = λ comes after. talks.committing trusted number old new k all after in
-      let wk : Outcome → Option Pending → State → Came = λ comes held state. plain.committing keys trusted number old new all held state in
+      let wk : Outcome → Option Pending → State → BatchEnd = λ comes held state. plain.committing keys trusted number old new all held state in
       runs (replaces old new) (sent.Replace all) tt (without_params Proper (replaces old new) refl (replaces_tell old new))
       (λ columns. talks.unless_refused tb tk) (λ columns. plain.unless_refused wb wk)
       (λ columns comes t. goes (sent.Replace all) tb tk wb wk columns comes t rolls (commit all))
@@ -219,7 +220,7 @@ module _ (trusted : List (List ℕ)) (number : ℕ) (old new : List ℕ) (k : ta
   put_each columns all [] few types values = replace all
   put_each columns all (row ∷ rows) few types values =
       let tk : Outcome → Session → Talk = λ comes after. talks.putting_each trusted number old new k columns all rows after in
-      let wk : Outcome → Option Pending → State → Came = λ comes held state. plain.putting_each keys trusted number old new columns all rows held state in
+      let wk : Outcome → Option Pending → State → BatchEnd = λ comes held state. plain.putting_each keys trusted number old new columns all rows held state in
       let rest = put_each columns all rows few types (λ is. All-tail (All IsProper) row rows (values is)) in
       runs (puts new columns row) (sent.Put columns all rows) tt
       (may_put Proper new columns row few types (λ is. All-head (All IsProper) row rows (values is))) (λ others. talks.unless_refused tb tk) (λ others. plain.unless_refused wb wk)
@@ -244,22 +245,22 @@ module _ (trusted : List (List ℕ)) (number : ℕ) (old new : List ℕ) (k : ta
       → Node (Sends (reads_all old) (sent.ReadOld news empty)) (λ before. talks.reading_old trusted number old new k news empty before)
       (λ held state. plain.reading_old keys trusted number old new news empty held state)
   read_old news empty =
-      let tk : Accepted → Outcome → Session → Talk = λ olds comes after. talks.comparing trusted number old new k news empty olds (rows_told comes) after in
-      let wk : Accepted → Outcome → Option Pending → State → Came = λ olds comes held state. plain.comparing keys trusted number old new news empty olds (rows_told comes) held state in
+      let tk : Accepted → Outcome → Session → Talk = λ olds comes after. talks.comparing trusted number old new k news empty olds (outcome_rows comes) after in
+      let wk : Accepted → Outcome → Option Pending → State → BatchEnd = λ olds comes held state. plain.comparing keys trusted number old new news empty olds (outcome_rows comes) held state in
       runs (reads_all old) (sent.ReadOld news empty) tt (without_params Proper (reads_all old) refl (reads_tell old))
       (λ olds. talks.unless_refused tb (tk olds)) (λ olds. plain.unless_refused wb (wk olds))
-      (λ olds comes t. goes (sent.ReadOld news empty) tb (tk olds) wb (wk olds) olds comes t rolls (compare news empty olds (rows_told comes) t.types t.rows))
+      (λ olds comes t. goes (sent.ReadOld news empty) tb (tk olds) wb (wk olds) olds comes t rolls (compare news empty olds (outcome_rows comes) t.types t.rows))
 
   read_new : Node (Sends (reads_all new) sent.ReadNew) (λ before. talks.reading_new trusted number old new k before) (λ held state. plain.reading_new keys trusted number old new held state)
   read_new =
-      let tk : Accepted → Outcome → Session → Talk = λ news comes after. talks.reading_old trusted number old new k news (is_empty (rows_told comes)) after in
-      let wk : Accepted → Outcome → Option Pending → State → Came = λ news comes held state. plain.reading_old keys trusted number old new news (is_empty (rows_told comes)) held state in
+      let tk : Accepted → Outcome → Session → Talk = λ news comes after. talks.reading_old trusted number old new k news (is_empty (outcome_rows comes)) after in
+      let wk : Accepted → Outcome → Option Pending → State → BatchEnd = λ news comes held state. plain.reading_old keys trusted number old new news (is_empty (outcome_rows comes)) held state in
       runs (reads_all new) sent.ReadNew tt (without_params Proper (reads_all new) refl (reads_tell new)) (λ news. talks.unless_refused tb (tk news)) (λ news. plain.unless_refused wb (wk news))
-      (λ news comes t. goes sent.ReadNew tb (tk news) wb (wk news) news comes t rolls (read_old news (is_empty (rows_told comes))))
+      (λ news comes t. goes sent.ReadNew tb (tk news) wb (wk news) news comes t rolls (read_old news (is_empty (outcome_rows comes))))
 
   pub all_of_it : Node first (λ before. talks.beginning trusted number old new k before) (λ held state. plain.beginning keys trusted number old new held state)
   all_of_it =
       let tk : Outcome → Session → Talk = λ comes after. talks.reading_new trusted number old new k after in
-      let wk : Outcome → Option Pending → State → Came = λ comes held state. plain.reading_new keys trusted number old new held state in
-      runs begins sent.Begin tt (without_params Proper begins refl begins_tells) (λ columns. talks.unless_refused tf tk) (λ columns. plain.unless_refused wf wk)
+      let wk : Outcome → Option Pending → State → BatchEnd = λ comes held state. plain.reading_new keys trusted number old new held state in
+      runs begins sent.Begin tt (without_params Proper begins refl begins_gives) (λ columns. talks.unless_refused tf tk) (λ columns. plain.unless_refused wf wk)
       (λ columns comes t. goes sent.Begin tf tk wf wk columns comes t fails read_new)

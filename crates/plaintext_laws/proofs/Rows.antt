@@ -32,7 +32,7 @@ use Rattle.conversation.specs.declared.sessions.Session.{Session}
 use Rattle.conversation.specs.declared.sessions.Session.TheVariants.{Idle, Reading, Skipping}
 use Rattle.plaintext_laws.specs.Batches.{value_of}
 use Rattle.plaintext_laws.proofs.Pairs.{Standing, pair_is, Opens, rnd_opens, det_opens}
-use Rattle.plaintext_laws.proofs.Told.{OpenAs}
+use Rattle.plaintext_laws.proofs.Known.{OpenAs}
 use Rattle.plaintext_laws.proofs.Walk.{AnswersOf, AreOpened, OpensAt, types_shown}
 
 pub kind_of_type : (t : Ty) (d : Datum) → IsOfType t d → is_of_kind d t ≡ true
@@ -48,30 +48,30 @@ module _ (cell : List ℕ → Bool) where
   abbrev pub IsAt : ResultColumn → Atom → Type 0
   IsAt c a = IsAtomOf cell c.ty c.enc a
 
-  plain_awaited : (t : Ty) (a b : Atom) → IsAtomOf cell t enc.Plain a → b ≡ a → (is_atom_of (record { ty = t; enc = enc.Plain }) a ≡ true) × (read_atom None t a ≡ Ok (value_of b))
-  plain_awaited t atom.Null b h e = rw e (refl, refl)
-  plain_awaited t (atom.Plain d) b h e = rw e (kind_of_type t d h, refl)
-  plain_awaited t (atom.Sealed c) b h e = absurd h.0
+  plain_expected : (t : Ty) (a b : Atom) → IsAtomOf cell t enc.Plain a → b ≡ a → (is_atom_of (record { ty = t; enc = enc.Plain }) a ≡ true) × (read_atom None t a ≡ Ok (value_of b))
+  plain_expected t atom.Null b h e = rw e (refl, refl)
+  plain_expected t (atom.Plain d) b h e = rw e (kind_of_type t d h, refl)
+  plain_expected t (atom.Sealed c) b h e = absurd h.0
 
   -- where a cell stands first in each pair
   module _ (R : Pairing) (cells : (c : Class) (a b : Atom) → R c a b → (x : List ℕ) × (a ≡ atom.Sealed x)) where
-    atom_awaited : (t : Ty) (e : Enc) (a b : Atom) → IsAtomOf cell t e a → Correspond R (class_of t e) a b → is_atom_of (record { ty = t; enc = e }) a ≡ true
-    atom_awaited t enc.Plain a b i c = (plain_awaited t a b i c.0).0
-    atom_awaited t (enc.Det id) a b i (inl n) = let x = n.0 in rw x refl
-    atom_awaited t (enc.Det id) a b i (inr s) = let x = (cells (Det id t) a b s).1 in rw x refl
-    atom_awaited t (enc.Rnd id) a b i (inl n) = let x = n.0 in rw x refl
-    atom_awaited t (enc.Rnd id) a b i (inr s) = let x = (cells (Rnd id t) a b s).1 in rw x refl
+    atom_expected : (t : Ty) (e : Enc) (a b : Atom) → IsAtomOf cell t e a → Correspond R (class_of t e) a b → is_atom_of (record { ty = t; enc = e }) a ≡ true
+    atom_expected t enc.Plain a b i c = (plain_expected t a b i c.0).0
+    atom_expected t (enc.Det id) a b i (inl n) = let x = n.0 in rw x refl
+    atom_expected t (enc.Det id) a b i (inr s) = let x = (cells (Det id t) a b s).1 in rw x refl
+    atom_expected t (enc.Rnd id) a b i (inl n) = let x = n.0 in rw x refl
+    atom_expected t (enc.Rnd id) a b i (inr s) = let x = (cells (Rnd id t) a b s).1 in rw x refl
 
-    pub row_awaited : (columns : List ResultColumn) (row other : List Atom) → AllZip IsAt columns row
+    pub row_expected : (columns : List ResultColumn) (row other : List Atom) → AllZip IsAt columns row
         → RowsCorrespond R (map class_of_result columns) row other → is_row_of (types_shown columns) row ≡ true
-    row_awaited [] [] [] t c = refl
-    row_awaited (x ∷ cs) (a ∷ row) (b ∷ bs) t c =
-        let one = atom_awaited x.ty x.enc a b t.0 c.0 in
-        let rest = row_awaited cs row bs t.1 c.1 in
+    row_expected [] [] [] t c = refl
+    row_expected (x ∷ cs) (a ∷ row) (b ∷ bs) t c =
+        let one = atom_expected x.ty x.enc a b t.0 c.0 in
+        let rest = row_expected cs row bs t.1 c.1 in
         rw (one, rest) refl
-    row_awaited [] (a ∷ row) bs t c = absurd t
-    row_awaited (x ∷ cs) [] bs t c = absurd t
-    row_awaited cs row bs t c = absurd c
+    row_expected [] (a ∷ row) bs t c = absurd t
+    row_expected (x ∷ cs) [] bs t c = absurd t
+    row_expected cs row bs t c = absurd c
 
 pub count_rows : (count : ℕ) (row : List Atom) (rows : List (List Atom)) → (count + 1) + length rows ≡ count + length (row ∷ rows)
 count_rows count row rows = omega arith
@@ -91,16 +91,16 @@ rows_skipped cell key_for columns [] [] a c lost shown count total taken e =
     let t = eq-eqb total count same in
     (suc taken, rw t refl)
 rows_skipped cell key_for columns (row ∷ rows) (other ∷ others) a c lost shown count total taken e =
-    let x = row_awaited cell (Standing key_for) (standing_cells key_for) columns row other (All-head (AllZip (IsAt cell) columns) row rows a) c.0 in
+    let x = row_expected cell (Standing key_for) (standing_cells key_for) columns row other (All-head (AllZip (IsAt cell) columns) row rows a) c.0 in
     let s : total ≡ (count + 1) + length rows = e ∙ sym (count_rows count row rows) in
     let more = rows_skipped cell key_for columns rows others (All-tail (AllZip (IsAt cell) columns) row rows a) c.1 lost shown (count + 1) total (suc taken) s in
     (more.0, rw x more.1)
 rows_skipped cell key_for columns rows others a c lost shown count total taken e = absurd c
 
-module _ (keys : KeyMap) (trusted : List (List ℕ)) (cell : List ℕ → Bool) (key_for : ℕ → List ℕ) (metas : List KeyMeta) (told : OpenAs keys key_for metas) where
-  cell_awaited : (t : Ty) (id : ℕ) (a b : Atom) (ks own : Keys) → ks ≡ own → Opens own t a b
+module _ (keys : KeyMap) (trusted : List (List ℕ)) (cell : List ℕ → Bool) (key_for : ℕ → List ℕ) (metas : List KeyMeta) (known : OpenAs keys key_for metas) where
+  cell_expected : (t : Ty) (id : ℕ) (a b : Atom) (ks own : Keys) → ks ≡ own → Opens own t a b
       → (is_atom_of (record { ty = t; enc = enc.Det id }) a ≡ true) × (is_atom_of (record { ty = t; enc = enc.Rnd id }) a ≡ true) × (read_atom (Some ks) t a ≡ Ok (value_of b))
-  cell_awaited t id a b ks own s o =
+  cell_expected t id a b ks own s o =
       let l = o.left in
       let r = o.right in
       let v : value_in t (content_of ks o.cell) ≡ Ok (value.Is o.datum) = ap (λ k. value_in t (content_of k o.cell)) s ∙ o.value in
@@ -108,18 +108,18 @@ module _ (keys : KeyMap) (trusted : List (List ℕ)) (cell : List ℕ → Bool) 
 
   at_column : (t : Ty) (e : Enc) (o : Option Keys) (a b : Atom) → OpensAt (AnswersOf keys trusted) e o metas → IsAtomOf cell t e a → Correspond (Standing key_for) (class_of t e) a b
       → (is_atom_of (record { ty = t; enc = e }) a ≡ true) × (read_atom o t a ≡ Ok (value_of b))
-  at_column t enc.Plain o a b h i c = rw h (plain_awaited cell t a b i c.0)
+  at_column t enc.Plain o a b h i c = rw h (plain_expected cell t a b i c.0)
   at_column t (enc.Det id) o a b h i (inl n) = let x = n.0 in let y = n.1 in rw (x, y) (refl, refl)
   at_column t (enc.Det id) o a b h i (inr s) =
       let g = h.2 in
       let own = keys_of (key_for id) in
-      let z = cell_awaited t id a b h.0 own (told trusted id h.0 h.1) (det_opens own t a b s).opens in
+      let z = cell_expected t id a b h.0 own (known trusted id h.0 h.1) (det_opens own t a b s).opens in
       rw g (z.0, z.2)
   at_column t (enc.Rnd id) o a b h i (inl n) = let x = n.0 in let y = n.1 in rw (x, y) (refl, refl)
   at_column t (enc.Rnd id) o a b h i (inr s) =
       let g = h.2 in
       let own = keys_of (key_for id) in
-      let z = cell_awaited t id a b h.0 own (told trusted id h.0 h.1) (rnd_opens own t a b s) in
+      let z = cell_expected t id a b h.0 own (known trusted id h.0 h.1) (rnd_opens own t a b s) in
       rw g (z.1, z.2)
 
   row_read : (number at : ℕ) (columns : List ResultColumn) (os : List (Option Keys)) (row other : List Atom) → AreOpened (AnswersOf keys trusted) metas columns os → AllZip (IsAt cell) columns row

@@ -1,4 +1,4 @@
--- Conversations over the server that hear no reply that isn't awaited, and whose replies and outcomes are all of one kind, where keys are answered so.
+-- Conversations over the server that hear no reply that isn't expected, and whose replies and outcomes are all of one kind, where keys are answered so.
 use Rattle.std.proofs.Common.{◌≡◌, ℕ, suc, List, [], ◌∷◌, ◌++◌, length, take, drop, Option, Result, Bool, true, false, refl}
 use Rattle.std.specs.Prelude.{nat_lt}
 use Rattle.std.specs.List.{All}
@@ -20,7 +20,7 @@ use Rattle.plaintext_laws.specs.Awaits.{IsHeardBy, IsHeard, Awaits}
 use Rattle.plaintext_laws.specs.Suits.{IsPlainReply, IsVaultAnswer, ParamsSuit}
 use Rattle.plaintext_laws.proofs.Walk.{sixteen}
 
--- over the server from a state, with these replies in the queue: each is awaited, none is lacking and none is left; and R holds of each reply that a
+-- over the server from a state, with these replies in the queue: each is expected, none is lacking and none is left; and R holds of each reply that a
 -- request brings, and P of each outcome
 abbrev pub Says : (KeyMeta → Result Keys DriverFault → Type 0) → (Reply → Type 0) → (Outcome → Type 0) → Talk → State → List Reply → Type 0
 Says IsAnswer R P (Ends sessions) state queue = queue ≡ []
@@ -44,7 +44,7 @@ module _ (P Q : Heard → List Reply → Type 0) (more : (heard : Heard) (left :
       at Missed f h = absurd h
 
 module _ (IsAnswer : KeyMeta → Result Keys DriverFault → Type 0) (R : Reply → Type 0) (P : Outcome → Type 0) where
-  -- where any answer may come, each reply is awaited whatever the keys are
+  -- where any answer may come, each reply is expected whatever the keys are
   pub awaits_all : ((m : KeyMeta) (r : Result Keys DriverFault) → IsAnswer m r) → (t : Talk) (state : State) (queue : List Reply) → Says IsAnswer R P t state queue → Awaits serve t state queue
   awaits_all any (Ends sessions) state queue h = h
   awaits_all any (Stops comes) state queue h = absurd h

@@ -29,7 +29,7 @@ use Rattle.cell_codec.specs.Cells.{version, cell_of, sealed_det, iv_of, content_
 use Rattle.scalar.specs.Classes.{Det, Rnd, IsNotSealed, Correspond, class_of}
 use Rattle.engine.specs.WellTyped.{IsAtomOf}
 use Rattle.engine.proofs.Interface.{int_within, within_is}
-use Rattle.statement_analysis.specs.Params.{suited_atom}
+use Rattle.statement_analysis.specs.Params.{checked_atom}
 use Rattle.server_core.specs.States.{is_short}
 use Rattle.conversation.specs.Cells.{det_atom, rnd_atom, value_in, normal}
 use Rattle.conversation.specs.declared.faults.DriverFault.{DriverFault}
@@ -38,7 +38,7 @@ use Rattle.conversation.specs.Keys.{open_key, open_trusted, seen, trusted_meta, 
 use Rattle.plaintext_laws.specs.Below.{SealLaws}
 use Rattle.plaintext_laws.specs.Suits.{IsVaultAnswer}
 use Rattle.plaintext_laws.proofs.Pairs.{read_so, reads, det_reads, Standing}
-use Rattle.plaintext_laws.proofs.Told.{OpenAs}
+use Rattle.plaintext_laws.proofs.Known.{OpenAs}
 
 -- ---- small facts
 
@@ -122,7 +122,7 @@ module _ (laws : SealLaws) where
   key_of_map keys trusted m ks e = at (trusted_meta trusted m) e
     where
       at : (r : Result KeyMeta DriverFault) → (r >>= open_key keys) ≡ Ok ks → IsKey ks.enc_key
-      at (Ok told) e = subst IsVaultAnswer e (map_answers keys told)
+      at (Ok known) e = subst IsVaultAnswer e (map_answers keys known)
       at (Err f) e = absurd cc
 
 -- ---- a parameter as it is sealed
@@ -168,20 +168,21 @@ module _ (laws : SealLaws) (IsAnswer : KeyMeta → Result Keys DriverFault → T
   same_id : (id : ℕ) → (id == id) ≡ true
   same_id id = eq-eqb id id refl
 
-  cell_suited : (name : List ℕ) (ks : Keys) (id : ℕ) (v : Value) (a : Atom) → Cellular ks t v a
-      → (suited_atom (enc.Det id) (record { name = name; ty = t; enc = enc.Det id; atom = a }) ≡ Ok a) × (suited_atom (enc.Rnd id) (record { name = name; ty = t; enc = enc.Rnd id; atom = a }) ≡ Ok a)
-  cell_suited name ks id _ _ Nothing = let i = same_id id in rw i (refl, refl)
-  cell_suited name ks id _ _ (Cell d cell h) = let i = same_id id in let s = h.shape in rw (i, s) (refl, refl)
+  cell_checked : (name : List ℕ) (ks : Keys) (id : ℕ) (v : Value) (a : Atom) → Cellular ks t v a
+      → (checked_atom (enc.Det id) (record { name = name; ty = t; enc = enc.Det id; atom = a }) ≡ Ok a)
+      × (checked_atom (enc.Rnd id) (record { name = name; ty = t; enc = enc.Rnd id; atom = a }) ≡ Ok a)
+  cell_checked name ks id _ _ Nothing = let i = same_id id in rw i (refl, refl)
+  cell_checked name ks id _ _ (Cell d cell h) = let i = same_id id in let s = h.shape in rw (i, s) (refl, refl)
 
-  plain_suited : (name : List ℕ) (v : Value) → value_is_within v t ≡ true → suited_atom enc.Plain (record { name = name; ty = t; enc = enc.Plain; atom = plain_atom v }) ≡ Ok (plain_atom v)
-  plain_suited name value.Null h = refl
-  plain_suited name (value.Is d) h = rw h refl
+  plain_checked : (name : List ℕ) (v : Value) → value_is_within v t ≡ true → checked_atom enc.Plain (record { name = name; ty = t; enc = enc.Plain; atom = plain_atom v }) ≡ Ok (plain_atom v)
+  plain_checked name value.Null h = refl
+  plain_checked name (value.Is d) h = rw h refl
 
   -- it is let in
-  pub sealed_suited : (name : List ℕ) (e : Enc) (v : Value) (a : Atom) → IsSendable t v → IsSealedBy IsAnswer metas e t v a → suited_atom e (record { name = name; ty = t; enc = e; atom = a }) ≡ Ok a
-  sealed_suited name enc.Plain v a s h = rw h (plain_suited name v s.fit)
-  sealed_suited name (enc.Det id) v a s h = let i = h.2 in rw i ((cell_suited name h.0 id v (det_atom h.0 t v) (det_by laws t h.0 v (gives (meta_of metas id) h.0 h.1) s)).0)
-  sealed_suited name (enc.Rnd id) v a s h = (cell_suited name h.0 id v a (rnd_by laws t h.0 v a (gives (meta_of metas id) h.0 h.1) s h.2)).1
+  pub sealed_checked : (name : List ℕ) (e : Enc) (v : Value) (a : Atom) → IsSendable t v → IsSealedBy IsAnswer metas e t v a → checked_atom e (record { name = name; ty = t; enc = e; atom = a }) ≡ Ok a
+  sealed_checked name enc.Plain v a s h = rw h (plain_checked name v s.fit)
+  sealed_checked name (enc.Det id) v a s h = let i = h.2 in rw i ((cell_checked name h.0 id v (det_atom h.0 t v) (det_by laws t h.0 v (gives (meta_of metas id) h.0 h.1) s)).0)
+  sealed_checked name (enc.Rnd id) v a s h = (cell_checked name h.0 id v a (rnd_by laws t h.0 v a (gives (meta_of metas id) h.0 h.1) s h.2)).1
 
 module _ (laws : SealLaws) (keys : KeyMap) (trusted : List (List ℕ)) (metas : List KeyMeta) (t : Ty) where
   pub det_cellular : (ks : Keys) (id : ℕ) (v : Value) → open_trusted keys trusted (meta_of metas id) ≡ Ok ks → IsSendable t v → Cellular ks t v (det_atom ks t v)

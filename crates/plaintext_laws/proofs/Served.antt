@@ -8,7 +8,7 @@ use Rattle.ae_edge.specs.Vaults.{KeyMap}
 use Rattle.catalog.specs.Catalogs.{Catalog}
 use Rattle.transactions.specs.Stores.{ask_of, transact, transaction_at}
 use Rattle.transactions.proofs.Interface.{all_at, all_set}
-use Rattle.statement_analysis.specs.Describing.{Meant, understood}
+use Rattle.statement_analysis.specs.Describing.{Analysis, analyzed}
 use Rattle.server_core.specs.Serve.{State, catalog_of, empty_state}
 use Rattle.conversation.specs.Pending.{Pending, uses_of}
 use Rattle.conversation.specs.Sessions.{described_params, with_session}
@@ -22,7 +22,7 @@ use Rattle.conversation.specs.declared.sessions.Session.TheVariants as session
 use Rattle.driver.specs.declared.outcomes.Outcome.{Outcome}
 use Rattle.column_rotate.specs.Moves.{Move, Sends, Finishes, Fails, move_of}
 use Rattle.column_rotate.specs.Rotating as talks
-use Rattle.column_rotate.specs.Rotating.{fault_as, told_of}
+use Rattle.column_rotate.specs.Rotating.{fault_as, driver_outcome}
 use Rattle.column_rotate.specs.declared.sent.Sent.{Sent}
 use Rattle.script_lang.specs.Limits.{OfBatch, IsWithinLimits, HasParams, HasProperParams, IsProperStep}
 use Rattle.script_lang.specs.declared.steps.Act.{Act}
@@ -33,10 +33,10 @@ use Rattle.script_talk.specs.Steps.{turn, talk}
 use Rattle.plaintext_laws.specs.Alike.{Fits, FitThroughout}
 use Rattle.plaintext_laws.specs.Below.{LawsBelow}
 use Rattle.plaintext_laws.specs.Laws.{ServedIsPlain}
-use Rattle.plaintext_laws.specs.Batches.{Came, came, declarations_of, runs_whole, waits}
+use Rattle.plaintext_laws.specs.Batches.{BatchEnd, batch_end, declarations_of, runs_whole, waits}
 use Rattle.plaintext_laws.specs.Rotations as plain
 use Rattle.plaintext_laws.specs.Reference.{means, nothing_held, held_at, with_held, reference}
-use Rattle.plaintext_laws.proofs.Agreement.{GoesOn, IsMeant, begins_agrees, executing_agrees, printed, prints, running_agrees}
+use Rattle.plaintext_laws.proofs.Agreement.{GoesOn, IsAnalysis, begins_agrees, executing_agrees, printed, prints, running_agrees}
 use Rattle.plaintext_laws.proofs.Between.{
   StandsFor,
   Always,
@@ -45,7 +45,7 @@ use Rattle.plaintext_laws.proofs.Between.{
   Goes,
   seen_fits,
   all_go,
-  hold_place,
+  hold_position,
   all_held,
   empty_stands,
   goes_then,
@@ -56,25 +56,25 @@ use Rattle.plaintext_laws.proofs.Between.{
   set_resting,
 }
 use Rattle.plaintext_laws.proofs.Keyless.{fits_behind, means_no_key}
-use Rattle.plaintext_laws.proofs.Rotating.{Any, IsSentAs, IsTold, MayRun, all_of_it, any_told, rows_of_shown}
+use Rattle.plaintext_laws.proofs.Rotating.{Any, IsSentAs, IsKnown, MayRun, all_of_it, any_known, rows_of_shown}
 use Rattle.plaintext_laws.proofs.Sound.{ComesTo, IsProperHeld, IsSound, Leaves, asked_by, empty_is_sound, execution_comes, half_comes, stays_sound, whole_comes}
 
 -- ---- plain states stay sound
 
-is_told : {W : State → Type 0} {H : Option Pending → Type 0} (c : Came) → ComesTo W H c → IsTold Always Any c.accepted (told_of c.comes)
-is_told c h = record { types = λ is. h.types; rows = λ is. rows_of_shown c.comes h.shown; fine = any_told (told_of c.comes) }
+is_known : {W : State → Type 0} {H : Option Pending → Type 0} (c : BatchEnd) → ComesTo W H c → IsKnown Always Any c.accepted (driver_outcome c.comes)
+is_known c h = record { types = λ is. h.types; rows = λ is. rows_of_shown c.comes h.shown; fine = any_known (driver_outcome c.comes) }
 
 abbrev NoneHeld : Option Pending → Type 0
 NoneHeld held = held ≡ None
 
 -- where each batch of a rotation leaves such a state, the whole does
 module _ (keys : KeyMap) (trusted : List (List ℕ)) (n : ℕ) (old new : List ℕ) (W : State → Type 0)
-    (leaves : (batch : Batch) → MayRun Always batch → (state : State) → W state → (meant : Meant) → understood (catalog_of state n) batch.text (declarations_of batch) ≡ Ok meant
-    → Leaves W (transact state n (ask_of (asked_by batch meant)))) where
+    (leaves : (batch : Batch) → MayRun Always batch → (state : State) → W state → (analysis : Analysis) → analyzed (catalog_of state n) batch.text (declarations_of batch) ≡ Ok analysis
+    → Leaves W (transact state n (ask_of (asked_by batch analysis)))) where
   batch_comes : (batch : Batch) → MayRun Always batch → (state : State) → W state → (held : Option Pending) → NoneHeld held → ComesTo W NoneHeld (runs_whole keys trusted n batch held state)
   batch_comes batch may state h held none = whole_comes keys trusted n W NoneHeld refl state h batch (leaves batch may state h) held none
 
-  abbrev IsEnd : Came → Type 0
+  abbrev IsEnd : BatchEnd → Type 0
   IsEnd c = W c.state × NoneHeld c.held
 
   rotation_comes : (state : State) → W state → IsEnd (plain.beginning keys trusted n old new None state)
@@ -85,26 +85,26 @@ module _ (keys : KeyMap) (trusted : List (List ℕ)) (n : ℕ) (old new : List �
       (λ batch sends is_sent may t w next held state none h.
       let c = runs_whole keys trusted n batch held state in
       let b = batch_comes batch may state h held none in
-      next c.accepted (told_of c.comes) (is_told c b) c.held c.state b.held b.state)
+      next c.accepted (driver_outcome c.comes) (is_known c b) c.held c.state b.held b.state)
       None state refl h
 
 module _ (laws : LawsBelow) (keys : KeyMap) (trusted : List (List ℕ)) (n : ℕ) where
-  leaves_sound : (batch : Batch) → MayRun Always batch → (state : State) → IsSound state → (meant : Meant) → understood (catalog_of state n) batch.text (declarations_of batch) ≡ Ok meant
-      → Leaves IsSound (transact state n (ask_of (asked_by batch meant)))
-  leaves_sound batch may state h meant u = stays_sound laws state n batch meant h (may.proper tt) u
+  leaves_sound : (batch : Batch) → MayRun Always batch → (state : State) → IsSound state → (analysis : Analysis) → analyzed (catalog_of state n) batch.text (declarations_of batch) ≡ Ok analysis
+      → Leaves IsSound (transact state n (ask_of (asked_by batch analysis)))
+  leaves_sound batch may state h analysis u = stays_sound laws state n batch analysis h (may.proper tt) u
 
   -- a turn with proper parameters
   means_sound : (act : Act) (held : Option Pending) (state : State) → OfBatch HasProperParams act → IsSound state → IsProperHeld held
       → let c = means keys trusted n act held state in IsSound c.state × IsProperHeld c.held
   means_sound (acts.Whole batch) held state proper h k =
-      let c = whole_comes keys trusted n IsSound IsProperHeld tt state h batch (λ meant u. stays_sound laws state n batch meant h proper u) held k in
+      let c = whole_comes keys trusted n IsSound IsProperHeld tt state h batch (λ analysis u. stays_sound laws state n batch analysis h proper u) held k in
       (c.state, c.held)
   means_sound (acts.Half batch) held state proper h k =
       let c = half_comes keys trusted n IsSound IsProperHeld tt state h batch (λ p is. subst HasProperParams (sym is) proper) held k in
       (c.state, c.held)
   means_sound acts.Execute None state proper h k = (h, tt)
   means_sound acts.Execute (Some p) state proper h k =
-      let c = execution_comes keys trusted n IsSound IsProperHeld tt state h p.batch (λ meant u. stays_sound laws state n p.batch meant h k u) p refl in
+      let c = execution_comes keys trusted n IsSound IsProperHeld tt state h p.batch (λ analysis u. stays_sound laws state n p.batch analysis h k u) p refl in
       (c.state, c.held)
   means_sound (acts.Rotate old new) None state proper h k =
       let c = rotation_comes keys trusted n old new IsSound leaves_sound state h in
@@ -119,12 +119,12 @@ module _ (laws : LawsBelow) (keys : KeyMap) (trusted : List (List ℕ)) (key_for
     sound : IsSound state
     fits : Fits keys key_for state.shared.world.catalog
 
-  leaves_well : (n : ℕ) (batch : Batch) → MayRun Always batch → (state : State) → IsWell state → (meant : Meant) → understood (catalog_of state n) batch.text (declarations_of batch) ≡ Ok meant
-      → Leaves IsWell (transact state n (ask_of (asked_by batch meant)))
-  leaves_well n batch may state h meant u =
-      let l = leaves_sound laws keys trusted n batch may state h.sound meant u in
-      let keeps = means_no_key (catalog_of state n) batch.text (declarations_of batch) meant may.keyless u in
-      record { state = record { sound = l.state; fits = fits_behind keys key_for state n (asked_by batch meant) h.sound.begun keeps h.fits }; answer = l.answer }
+  leaves_well : (n : ℕ) (batch : Batch) → MayRun Always batch → (state : State) → IsWell state → (analysis : Analysis) → analyzed (catalog_of state n) batch.text (declarations_of batch) ≡ Ok analysis
+      → Leaves IsWell (transact state n (ask_of (asked_by batch analysis)))
+  leaves_well n batch may state h analysis u =
+      let l = leaves_sound laws keys trusted n batch may state h.sound analysis u in
+      let keeps = means_no_key (catalog_of state n) batch.text (declarations_of batch) analysis may.keyless u in
+      record { state = record { sound = l.state; fits = fits_behind keys key_for state n (asked_by batch analysis) h.sound.begun keeps h.fits }; answer = l.answer }
 
   module _ (n : ℕ) (old new : List ℕ) (start : State) (k : Session → Talk) (rest : Option Pending → State → List outcomes.Outcome) (Holding : Option Pending → State → Type 0)
       (go : GoesOn laws keys trusted key_for start n (after_all k) (λ comes columns. rest) (λ comes columns. Holding)) where
@@ -132,39 +132,40 @@ module _ (laws : LawsBelow) (keys : KeyMap) (trusted : List (List ℕ)) (key_for
     ends comes after = Prints comes (k after)
 
     -- what is left comes to what it means, wherever the session goes on from the first state
-    abbrev Agree : Move → (Session → Talk) → (Option Pending → State → Came) → Type 0
+    abbrev Agree : Move → (Session → Talk) → (Option Pending → State → BatchEnd) → Type 0
     Agree m t w = (held : Option Pending) (now beside : State) → StandsFor keys key_for now beside → Goes Always start n now held → NoneHeld held → IsWell beside
-        → (let c = w held beside in Holding c.held c.state) → IsMeant laws keys trusted key_for now [] (t (resting held)) (let c = w held beside in c.comes ∷ rest c.held c.state)
+        → (let c = w held beside in Holding c.held c.state) → IsAnalysis laws keys trusted key_for now [] (t (resting held)) (let c = w held beside in c.comes ∷ rest c.held c.state)
 
-    ends_agree : (comes : outcomes.Outcome) (m : Move) → Agree m (λ after. ends comes after) (λ held state. came comes held state)
+    ends_agree : (comes : outcomes.Outcome) (m : Move) → Agree m (λ after. ends comes after) (λ held state. batch_end comes held state)
     ends_agree comes m held now beside st goes none well h = λ taken left a. printed comes _ _ _ (go comes None held now beside st goes h taken left a)
 
-    -- what is asked of what comes behind a batch
-    record Behind (w : Accepted → Outcome → Option Pending → State → Came) (comes : outcomes.Outcome) (columns : Accepted) (after : Option Pending) (state : State) : Type 0 where
+    -- what is asked of what comes after a batch
+    record Behind (w : Accepted → Outcome → Option Pending → State → BatchEnd) (comes : outcomes.Outcome) (columns : Accepted) (after : Option Pending) (state : State) : Type 0 where
       none : NoneHeld after
       well : IsWell state
-      tells : IsTold Always Any columns (told_of comes)
-      holds : let c = w columns (told_of comes) after state in Holding c.held c.state
+      gives : IsKnown Always Any columns (driver_outcome comes)
+      holds : let c = w columns (driver_outcome comes) after state in Holding c.held c.state
 
-    runs_agree : (batch : Batch) (sends : Sent) → IsSentAs sends batch → MayRun Always batch → (t : Accepted → Outcome → Session → Talk) (w : Accepted → Outcome → Option Pending → State → Came)
-        → ((columns : Accepted) (comes : Outcome) → IsTold Always Any columns comes
+    runs_agree : (batch : Batch) (sends : Sent) → IsSentAs sends batch → MayRun Always batch → (t : Accepted → Outcome → Session → Talk) (w : Accepted → Outcome → Option Pending → State → BatchEnd)
+        → ((columns : Accepted) (comes : Outcome) → IsKnown Always Any columns comes
         → Agree (move_of old new sends columns comes) (λ after. t columns comes after) (λ held state. w columns comes held state))
         → Agree (Sends batch sends) (λ before. talks.runs trusted n old new ends batch before t) (λ held state. plain.runs keys trusted n old new batch held state w)
     runs_agree batch sends is_sent may t w next held now beside st goes none well h =
         let c = runs_whole keys trusted n batch held beside in
         let b = batch_comes keys trusted n old new IsWell (leaves_well n) batch may beside well held none in
-        let behind : Behind w c.comes c.accepted c.held c.state = record { none = b.held; well = b.state; tells = is_told c b; holds = h } in
+        let behind : Behind w c.comes c.accepted c.held c.state = record { none = b.held; well = b.state; gives = is_known c b; holds = h } in
         let fits = seen_fits keys key_for now beside n (subst (λ (c : Catalog). Fits keys key_for c) st.stores.shared.worlds.catalog well.fits) st in
-        running_agrees laws keys trusted key_for now beside n fits st false (λ comes columns after. t columns (told_of comes) after)
-        (λ comes columns after state. let c = w columns (told_of comes) after state in c.comes ∷ rest c.held c.state) (Behind w)
+        running_agrees laws keys trusted key_for now beside n fits st false (λ comes columns after. t columns (driver_outcome comes) after)
+        (λ comes columns after state. let c = w columns (driver_outcome comes) after state in c.comes ∷ rest c.held c.state) (Behind w)
         (λ comes columns after later along stands further q.
-        next columns (told_of comes) q.tells after later along stands (goes_then Always start now later n held after goes further) q.none q.well q.holds)
+        next columns (driver_outcome comes) q.gives after later along stands (goes_then Always start now later n held after goes further) q.none q.well q.holds)
         batch may.params (may.proper tt) held (subst (λ held. HoldsIn Always now.shared (transaction_at now n) held) (sym none) tt) behind
 
     -- over the server the rotation comes to what it means over plain values
     rotation_agrees : (beside : State) → StandsFor keys key_for start beside → Goes Always start n start None
         → IsWell beside → (let c = plain.beginning keys trusted n old new None beside in Holding c.held c.state)
-        → IsMeant laws keys trusted key_for start [] (talks.beginning trusted n old new ends session.Idle) (let c = plain.beginning keys trusted n old new None beside in c.comes ∷ rest c.held c.state)
+        → IsAnalysis laws keys trusted key_for start [] (talks.beginning trusted n old new ends session.Idle)
+        (let c = plain.beginning keys trusted n old new None beside in c.comes ∷ rest c.held c.state)
     rotation_agrees beside st goes well h =
         all_of_it trusted n old new ends keys Always Any tt tt Agree (λ count. ends_agree (outcome.Rotated count) (Finishes count)) (λ f any. ends_agree (fault_as f) (Fails f)) runs_agree
         None start beside st goes refl well h
@@ -176,7 +177,7 @@ module _ (laws : LawsBelow) (keys : KeyMap) (trusted : List (List ℕ)) (key_for
       (Holding : Option Pending → State → Type 0) (go : GoesOn laws keys trusted key_for state number (after_all k) (λ comes columns. rest) (λ comes columns. Holding))
       → OfBatch HasParams act → OfBatch HasProperParams act → (before : Option Pending) → HoldsIn Always state.shared (transaction_at state number) before
       → let c = means keys trusted number act before plainly in Holding c.held c.state
-      → IsMeant laws keys trusted key_for state [] (turn trusted number act (resting before) k) (c.comes ∷ rest c.held c.state)
+      → IsAnalysis laws keys trusted key_for state [] (turn trusted number act (resting before) k) (c.comes ∷ rest c.held c.state)
   turn_agrees number (acts.Whole batch) state plainly well fits st k rest Holding go within proper before h =
       running_agrees laws keys trusted key_for state plainly number fits st true (after_all k) (λ comes columns. rest) (λ comes columns. Holding) go batch within proper before h
   turn_agrees number (acts.Half batch) state plainly well fits st k rest Holding go within proper before h =
@@ -208,7 +209,7 @@ none_held (suc n) = All-cons IsProperHeld None (replicate n None) tt (none_held 
 module _ (laws : LawsBelow) (keys : KeyMap) (key_for : ℕ → List ℕ) where
   talk_agrees : (steps : List Step) → All IsWithinLimits steps → All IsProperStep steps → (trusted : List (List ℕ)) (holds : List (Option Pending)) (state plainly : State)
       → StandsFor keys key_for state plainly → AllHold Always state holds → IsSound plainly → All IsProperHeld holds → FitThroughout keys key_for steps trusted holds plainly
-      → IsMeant laws keys trusted key_for state [] (talk steps trusted (all_resting holds)) (reference keys steps trusted holds plainly)
+      → IsAnalysis laws keys trusted key_for state [] (talk steps trusted (all_resting holds)) (reference keys steps trusted holds plainly)
   talk_agrees [] within proper trusted holds state plainly st h sound proper_held f = λ taken left a. refl
   talk_agrees (steps_of.Trust path ∷ steps) within proper trusted holds state plainly st h sound proper_held f =
       talk_agrees steps (All-tail IsWithinLimits (steps_of.Trust path) steps within)
@@ -221,15 +222,15 @@ module _ (laws : LawsBelow) (keys : KeyMap) (key_for : ℕ → List ℕ) where
       let proper_act : OfBatch HasProperParams act = (All-head IsProperStep step steps proper).0 in
       let after_sound = means_sound laws keys trusted number act (held_at holds number) plainly proper_act sound (held_proper holds number proper_held) in
       let fits = seen_fits keys key_for state plainly number (subst (Fits keys key_for) st.stores.shared.worlds.catalog f.0) st in
-      subst (λ before. IsMeant laws keys trusted key_for state [] (turn trusted number act before onward)
+      subst (λ before. IsAnalysis laws keys trusted key_for state [] (turn trusted number act before onward)
       (let c = means keys trusted number act (held_at holds number) plainly in c.comes ∷ rest c.held c.state)) (sym (at_resting holds (number - 1)))
       (turn_agrees laws keys trusted key_for number act state plainly (record { sound = sound; fits = f.0 })
       fits st onward rest (λ after now. IsSound now × IsProperHeld after × FitThroughout keys key_for steps trusted (with_held holds number after) now)
       (λ comes columns after now beside stands goes further. subst
-      (λ sessions. IsMeant laws keys trusted key_for now [] (talk steps trusted sessions) (rest after beside)) (sym (set_resting holds (number - 1) after))
+      (λ sessions. IsAnalysis laws keys trusted key_for now [] (talk steps trusted sessions) (rest after beside)) (sym (set_resting holds (number - 1) after))
       (talk_agrees steps (All-tail IsWithinLimits step steps within) (All-tail IsProperStep step steps proper) trusted (with_held holds number after) now beside stands
       (all_go Always state now number holds after goes h) further.0 (set_proper holds number after proper_held further.1) further.2))
-      (All-head IsWithinLimits step steps within).1 proper_act (held_at holds number) (hold_place Always state number holds h) (after_sound.0, after_sound.1, f.1))
+      (All-head IsWithinLimits step steps within).1 proper_act (held_at holds number) (hold_position Always state number holds h) (after_sound.0, after_sound.1, f.1))
 
 -- ---- from the beginning
 

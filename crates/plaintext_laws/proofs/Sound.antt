@@ -16,7 +16,7 @@ use Rattle.ae_base.specs.declared.faults.SqlFault.TheVariants.{Moved}
 use Rattle.ae_base.specs.declared.values.Value.{Value}
 use Rattle.ae_base.specs.declared.values.Value.TheVariants as value
 use Rattle.ae_edge.specs.Vaults.{KeyMap}
-use Rattle.sql_tree.specs.Sorts.{control_in}
+use Rattle.sql_tree.specs.Kinds.{control_in}
 use Rattle.sql_tree.specs.declared.statements.TransactionControl.{TransactionControl}
 use Rattle.sql_tree.specs.declared.statements.TransactionControl.TheVariants as control
 use Rattle.catalog.specs.Catalogs.{Catalog}
@@ -26,7 +26,7 @@ use Rattle.transactions.specs.Counted.{Counted, Execution, execution}
 use Rattle.transactions.specs.Stores.{Transacted, Transaction, ask_of, asked, seen_by, transact, transaction_at}
 use Rattle.transactions.proofs.Interface.{AreBegun, all_at, none_begun, transact_begun}
 use Rattle.wire_messages.specs.declared.columns.SentColumn.{SentColumn}
-use Rattle.statement_analysis.specs.Describing.{Meant, understood, description}
+use Rattle.statement_analysis.specs.Describing.{Analysis, analyzed, description}
 use Rattle.server_core.specs.Serve.{State, catalog_of, empty_state, sent_column}
 use Rattle.proper_value_laws.specs.Proper.{AreProperRows, HasProperTables, IsProperAnswer, IsProperAsk, IsProperAtom, IsProperExecution, IsProperStore, IsProperTable, IsProperWorld}
 use Rattle.conversation.specs.Batches.{why_unfit}
@@ -40,7 +40,7 @@ use Rattle.conversation.specs.declared.outcomes.Outcome.TheVariants as outcome
 use Rattle.script_lang.specs.Limits.{HasProperParams, IsProperParam}
 use Rattle.plaintext_laws.specs.Below.{LawsBelow}
 use Rattle.plaintext_laws.specs.Batches as plain
-use Rattle.plaintext_laws.specs.Batches.{Came, came, came_by, declarations_of, why_unopened}
+use Rattle.plaintext_laws.specs.Batches.{BatchEnd, batch_end, batch_end_by, declarations_of, why_unopened}
 
 -- ---- what was told of a batch
 
@@ -108,32 +108,32 @@ pub record Leaves (W : State → Type 0) (done : Transacted) : Type 0 where
   pub answer : IsProperAnswer done.answer
 
 -- what a text means is asked with proper values
-pub stays_proper : LawsBelow → (state : State) (n : ℕ) (text : List ℕ) (declarations : List ParamDecl) (meant : Meant) (atoms : List Atom)
+pub stays_proper : LawsBelow → (state : State) (n : ℕ) (text : List ℕ) (declarations : List ParamDecl) (analysis : Analysis) (atoms : List Atom)
     → IsProperStore state → All (λ (d : ParamDecl). IsType d.ty) declarations
-    → All IsProperAtom atoms → understood (catalog_of state n) text declarations ≡ Ok meant → Leaves IsProperStore (transact state n (ask_of (execution meant.bound meant.encs atoms)))
-stays_proper laws state n text declarations meant atoms h typed values u =
-    let e = execution meant.bound meant.encs atoms in
-    let bound = laws.texts.bound (catalog_of state n) text declarations meant (seen_tables state n h) typed u in
+    → All IsProperAtom atoms → analyzed (catalog_of state n) text declarations ≡ Ok analysis → Leaves IsProperStore (transact state n (ask_of (execution analysis.bound analysis.encs atoms)))
+stays_proper laws state n text declarations analysis atoms h typed values u =
+    let e = execution analysis.bound analysis.encs atoms in
+    let bound = laws.texts.bound (catalog_of state n) text declarations analysis (seen_tables state n h) typed u in
     let s = laws.proper state n (ask_of e) h (asked_proper (control_in e.bound.statement) e (record { bound = bound; params = values })) in
     record { state = s.after; answer = s.answer }
 
 -- the execution of a batch over its plain values
-abbrev pub asked_by : Batch → Meant → Execution
-asked_by batch meant = execution meant.bound meant.encs (map (λ p. plain_atom p.value) batch.params)
+abbrev pub asked_by : Batch → Analysis → Execution
+asked_by batch analysis = execution analysis.bound analysis.encs (map (λ p. plain_atom p.value) batch.params)
 
-pub stays_sound : LawsBelow → (state : State) (n : ℕ) (batch : Batch) (meant : Meant) → IsSound state
-    → HasProperParams batch → understood (catalog_of state n) batch.text (declarations_of batch) ≡ Ok meant
-    → Leaves IsSound (transact state n (ask_of (asked_by batch meant)))
-stays_sound laws state n batch meant h proper u =
-    let e = asked_by batch meant in
-    let s = stays_proper laws state n batch.text (declarations_of batch) meant (map (λ p. plain_atom p.value) batch.params)
+pub stays_sound : LawsBelow → (state : State) (n : ℕ) (batch : Batch) (analysis : Analysis) → IsSound state
+    → HasProperParams batch → analyzed (catalog_of state n) batch.text (declarations_of batch) ≡ Ok analysis
+    → Leaves IsSound (transact state n (ask_of (asked_by batch analysis)))
+stays_sound laws state n batch analysis h proper u =
+    let e = asked_by batch analysis in
+    let s = stays_proper laws state n batch.text (declarations_of batch) analysis (map (λ p. plain_atom p.value) batch.params)
     h.proper (params_typed batch.params proper) (params_plain batch.params proper) u in
     record { state = record { proper = s.state; begun = transact_begun state n (ask_of e) h.begun }; answer = s.answer }
 
 -- ---- a batch
 
--- what holds of the state and of what is held behind it; and what is told of it is proper
-pub record ComesTo (W : State → Type 0) (H : Option Pending → Type 0) (c : Came) : Type 0 where
+-- what holds of the state and of what is held after it; and what is told of it is proper
+pub record ComesTo (W : State → Type 0) (H : Option Pending → Type 0) (c : BatchEnd) : Type 0 where
   pub state : W c.state
   pub held : H c.held
   pub types : AreTyped c.accepted
@@ -158,10 +158,10 @@ shown_proper listing None h = h
 shown_proper listing (Some f) h = tt
 
 module _ (keys : KeyMap) (trusted : List (List ℕ)) (n : ℕ) (W : State → Type 0) (H : Option Pending → Type 0) (none : H None) where
-  abbrev Comes : Came → Type 0
+  abbrev Comes : BatchEnd → Type 0
   Comes c = ComesTo W H c
 
-  answer_comes : (catalog : Catalog) (after : State) (r : Result Answer SqlFault) → W after → IsProperAnswer r → Comes (came_by keys trusted catalog (record { answer = r; after = after }))
+  answer_comes : (catalog : Catalog) (after : State) (r : Result Answer SqlFault) → W after → IsProperAnswer r → Comes (batch_end_by keys trusted catalog (record { answer = r; after = after }))
   answer_comes catalog after (Ok (Rows columns rows)) h k =
       record { state = h; held = none; types = sent_types columns k.types; shown = shown_proper (plain.titled columns rows) _ (rows_proper rows k.values) }
   answer_comes catalog after (Ok (Changed count)) h k = record { state = h; held = none; types = tt; shown = tt }
@@ -169,19 +169,19 @@ module _ (keys : KeyMap) (trusted : List (List ℕ)) (n : ℕ) (W : State → Ty
   answer_comes catalog after (Err f) h k = record { state = h; held = none; types = tt; shown = tt }
 
   module _ (state : State) (h : W state) where
-    refused_comes : (f : SqlFault) → Comes (came (outcome.Refused f) None state)
+    refused_comes : (f : SqlFault) → Comes (batch_end (outcome.Refused f) None state)
     refused_comes f = record { state = h; held = none; types = tt; shown = tt }
 
-    failed_comes : (f : DriverFault) (held : Option Pending) → H held → Comes (came (outcome.Failed f) held state)
+    failed_comes : (f : DriverFault) (held : Option Pending) → H held → Comes (batch_end (outcome.Failed f) held state)
     failed_comes f held k = record { state = h; held = k; types = tt; shown = tt }
 
     -- where its statement leaves such a state
     module _ (batch : Batch)
-        (leaves : (meant : Meant) → understood (catalog_of state n) batch.text (declarations_of batch) ≡ Ok meant → Leaves W (transact state n (ask_of (asked_by batch meant)))) where
-      stepped_comes : (r : Result Meant SqlFault) → understood (catalog_of state n) batch.text (declarations_of batch) ≡ r → Comes (plain.stepped keys trusted state n batch r)
-      stepped_comes (Ok meant) e =
-          let l = leaves meant e in
-          let done = transact state n (ask_of (asked_by batch meant)) in
+        (leaves : (analysis : Analysis) → analyzed (catalog_of state n) batch.text (declarations_of batch) ≡ Ok analysis → Leaves W (transact state n (ask_of (asked_by batch analysis)))) where
+      stepped_comes : (r : Result Analysis SqlFault) → analyzed (catalog_of state n) batch.text (declarations_of batch) ≡ r → Comes (plain.stepped keys trusted state n batch r)
+      stepped_comes (Ok analysis) e =
+          let l = leaves analysis e in
+          let done = transact state n (ask_of (asked_by batch analysis)) in
           answer_comes (catalog_of state n) done.after done.answer l.state l.answer
       stepped_comes (Err f) e = refused_comes f
 
@@ -189,36 +189,37 @@ module _ (keys : KeyMap) (trusted : List (List ℕ)) (n : ℕ) (W : State → Ty
       executed_comes p is (Some f) = failed_comes f None none
       executed_comes p is None = by (p.version == (catalog_of state n).version)
         where
-          by : (b : Bool) → Comes (if b then plain.stepped keys trusted state n p.batch (understood (catalog_of state n) p.batch.text (declarations_of p.batch))
-              else came (outcome.Refused (Moved (record { seen = p.version; now = (catalog_of state n).version }))) None state)
-          by true = rw is (stepped_comes (understood (catalog_of state n) batch.text (declarations_of batch)) refl)
+          by : (b : Bool) → Comes (if b then plain.stepped keys trusted state n p.batch (analyzed (catalog_of state n) p.batch.text (declarations_of p.batch))
+              else batch_end (outcome.Refused (Moved (record { seen = p.version; now = (catalog_of state n).version }))) None state)
+          by true = rw is (stepped_comes (analyzed (catalog_of state n) batch.text (declarations_of batch)) refl)
           by false = refused_comes (Moved (record { seen = p.version; now = (catalog_of state n).version }))
 
       pub execution_comes : (p : Pending) → p.batch ≡ batch → Comes (plain.execution_of keys trusted state n p)
       execution_comes p is = executed_comes p is (why_unopened keys trusted p.keys (map (λ u. u.enc) (uses_of p)))
 
     -- a batch is described, whatever comes of it then
-    module _ (batch : Batch) (ready : Pending → Came) (go : (p : Pending) → p.batch ≡ batch → Comes (ready p)) where
-      unless_comes : (o : Option (List ℕ)) (c : Came) → Comes c → Comes (plain.unless_open state o c)
+    module _ (batch : Batch) (ready : Pending → BatchEnd) (go : (p : Pending) → p.batch ≡ batch → Comes (ready p)) where
+      unless_comes : (o : Option (List ℕ)) (c : BatchEnd) → Comes c → Comes (plain.unless_open state o c)
       unless_comes (Some name) c k = failed_comes _ None none
       unless_comes None c k = k
 
-      described_comes : (r : Result Meant SqlFault)
-          → Comes (plain.described state batch (plain.readied state ready) (r >>= λ meant. Ok (description (catalog_of state n) (declarations_of batch) meant)))
-      described_comes (Ok meant) =
-          let p = plain.pending batch (description (catalog_of state n) (declarations_of batch) meant) in
+      described_comes : (r : Result Analysis SqlFault)
+          → Comes (plain.described state batch (plain.readied state ready) (r >>= λ analysis. Ok (description (catalog_of state n) (declarations_of batch) analysis)))
+      described_comes (Ok analysis) =
+          let p = plain.pending batch (description (catalog_of state n) (declarations_of batch) analysis) in
           unless_comes (first_open batch.forced batch.params p.encs) (ready p) (go p refl)
       described_comes (Err f) = refused_comes f
 
       begun_comes : (o : Option DriverFault) → Comes (plain.begun state n batch (plain.readied state ready) o)
       begun_comes (Some f) = failed_comes f None none
-      begun_comes None = described_comes (understood (catalog_of state n) batch.text (declarations_of batch))
+      begun_comes None = described_comes (analyzed (catalog_of state n) batch.text (declarations_of batch))
 
       pub begins_comes : (held : Option Pending) → H held → Comes (plain.begins state n batch (plain.readied state ready) held)
       begins_comes None k = begun_comes (why_unfit batch)
       begins_comes (Some p) k = failed_comes _ (Some p) k
 
-    pub whole_comes : (batch : Batch) → ((meant : Meant) → understood (catalog_of state n) batch.text (declarations_of batch) ≡ Ok meant → Leaves W (transact state n (ask_of (asked_by batch meant))))
+    pub whole_comes : (batch : Batch) → ((analysis : Analysis) → analyzed (catalog_of state n) batch.text (declarations_of batch) ≡ Ok analysis
+        → Leaves W (transact state n (ask_of (asked_by batch analysis))))
         → (held : Option Pending) → H held → Comes (plain.runs_whole keys trusted n batch held state)
     whole_comes batch leaves held k = begins_comes batch (plain.execution_of keys trusted state n) (λ p is. execution_comes batch leaves p is) held k
 

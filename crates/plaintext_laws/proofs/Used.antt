@@ -11,7 +11,7 @@ use Rattle.enc_types.specs.UsedAlone.{used_among, is_used}
 use Rattle.expression_binding.specs.Declarations.{type_of}
 use Rattle.engine.specs.WellTyped.{AreValuesOf}
 use Rattle.statement_analysis.specs.Describing.{used_from}
-use Rattle.statement_analysis.specs.Params.{declaration_of, suited}
+use Rattle.statement_analysis.specs.Params.{declaration_of, checked_params}
 use Rattle.server_core.specs.States.{is_short}
 use Rattle.conversation.specs.Pending.{Use, uses_in}
 use Rattle.conversation.specs.declared.faults.DriverFault.{DriverFault}
@@ -28,10 +28,10 @@ use Rattle.wire_messages.specs.declared.params.UsedParam.{UsedParam}
 use Rattle.plaintext_laws.proofs.Between.{IsSendableParam}
 use Rattle.plaintext_laws.proofs.Pairs.{Standing}
 use Rattle.plaintext_laws.specs.Below.{SealLaws}
-use Rattle.plaintext_laws.proofs.Sealed.{GivesKeys, sealed_suited, sealed_typed, sealed_stands}
+use Rattle.plaintext_laws.proofs.Sealed.{GivesKeys, sealed_checked, sealed_typed, sealed_stands}
 use Rattle.plaintext_laws.proofs.Sending.{Each, IsFit}
 use Rattle.plaintext_laws.proofs.Walk.{AreSealed, AreSealedBy, none_sealed, one_sealed, encs_in}
-use Rattle.plaintext_laws.proofs.Told.{OpenAs}
+use Rattle.plaintext_laws.proofs.Known.{OpenAs}
 
 -- ---- the parameters that are used
 
@@ -70,12 +70,12 @@ module _ (IsAnswer : KeyMeta → Result Keys DriverFault → Type 0) (metas : Li
   sent_long _ _ none_sealed = refl
   sent_long _ _ (one_sealed u a us sent s more) = ap suc (sent_long us sent more)
 
-  pub sent_suited : SealLaws → GivesKeys IsAnswer → (us : List Use) (sent : List SentParam) → Each (λ (u : Use). IsSendableParam u.param) us → AreSealedBy IsAnswer metas us sent
-      → suited (encs_in us) sent ≡ Ok (atoms_in sent)
-  sent_suited laws gives _ _ f none_sealed = refl
-  sent_suited laws gives _ _ f (one_sealed u a us sent s more) =
-      let one = sealed_suited laws IsAnswer gives metas u.param.declaration.ty u.param.declaration.name u.enc u.param.value a f.0 s in
-      let rest = sent_suited laws gives us sent f.1 more in
+  pub sent_checked : SealLaws → GivesKeys IsAnswer → (us : List Use) (sent : List SentParam) → Each (λ (u : Use). IsSendableParam u.param) us → AreSealedBy IsAnswer metas us sent
+      → checked_params (encs_in us) sent ≡ Ok (atoms_in sent)
+  sent_checked laws gives _ _ f none_sealed = refl
+  sent_checked laws gives _ _ f (one_sealed u a us sent s more) =
+      let one = sealed_checked laws IsAnswer gives metas u.param.declaration.ty u.param.declaration.name u.enc u.param.value a f.0 s in
+      let rest = sent_checked laws gives us sent f.1 more in
       rw (one, rest) refl
 
 -- where they are a map's
@@ -87,9 +87,9 @@ module _ (laws : SealLaws) (keys : KeyMap) (trusted : List (List ℕ)) (metas : 
 
   pub sent_stands : (key_for : ℕ → List ℕ) → OpenAs keys key_for metas → (us : List Use) (sent : List SentParam) → Each (λ (u : Use). IsSendableParam u.param) us → AreSealed keys trusted metas us sent
       → RowsCorrespond (Standing key_for) (param_classes (tys_in us) (encs_in us)) (atoms_in sent) (plain_in us)
-  sent_stands key_for told _ _ f none_sealed = tt
-  sent_stands key_for told _ _ f (one_sealed u a us sent s more) =
-      (sealed_stands laws keys trusted metas u.param.declaration.ty key_for u.enc u.param.value a told f.0 s, sent_stands key_for told us sent f.1 more)
+  sent_stands key_for known _ _ f none_sealed = tt
+  sent_stands key_for known _ _ f (one_sealed u a us sent s more) =
+      (sealed_stands laws keys trusted metas u.param.declaration.ty key_for u.enc u.param.value a known f.0 s, sent_stands key_for known us sent f.1 more)
 
 -- ---- what is described of the parameters that are used
 
@@ -98,14 +98,14 @@ used_encs_one : (name : List ℕ) (e : Enc) (rest : List UsedParam) (es : List E
 used_encs_one name e rest es true h = ap (λ xs. e ∷ xs) h
 used_encs_one name e rest es false h = h
 
-pub used_encs : (b : Bound) (place : ℕ) (ds : List ParamDecl) (es : List Enc) → length es ≡ length ds → map (λ (p : UsedParam). p.enc) (used_from place b ds es) ≡ used_among (is_used b) place es
-used_encs b place [] [] l = refl
-used_encs b place [] (e ∷ es) l = absurd (omega (arith, l))
-used_encs b place (d ∷ ds) [] l = absurd (omega (arith, l))
-used_encs b place (d ∷ ds) (e ∷ es) l =
+pub used_encs : (b : Bound) (ordinal : ℕ) (ds : List ParamDecl) (es : List Enc) → length es ≡ length ds → map (λ (p : UsedParam). p.enc) (used_from ordinal b ds es) ≡ used_among (is_used b) ordinal es
+used_encs b ordinal [] [] l = refl
+used_encs b ordinal [] (e ∷ es) l = absurd (omega (arith, l))
+used_encs b ordinal (d ∷ ds) [] l = absurd (omega (arith, l))
+used_encs b ordinal (d ∷ ds) (e ∷ es) l =
     let m : length es ≡ length ds = omega (arith, l) in
-    used_encs_one d.name e (used_from (place + 1) b ds es) (used_among (is_used b) (suc place) es) (uses place b)
-    (ap (λ n. map (λ (p : UsedParam). p.enc) (used_from n b ds es)) (add-one place) ∙ used_encs b (suc place) ds es m)
+    used_encs_one d.name e (used_from (ordinal + 1) b ds es) (used_among (is_used b) (suc ordinal) es) (uses ordinal b)
+    (ap (λ n. map (λ (p : UsedParam). p.enc) (used_from n b ds es)) (add-one ordinal) ∙ used_encs b (suc ordinal) ds es m)
 
 pub types_declared : (ps : List Param) → map (λ (q : Param). q.declaration.ty) ps ≡ map type_of (map (λ (q : Param). q.declaration) ps)
 types_declared [] = refl

@@ -18,7 +18,7 @@ use Rattle.engine.specs.declared.answers.ResultColumn.{ResultColumn}
 use Rattle.transactions.specs.Counted.{execution}
 use Rattle.transactions.specs.Stores.{Transacted, ask_of, transact}
 use Rattle.wire_messages.specs.Messages.{Description}
-use Rattle.statement_analysis.specs.Describing.{Meant, understood, describe, keys_of}
+use Rattle.statement_analysis.specs.Describing.{Analysis, analyzed, describe, keys_of}
 use Rattle.server_core.specs.Serve.{State, catalog_of, sent_column}
 use Rattle.conversation.specs.Turns.{Accepted}
 use Rattle.conversation.specs.Batches.{why_unfit}
@@ -32,7 +32,7 @@ use Rattle.conversation.specs.declared.outcomes.Outcome.{Outcome}
 use Rattle.conversation.specs.declared.outcomes.Outcome.TheVariants as outcome
 
 -- the result of a batch, the columns of its answer's rows, those that its session accepted, what its session holds after it, nothing or a described batch, and the plain state
-pub record Came : Type 0 where
+pub record BatchEnd : Type 0 where
   pub comes : Outcome
   pub columns : List ResultColumn
   pub accepted : Accepted
@@ -40,8 +40,8 @@ pub record Came : Type 0 where
   pub state : State
 
 -- without rows
-abbrev pub came : Outcome → Option Pending → State → Came
-came comes held state = record { comes = comes; columns = []; accepted = None; held = held; state = state }
+abbrev pub batch_end : Outcome → Option Pending → State → BatchEnd
+batch_end comes held state = record { comes = comes; columns = []; accepted = None; held = held; state = state }
 
 -- ---- keys
 
@@ -94,8 +94,8 @@ accepted_of (Ok (engine.Changed count)) = None
 accepted_of (Ok engine.Defined) = None
 accepted_of (Err f) = None
 
-abbrev pub came_by : KeyMap → List (List ℕ) → Catalog → Transacted → Came
-came_by keys trusted catalog done =
+abbrev pub batch_end_by : KeyMap → List (List ℕ) → Catalog → Transacted → BatchEnd
+batch_end_by keys trusted catalog done =
     record { comes = answered keys trusted catalog done.answer; columns = columns_of done.answer; accepted = accepted_of done.answer; held = None; state = done.after }
 
 -- ---- a described batch is executed
@@ -104,20 +104,20 @@ abbrev pub declarations_of : Batch → List ParamDecl
 declarations_of batch = map (λ p. p.declaration) batch.params
 
 -- the statement is bound over all declarations, and takes all values as they are
-abbrev pub stepped : KeyMap → List (List ℕ) → State → ℕ → Batch → Result Meant SqlFault → Came
-stepped keys trusted state number batch (Ok meant) =
-    came_by keys trusted (catalog_of state number) (transact state number (ask_of (execution meant.bound meant.encs (map (λ p. plain_atom p.value) batch.params))))
-stepped keys trusted state number batch (Err f) = came (outcome.Refused f) None state
+abbrev pub stepped : KeyMap → List (List ℕ) → State → ℕ → Batch → Result Analysis SqlFault → BatchEnd
+stepped keys trusted state number batch (Ok analysis) =
+    batch_end_by keys trusted (catalog_of state number) (transact state number (ask_of (execution analysis.bound analysis.encs (map (λ p. plain_atom p.value) batch.params))))
+stepped keys trusted state number batch (Err f) = batch_end (outcome.Refused f) None state
 
 -- a key that isn't opened is the driver's fault; Moved where the catalog isn't that of the description
-abbrev pub executed_with : KeyMap → List (List ℕ) → State → ℕ → Pending → Option DriverFault → Came
-executed_with keys trusted state number p (Some f) = came (outcome.Failed f) None state
+abbrev pub executed_with : KeyMap → List (List ℕ) → State → ℕ → Pending → Option DriverFault → BatchEnd
+executed_with keys trusted state number p (Some f) = batch_end (outcome.Failed f) None state
 executed_with keys trusted state number p None =
     if p.version == (catalog_of state number).version
-    then stepped keys trusted state number p.batch (understood (catalog_of state number) p.batch.text (declarations_of p.batch))
-    else came (outcome.Refused (Moved (record { seen = p.version; now = (catalog_of state number).version }))) None state
+    then stepped keys trusted state number p.batch (analyzed (catalog_of state number) p.batch.text (declarations_of p.batch))
+    else batch_end (outcome.Refused (Moved (record { seen = p.version; now = (catalog_of state number).version }))) None state
 
-abbrev pub execution_of : KeyMap → List (List ℕ) → State → ℕ → Pending → Came
+abbrev pub execution_of : KeyMap → List (List ℕ) → State → ℕ → Pending → BatchEnd
 execution_of keys trusted state number p = executed_with keys trusted state number p (why_unopened keys trusted p.keys (map (λ u. u.enc) (uses_of p)))
 
 -- ---- a batch is described
@@ -130,42 +130,42 @@ pending batch description = record {
   encs = unwrap_or (encs_of batch.params description.params) [];
 }
 
-abbrev pub described : State → Batch → (Pending → Came) → Result Description SqlFault → Came
+abbrev pub described : State → Batch → (Pending → BatchEnd) → Result Description SqlFault → BatchEnd
 described state batch ready (Ok description) = ready (pending batch description)
-described state batch ready (Err f) = came (outcome.Refused f) None state
+described state batch ready (Err f) = batch_end (outcome.Refused f) None state
 
 -- a value that doesn't fit and a text that is too long don't leave the driver
-abbrev pub begun : State → ℕ → Batch → (Pending → Came) → Option DriverFault → Came
-begun state number batch ready (Some f) = came (outcome.Failed f) None state
+abbrev pub begun : State → ℕ → Batch → (Pending → BatchEnd) → Option DriverFault → BatchEnd
+begun state number batch ready (Some f) = batch_end (outcome.Failed f) None state
 begun state number batch ready None = described state batch ready (describe (catalog_of state number) batch.text (declarations_of batch))
 
 -- ---- a session's batch
 
 -- a session that has a batch begins no other
-abbrev pub begins : State → ℕ → Batch → (Pending → Came) → Option Pending → Came
+abbrev pub begins : State → ℕ → Batch → (Pending → BatchEnd) → Option Pending → BatchEnd
 begins state number batch ready None = begun state number batch ready (why_unfit batch)
-begins state number batch ready (Some p) = came (outcome.Failed StillPending) (Some p) state
+begins state number batch ready (Some p) = batch_end (outcome.Failed StillPending) (Some p) state
 
 -- one without a described batch executes nothing
-abbrev pub executes : KeyMap → List (List ℕ) → State → ℕ → Option Pending → Came
+abbrev pub executes : KeyMap → List (List ℕ) → State → ℕ → Option Pending → BatchEnd
 executes keys trusted state number (Some p) = execution_of keys trusted state number p
-executes keys trusted state number None = came (outcome.Failed NothingPending) None state
+executes keys trusted state number None = batch_end (outcome.Failed NothingPending) None state
 
 -- a described batch goes on so, unless a forced parameter would not be sent as a cell
-abbrev pub unless_open : State → Option (List ℕ) → Came → Came
-unless_open state (Some name) c = came (outcome.Failed (NotEncrypted name)) None state
+abbrev pub unless_open : State → Option (List ℕ) → BatchEnd → BatchEnd
+unless_open state (Some name) c = batch_end (outcome.Failed (NotEncrypted name)) None state
 unless_open state None c = c
 
-abbrev pub readied : State → (Pending → Came) → Pending → Came
+abbrev pub readied : State → (Pending → BatchEnd) → Pending → BatchEnd
 readied state ready p = unless_open state (first_open p.batch.forced p.batch.params p.encs) (ready p)
 
 -- half a batch waits as it was described
-abbrev pub waits : State → Pending → Came
-waits state p = came (outcome.Described (described_params p.keys (uses_of p))) (Some p) state
+abbrev pub waits : State → Pending → BatchEnd
+waits state p = batch_end (outcome.Described (described_params p.keys (uses_of p))) (Some p) state
 
 -- a whole batch is described and executed, half a one waits
-abbrev pub runs_whole : KeyMap → List (List ℕ) → ℕ → Batch → Option Pending → State → Came
+abbrev pub runs_whole : KeyMap → List (List ℕ) → ℕ → Batch → Option Pending → State → BatchEnd
 runs_whole keys trusted number batch before state = begins state number batch (readied state (execution_of keys trusted state number)) before
 
-abbrev pub runs_half : ℕ → Batch → Option Pending → State → Came
+abbrev pub runs_half : ℕ → Batch → Option Pending → State → BatchEnd
 runs_half number batch before state = begins state number batch (readied state (waits state)) before

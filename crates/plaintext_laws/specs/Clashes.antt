@@ -16,11 +16,11 @@ use Rattle.conversation.specs.declared.outcomes.Outcome.TheVariants.{Refused}
 use Rattle.script_lang.specs.declared.steps.Act.{Act}
 use Rattle.script_lang.specs.declared.steps.Act.TheVariants.{Whole, Half, Execute, Rotate}
 use Rattle.column_rotate.specs.Moves.{Sends, move_of}
-use Rattle.column_rotate.specs.Rotating.{told_of}
+use Rattle.column_rotate.specs.Rotating.{driver_outcome}
 use Rattle.column_rotate.specs.Texts.{begins}
 use Rattle.column_rotate.specs.declared.sent.Sent.{Sent}
 use Rattle.column_rotate.specs.declared.sent.Sent.TheVariants.{Begin}
-use Rattle.plaintext_laws.specs.Batches.{Came, declarations_of, runs_whole, why_unopened}
+use Rattle.plaintext_laws.specs.Batches.{BatchEnd, declarations_of, runs_whole, why_unopened}
 
 -- the batch that a turn describes or executes: its own, or the one that its session holds; a rotation has none
 abbrev pub batch_of : Act → Option Pending → Option Batch
@@ -33,14 +33,14 @@ batch_of (Rotate old new) held = None
 -- ---- the batches that a turn runs
 
 -- what a whole batch comes to in a session that holds none
-abbrev pub ran : KeyMap → List (List ℕ) → ℕ → Batch → State → Came
+abbrev pub ran : KeyMap → List (List ℕ) → ℕ → Batch → State → BatchEnd
 ran keys trusted number batch state = runs_whole keys trusted number batch None state
 
--- a batch of a rotation, and the state in which it is run: the first, and each that is sent behind what came of one
+-- a batch of a rotation, and the state in which it is run: the first, and each that is sent after what came of one
 pub data IsSentIn (keys : KeyMap) (trusted : List (List ℕ)) (number : ℕ) (old new : List ℕ) (start : State) : Sent → Batch → State → Type 0 where
   first_of_all : IsSentIn keys trusted number old new start Begin begins start
   behind_one : (sent later : Sent) (batch next : Batch) (state : State) → IsSentIn keys trusted number old new start sent batch state
-      → move_of old new sent (ran keys trusted number batch state).accepted (told_of (ran keys trusted number batch state).comes) ≡ Sends next later
+      → move_of old new sent (ran keys trusted number batch state).accepted (driver_outcome (ran keys trusted number batch state).comes) ≡ Sends next later
       → IsSentIn keys trusted number old new start later next (ran keys trusted number batch state).state
 
 -- a turn's batch, in its state; or a batch of its rotation that may be sent, in the state in which it is run
@@ -66,12 +66,12 @@ IsBoundAs state number batch bound = binding_of (catalog_of state number) batch.
 abbrev pub IsTyped : Bound → Type 0
 IsTyped bound = HasTyping bound.params bound.columns (rules bound)
 
--- a batch's statement is bound and has no typing; the place is that of the first rule such that the rules up to and with it have none
+-- a batch's statement is bound and has no typing; the offset is that of the first rule such that the rules up to and with it have none
 pub record IsUntypedAt (state : State) (number : ℕ) (batch : Batch) (at : ℕ) : Type 0 where
   pub bound : Bound
   pub is_bound : IsBoundAs state number batch bound
   pub untyped : ¬ (IsTyped bound)
-  pub place : IsClashAt bound at
+  pub offset : IsClashAt bound at
 
 -- a batch that a rotation runs, whose statement is bound and has no typing
 pub record RunsUntyped (keys : KeyMap) (trusted : List (List ℕ)) (number : ℕ) (old new : List ℕ) (state : State) : Type 0 where

@@ -1,4 +1,4 @@
--- The result of a script over the server is its plaintext meaning, or a front of it where random bytes are short.
+-- The result of a script over the server is its plaintext meaning, or a prefix of it if random bytes are short.
 use Rattle.std.specs.Prelude.{◌≡◌, ◌↔◌, ℕ, List, [], Option, Some, None}
 use Rattle.std.specs.List.{All}
 use Rattle.ae_base.specs.declared.batches.Batch.{Batch}
@@ -30,7 +30,7 @@ EndsWith (Done sessions) outcomes wanted = outcomes ≡ wanted
 EndsWith Dry outcomes wanted = IsPrefix outcomes wanted
 EndsWith (BadReply taken) outcomes wanted = ⊥
 
--- the outcomes are those, or a front of them where random bytes were short; each reply is awaited, and none is left
+-- the outcomes are those, or a prefix of them where random bytes were short; each reply is expected, and none is left
 abbrev pub Agrees : {State : Type 0} → Passed State → List Outcome → Type 0
 Agrees p wanted = EndsWith p.end p.outcomes wanted
 
@@ -40,9 +40,9 @@ ServedIsPlain = (keys : KeyMap) (steps : List Step) → All IsWithinLimits steps
     → (entropy : List ℕ) → AreBytes entropy
     → Agrees (over serve keys (talk steps [] nobody) 0 entropy empty_state []) (reference keys steps [] nothing_held empty_state)
 
--- over the server each reply of a script's conversation is awaited, whatever keys are opened and whatever bytes are drawn
-abbrev pub RepliesAreAwaited : Type 0
-RepliesAreAwaited = (steps : List Step) → All IsWithinLimits steps → Awaits serve (talk steps [] nobody) empty_state []
+-- over the server each reply of a script's conversation is expected, whatever keys are opened and whatever bytes are drawn
+abbrev pub RepliesAreExpected : Type 0
+RepliesAreExpected = (steps : List Step) → All IsWithinLimits steps → Awaits serve (talk steps [] nobody) empty_state []
 
 -- over the server no request of a script's conversation is answered with ParamClash or BadCell, whatever a vault answers and whatever bytes are drawn
 abbrev pub ParamsAlwaysSuit : Type 0

@@ -21,7 +21,7 @@ use Rattle.catalog.specs.Catalogs.{Catalog}
 use Rattle.resolve.specs.Bind.{bind}
 use Rattle.enc_types.specs.Least.{inferred_encs, least, has_typing, clash_behind}
 use Rattle.enc_types.specs.Rules.{rules}
-use Rattle.statement_analysis.specs.Describing.{understood}
+use Rattle.statement_analysis.specs.Describing.{analyzed}
 use Rattle.server_core.specs.Serve.{State, empty_state}
 use Rattle.conversation.specs.declared.faults.DriverFault.TheVariants.{StillPending, NothingPending, DoesNotFit, NoMasterKey, NotEmpty, NotEncrypted, NotTrusted}
 use Rattle.conversation.specs.declared.outcomes.NamedEnc.TheVariants as named
@@ -58,7 +58,7 @@ pub the_plain_table :
     ∷ whole 2 (codes "SELECT a FROM t WHERE a < @p") (number (codes "q") 1 ∷ number (codes "p") 6 ∷ [])
     ∷ [])
     ≡ Defined ∷ Changed 3 ∷ Rows (record { titles = codes "a" ∷ []; rows = (value.Is (Num (pos 5)) ∷ []) ∷ [] }) ∷ []
-unfolding understood statement_in tree_of operand_in inner_in bind check_of inferred_encs least has_typing clash_behind rules encode
+unfolding analyzed statement_in tree_of operand_in inner_in bind check_of inferred_encs least has_typing clash_behind rules encode
 the_plain_table = refl
 
 pub a_batch_that_waits :
@@ -77,7 +77,7 @@ pub a_batch_that_waits :
     ∷ Refused (Moved (record { seen = 1; now = 2 }))
     ∷ Failed NothingPending
     ∷ []
-unfolding understood statement_in tree_of operand_in inner_in bind check_of inferred_encs least has_typing clash_behind rules encode
+unfolding analyzed statement_in tree_of operand_in inner_in bind check_of inferred_encs least has_typing clash_behind rules encode
 a_batch_that_waits = refl
 
 abbrev pub rows_of_a : List ℕ → Outcome
@@ -95,7 +95,7 @@ pub a_transaction_in_conflict :
     ∷ whole 1 (codes "SELECT a FROM t") []
     ∷ [])
     ≡ Defined ∷ Defined ∷ Changed 1 ∷ Changed 1 ∷ rows_of_a (1 ∷ []) ∷ Refused (Conflict (codes "t") (record { seen = 0; now = 1 })) ∷ rows_of_a (2 ∷ []) ∷ []
-unfolding understood statement_in tree_of operand_in inner_in bind check_of inferred_encs least has_typing clash_behind rules encode
+unfolding analyzed statement_in tree_of operand_in inner_in bind check_of inferred_encs least has_typing clash_behind rules encode
 a_transaction_in_conflict = refl
 
 -- where the other session only reads, it can; and then it is over
@@ -110,7 +110,7 @@ pub a_transaction_that_is_committed :
     ∷ whole 2 (codes "SELECT a FROM t") []
     ∷ [])
     ≡ Defined ∷ Defined ∷ Changed 1 ∷ rows_of_a [] ∷ Defined ∷ Refused NoTransaction ∷ rows_of_a (1 ∷ []) ∷ []
-unfolding understood statement_in tree_of operand_in inner_in bind check_of inferred_encs least has_typing clash_behind rules encode
+unfolding analyzed statement_in tree_of operand_in inner_in bind check_of inferred_encs least has_typing clash_behind rules encode
 a_transaction_that_is_committed = refl
 
 pub a_value_that_does_not_fit :
@@ -155,7 +155,7 @@ pub a_protected_column : (wrapped : List ℕ) →
     ∷ Rows (record { titles = codes "b" ∷ []; rows = (value.Is (Num (pos 7)) ∷ []) ∷ [] })
     ∷ Failed (NoMasterKey (codes "main"))
     ∷ []
-unfolding understood statement_in tree_of operand_in inner_in bind check_of inferred_encs least has_typing clash_behind rules encode open_key column_key
+unfolding analyzed statement_in tree_of operand_in inner_in bind check_of inferred_encs least has_typing clash_behind rules encode open_key column_key
 a_protected_column wrapped = refl
 
 -- a literal and a plain column have no encryption that a protected column could share; a parameter has
@@ -169,7 +169,7 @@ pub statements_without_a_typing : (wrapped : List ℕ) →
     ∷ Refused (EncryptionClash 24)
     ∷ Described (record { name = codes "p"; enc = named.Det (codes "K") } ∷ [])
     ∷ []
-unfolding understood statement_in tree_of operand_in inner_in bind check_of inferred_encs least has_typing clash_behind rules encode
+unfolding analyzed statement_in tree_of operand_in inner_in bind check_of inferred_encs least has_typing clash_behind rules encode
 statements_without_a_typing wrapped = refl
 
 -- a forced parameter isn't sent in the open; a key is opened by its trusted values alone, from the step on that names a path
@@ -187,7 +187,7 @@ pub forced_and_trusted : (wrapped : List ℕ) →
     ∷ Failed (NotTrusted (codes "main"))
     ∷ Failed (NoMasterKey (codes "main"))
     ∷ []
-unfolding understood statement_in tree_of operand_in inner_in bind check_of inferred_encs least has_typing clash_behind rules encode open_key column_key
+unfolding analyzed statement_in tree_of operand_in inner_in bind check_of inferred_encs least has_typing clash_behind rules encode open_key column_key
 forced_and_trusted wrapped = refl
 
 -- ---- rotations
@@ -207,10 +207,10 @@ pub a_rotation :
     ∷ whole 1 (codes "SELECT a FROM v") []
     ∷ [])
     ≡ Defined ∷ Defined ∷ Changed 1 ∷ Rotated 1 ∷ rows_of_a (7 ∷ []) ∷ Refused (NoTable (codes "v")) ∷ []
-unfolding understood statement_in tree_of operand_in inner_in bind check_of inferred_encs least has_typing clash_behind rules encode is_utf8 chars digits
+unfolding analyzed statement_in tree_of operand_in inner_in bind check_of inferred_encs least has_typing clash_behind rules encode is_utf8 chars digits
 a_rotation = refl
 
--- a new table that has a row, a table that isn't there, and a session that has a batch
+-- a new table that has a row, a table that doesn't exist, and a session that has a batch
 pub rotations_that_fail :
     meaning (two_tables ++
     whole 1 (codes "INSERT INTO v (a) VALUES (7)") []
@@ -221,5 +221,5 @@ pub rotations_that_fail :
     ∷ execute 1
     ∷ [])
     ≡ Defined ∷ Defined ∷ Changed 1 ∷ Failed (NotEmpty (codes "v")) ∷ Refused (NoTable (codes "w")) ∷ Described [] ∷ Failed StillPending ∷ rows_of_a (7 ∷ []) ∷ []
-unfolding understood statement_in tree_of operand_in inner_in bind check_of inferred_encs least has_typing clash_behind rules encode is_utf8 chars
+unfolding analyzed statement_in tree_of operand_in inner_in bind check_of inferred_encs least has_typing clash_behind rules encode is_utf8 chars
 rotations_that_fail = refl

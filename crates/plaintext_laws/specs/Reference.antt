@@ -8,7 +8,7 @@ use Rattle.script_lang.specs.declared.steps.Act.{Act}
 use Rattle.script_lang.specs.declared.steps.Act.TheVariants.{Whole, Half, Execute, Rotate}
 use Rattle.script_lang.specs.declared.steps.Step.{Step}
 use Rattle.script_lang.specs.declared.steps.Step.TheVariants.{Turn, Trust}
-use Rattle.plaintext_laws.specs.Batches.{Came, executes, runs_half, runs_whole}
+use Rattle.plaintext_laws.specs.Batches.{BatchEnd, executes, runs_half, runs_whole}
 use Rattle.plaintext_laws.specs.Rotations.{rotates}
 
 -- what each session of a client holds between steps, by its number from 1 to 64
@@ -23,7 +23,7 @@ with_held holds number held = slice_set holds (number - 1) held
 
 -- ---- a turn
 
-abbrev pub means : KeyMap → List (List ℕ) → ℕ → Act → Option Pending → State → Came
+abbrev pub means : KeyMap → List (List ℕ) → ℕ → Act → Option Pending → State → BatchEnd
 means keys trusted number (Whole batch) before state = runs_whole keys trusted number batch before state
 means keys trusted number (Half batch) before state = runs_half number batch before state
 means keys trusted number Execute before state = executes keys trusted state number before

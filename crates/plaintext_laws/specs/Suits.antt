@@ -24,7 +24,7 @@ abbrev pub IsPlainReply : Reply → Type 0
 IsPlainReply (Refused f) = IsPlainFault f
 IsPlainReply other = Unit {0}
 
--- over a server from a state, with these replies in the queue: each reply is awaited, and none that a request brings is ParamClash or BadCell
+-- over a server from a state, with these replies in the queue: each reply is expected, and none that a request brings is ParamClash or BadCell
 abbrev pub ParamsSuit : {State : Type 0} → (State → Request → Served State) → Talk → State → List Reply → Type 0
 ParamsSuit serve (Ends sessions) state queue = Unit {0}
 ParamsSuit serve (Stops comes) state queue = Unit {0}

@@ -1,7 +1,7 @@
 //! The laws of the plaintext meaning: functions that do nothing, whose contracts are the laws.
 
 ghost use Rattle.plaintext_laws.specs.Below.{LawsBelow};
-ghost use Rattle.plaintext_laws.specs.Laws.{CellsNeverFail, ClashesExactly, ParamsAlwaysSuit, RepliesAreAwaited, ServedIsPlain};
+ghost use Rattle.plaintext_laws.specs.Laws.{CellsNeverFail, ClashesExactly, ParamsAlwaysSuit, RepliesAreExpected, ServedIsPlain};
 
 use catalog::laws::definitions_keep_catalogs;
 use cell_codec::{derived_keys_are_keys, sealing_is_read_back, sealing_makes_cells};
@@ -14,7 +14,7 @@ use resolve::laws::{bound_statements_are, prepared_alone};
 use transactions::laws::{transactions_keep_stores, transactions_simulate};
 use value_norm::{norm_is_bounded, value_of_is_the_one};
 
-/// What the crates below promise, as one law for those that speak of whole scripts.
+/// What the crates below promise, as one law for the laws about whole scripts.
 pub fn laws_below()
     ensures { LawsBelow }
 {
@@ -36,20 +36,20 @@ pub fn laws_below()
 }
 
 /// Over a fresh server the result of each script's conversation is the script's plaintext meaning,
-/// or a front of it where random bytes are short; no reply is one that isn't awaited. So it is
-/// whatever columns are protected, over proper values and random bytes, where all values that a
-/// column key ever has open to one key, as far as they open: a cell stands for the value that it
-/// opens to under that key, and in a deterministic class it is that value's seal.
+/// or a prefix of it if random bytes are short; no reply is unexpected. So it is whatever columns
+/// are protected, over proper values and random bytes, where all values that a column key ever has
+/// open to one key, as far as they open: a cell means the value that it opens to under that key,
+/// and in a deterministic class it is that value's seal.
 pub fn served_is_plain()
     ensures { ServedIsPlain }
 {
     laws_below();
 }
 
-/// Over a fresh server each reply of a script's conversation is awaited, and none is left, whatever
-/// keys are opened, or refused, and whatever bytes are drawn.
-pub fn replies_are_awaited()
-    ensures { RepliesAreAwaited }
+/// Over a fresh server each reply of a script's conversation is expected, and none is left,
+/// whatever keys are opened, or refused, and whatever bytes are drawn.
+pub fn replies_are_expected()
+    ensures { RepliesAreExpected }
 {
     laws_below();
 }

@@ -28,11 +28,11 @@ use Rattle.catalog.specs.Catalogs.{Catalog, table_named}
 use Rattle.semantic_checks.specs.Checks.{check_of}
 use Rattle.expression_binding.specs.Declarations.{type_of}
 use Rattle.expression_binding.specs.Names.{bind_filter, bind_operand, bind_operands, bind_terms, short}
-use Rattle.expression_binding.specs.Scopes.{Scope, ScopeColumn, Source, column_place, named_place, nothing_in_scope, param_place, scope_of, sites_of, sites_of_source}
+use Rattle.expression_binding.specs.Scopes.{Scope, ScopeColumn, Source, column_ordinal, named_ordinal, nothing_in_scope, param_ordinal, scope_of, sites_of, sites_of_source}
 use Rattle.expression_binding.specs.Walks.{each_from}
 use Rattle.expression_binding.proofs.Interface.{first_part, found, one_part, two_parts}
 use Rattle.resolve.specs.Bind.{bind, bound_over, resolution}
-use Rattle.resolve.specs.Changes.{bind_assignment, bind_delete, bind_insert, bind_row, bind_update, column_of, nth_assignment, places_for, table_scope}
+use Rattle.resolve.specs.Changes.{bind_assignment, bind_delete, bind_insert, bind_row, bind_update, column_of, nth_assignment, ordinals_for, table_scope}
 use Rattle.resolve.specs.Definitions.{bind_definition, bind_key_value, bind_key_values, bind_table, key_for, key_path, master_for, new_sites, table_sites}
 use Rattle.resolve.specs.Queries.{bind_item, bind_items, bind_joins, bind_order, bind_query, bind_value, star_items, title_of}
 use Rattle.resolve.specs.Tables.{Joined, Sources, all_sources, joined_from, source_for, sources_for, table_for, visible}
@@ -45,8 +45,8 @@ use Rattle.proper_value_laws.proofs.TextsLists.{each_all, each_from_all, find_al
 
 operand_bound : (scope : Scope) (ds : List ParamDecl) (o : Operand ColumnRef (List ℕ)) (b : Operand ℕ ℕ) → IsProperWritten o → bind_operand scope ds o ≡ Ok b → IsProperOperand b
 operand_bound scope ds (operands.Literal at v) b h e = one_part (short v) (λ x. operands.Literal at v) b IsProperOperand e (λ x ex. h)
-operand_bound scope ds (operands.Param at name) b h e = one_part (param_place ds name) (operands.Param at) b IsProperOperand e (λ p ep. tt)
-operand_bound scope ds (operands.Column at ref) b h e = one_part (column_place scope ref) (operands.Column at) b IsProperOperand e (λ p ep. tt)
+operand_bound scope ds (operands.Param at name) b h e = one_part (param_ordinal ds name) (operands.Param at) b IsProperOperand e (λ p ep. tt)
+operand_bound scope ds (operands.Column at ref) b h e = one_part (column_ordinal scope ref) (operands.Column at) b IsProperOperand e (λ p ep. tt)
 operand_bound scope ds (operands.Minus at x) b h e = one_part (bind_operand scope ds x) (operands.Minus at) b IsProperOperand e (λ a ea. tt)
 operand_bound scope ds (operands.Sum x terms) b h e = two_parts (bind_operand scope ds x) (bind_terms scope ds terms) operands.Sum b IsProperOperand e
     (λ a m ea em. operand_bound scope ds x a h ea)
@@ -65,7 +65,7 @@ IsAssignment a = IsProperOperand a.value
 assignment_bound : (ds : List ParamDecl) (def : TableDef) (s : Scope) (before : List tree.Assignment) (a : tree.Assignment) (b : bound.BoundAssignment) → IsProperAssignment a
     → bind_assignment ds def s before a ≡ Ok b → IsAssignment b
 assignment_bound ds def s before a b h e =
-    two_parts (named_place def.columns (map column_of before) a.column) (bind_operand s ds a.value) (λ p v. record { at = a.at; place = p; value = v }) b IsAssignment e
+    two_parts (named_ordinal def.columns (map column_of before) a.column) (bind_operand s ds a.value) (λ p v. record { at = a.at; ordinal = p; value = v }) b IsAssignment e
     (λ p v ep ev. operand_bound s ds a.value v h ev)
 
 -- ---- queries
@@ -205,7 +205,7 @@ resolved catalog (tree.Insert table names rows) ds b h small e =
     first_part (table_for catalog table) _ b (IsBoundProper catalog ds b) e
     (λ def ed e1. one_part (bind_insert ds def table names rows) (λ insert. bound_over ds (table_sites def) (bound.Insert insert)) b (IsBoundProper catalog ds) e1
     (λ insert ei. changed catalog ds table def (bound.Insert insert) ed
-    (two_parts (places_for def.columns names) (each (bind_row ds) rows) (λ n rs. record { table = table; named = n; rows = rs }) insert (λ (z : bound.BoundInsert). All IsRow z.rows) ei
+    (two_parts (ordinals_for def.columns names) (each (bind_row ds) rows) (λ n rs. record { table = table; columns = n; rows = rs }) insert (λ (z : bound.BoundInsert). All IsRow z.rows) ei
     (λ n rs en er. each_all AreProperValues IsRow (bind_row ds) (row_bound ds) rows rs h er))))
 resolved catalog (tree.Update table all filter) ds b h small e =
     first_part (table_for catalog table) _ b (IsBoundProper catalog ds b) e

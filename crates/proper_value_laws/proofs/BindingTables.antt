@@ -59,7 +59,7 @@ apart_none before = record { differ = refl; each = λ k d lt. refl }
 
 -- ---- columns
 
--- a column as it was written, with a name that is new behind some
+-- a column as it was written, with a name that is new after some
 record IsNewColumn (before : List ColumnSpec) (column : ColumnSpec) (def : ColumnDef) : Type 0 where
   name : column.name ≡ def.name
   ty : column.ty ≡ def.ty
@@ -93,10 +93,10 @@ columns_bound : (catalog : Catalog) (all before xs : List ColumnSpec) (i : ℕ) 
 columns_bound catalog all before [] i defs same at h e =
     let none : [] ≡ defs = cc in subst (AreBound before) none (record { proper = All-nil IsProperColumn; apart = apart_none (map name_of before) })
 columns_bound catalog all before (x ∷ xs) i defs same at h e =
-    let front : take i all ≡ before = ap (λ n. take n all) at ∙ ap (λ ys. take (length before) ys) same ∙ take-append_seam before (x ∷ xs) in
+    let prefix : take i all ≡ before = ap (λ n. take n all) at ∙ ap (λ ys. take (length before) ys) same ∙ take-append_seam before (x ∷ xs) in
     let next : i + 1 ≡ length (before ++ x ∷ []) = omega (arith, at, length-append before (x ∷ [])) in
     two_parts (bind_column catalog all i x) (each_from (bind_column catalog all) (i + 1) xs) ◌∷◌ defs (AreBound before) e
-    (λ d ds ed eds. bound_then before x d ds (All-head IsProperSpec x xs h) (subst (λ b. IsNewColumn b x d) front (column_new catalog all i x d ed))
+    (λ d ds ed eds. bound_then before x d ds (All-head IsProperSpec x xs h) (subst (λ b. IsNewColumn b x d) prefix (column_new catalog all i x d ed))
     (columns_bound catalog all (before ++ x ∷ []) xs (i + 1) ds (same ∙ sym (append_assoc before (x ∷ []) xs)) next (All-tail IsProperSpec x xs h) eds))
 
 -- ---- the table

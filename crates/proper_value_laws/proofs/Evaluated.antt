@@ -190,22 +190,22 @@ module _ (row params : List Atom) where
 
     -- ---- values that are put into columns
 
-    value_proper : (columns : List ColumnDef) (place : ℕ) (v : BoundOperand) (pair : ℕ × Atom) → IsProperOperand v → value_into columns row params place v ≡ Ok pair → IsGiven pair
-    value_proper columns place v pair h e =
-        let c = came (or_overflow (eval row params v)) (λ atom. admitted (column_at columns place) atom >>= λ kept. pair_ok (place, kept)) pair e in
-        let k = came (admitted (column_at columns place) c.value) (λ kept. pair_ok (place, kept)) pair c.then in
-        subst IsGiven (same_pair (place, k.value) pair k.then)
-        (admitted_proper (column_at columns place) c.value k.value (eval_proper v c.value h (no_overflow (eval row params v) c.value c.is)) k.is)
+    value_proper : (columns : List ColumnDef) (ordinal : ℕ) (v : BoundOperand) (pair : ℕ × Atom) → IsProperOperand v → value_into columns row params ordinal v ≡ Ok pair → IsGiven pair
+    value_proper columns ordinal v pair h e =
+        let c = came (or_overflow (eval row params v)) (λ atom. admitted (column_at columns ordinal) atom >>= λ kept. pair_ok (ordinal, kept)) pair e in
+        let k = came (admitted (column_at columns ordinal) c.value) (λ kept. pair_ok (ordinal, kept)) pair c.then in
+        subst IsGiven (same_pair (ordinal, k.value) pair k.then)
+        (admitted_proper (column_at columns ordinal) c.value k.value (eval_proper v c.value h (no_overflow (eval row params v) c.value c.is)) k.is)
 
-    pub values_proper : (columns : List ColumnDef) (places : List ℕ) (vs : List BoundOperand) (given : List (ℕ × Atom)) → All IsProperOperand vs
-        → values_into columns row params places vs ≡ Ok given → All IsGiven given
+    pub values_proper : (columns : List ColumnDef) (ordinals : List ℕ) (vs : List BoundOperand) (given : List (ℕ × Atom)) → All IsProperOperand vs
+        → values_into columns row params ordinals vs ≡ Ok given → All IsGiven given
     values_proper columns [] vs given h e = let f : [] ≡ given = cc in subst (All IsGiven) f (All-nil IsGiven)
-    values_proper columns (place ∷ places) [] given h e = let f : [] ≡ given = cc in subst (All IsGiven) f (All-nil IsGiven)
-    values_proper columns (place ∷ places) (v ∷ vs) given h e =
-        let b = came_before (value_into columns row params place v) (values_into columns row params places vs) given e in
+    values_proper columns (ordinal ∷ ordinals) [] given h e = let f : [] ≡ given = cc in subst (All IsGiven) f (All-nil IsGiven)
+    values_proper columns (ordinal ∷ ordinals) (v ∷ vs) given h e =
+        let b = came_before (value_into columns row params ordinal v) (values_into columns row params ordinals vs) given e in
         subst (All IsGiven) (sym b.all)
-        (All-cons IsGiven b.first b.others (value_proper columns place v b.first (All-head IsProperOperand v vs h) b.is)
-        (values_proper columns places vs b.others (All-tail IsProperOperand v vs h) b.then))
+        (All-cons IsGiven b.first b.others (value_proper columns ordinal v b.first (All-head IsProperOperand v vs h) b.is)
+        (values_proper columns ordinals vs b.others (All-tail IsProperOperand v vs h) b.then))
 
 -- ---- rows that are made of them
 
@@ -221,18 +221,19 @@ filled_proper : (column : ColumnDef) (o : Option Atom) (a : Atom) → IfSome o I
 filled_proper column (Some x) a h e = let f : x ≡ a = cc in subst IsProperAtom f h
 filled_proper column None a h e = admitted_proper column Null a tt e
 
-pub completed_proper : (place : ℕ) (given : List (ℕ × Atom)) (columns : List ColumnDef) (row : List Atom) → All IsGiven given → completed place given columns ≡ Ok row → All IsProperAtom row
-completed_proper place given [] row h e = let f : [] ≡ row = cc in subst (All IsProperAtom) f (All-nil IsProperAtom)
-completed_proper place given (column ∷ columns) row h e =
-    let b = came_before (value_or_null column (value_at given place)) (completed (place + 1) given columns) row e in
+pub completed_proper : (ordinal : ℕ) (given : List (ℕ × Atom)) (columns : List ColumnDef) (row : List Atom) → All IsGiven given → completed ordinal given columns ≡ Ok row → All IsProperAtom row
+completed_proper ordinal given [] row h e = let f : [] ≡ row = cc in subst (All IsProperAtom) f (All-nil IsProperAtom)
+completed_proper ordinal given (column ∷ columns) row h e =
+    let b = came_before (value_or_null column (value_at given ordinal)) (completed (ordinal + 1) given columns) row e in
     subst (All IsProperAtom) (sym b.all)
-    (All-cons IsProperAtom b.first b.others (filled_proper column (value_at given place) b.first (given_proper given place h) b.is) (completed_proper (place + 1) given columns b.others h b.then))
+    (All-cons IsProperAtom b.first b.others (filled_proper column (value_at given ordinal) b.first (given_proper given ordinal h) b.is)
+    (completed_proper (ordinal + 1) given columns b.others h b.then))
 
-pub replaced_proper : (place : ℕ) (given : List (ℕ × Atom)) (row : List Atom) → All IsGiven given → All IsProperAtom row → All IsProperAtom (replaced place given row)
-replaced_proper place given [] h k = k
-replaced_proper place given (atom ∷ row) h k =
-    All-cons IsProperAtom (unwrap_or (value_at given place) atom) (replaced (place + 1) given row) (stands (value_at given place) (given_proper given place h))
-    (replaced_proper (place + 1) given row h (All-tail IsProperAtom atom row k))
+pub replaced_proper : (ordinal : ℕ) (given : List (ℕ × Atom)) (row : List Atom) → All IsGiven given → All IsProperAtom row → All IsProperAtom (replaced ordinal given row)
+replaced_proper ordinal given [] h k = k
+replaced_proper ordinal given (atom ∷ row) h k =
+    All-cons IsProperAtom (unwrap_or (value_at given ordinal) atom) (replaced (ordinal + 1) given row) (stands (value_at given ordinal) (given_proper given ordinal h))
+    (replaced_proper (ordinal + 1) given row h (All-tail IsProperAtom atom row k))
   where
     stands : (o : Option Atom) → IfSome o IsProperAtom → IsProperAtom (unwrap_or o atom)
     stands None g = All-head IsProperAtom atom row k

@@ -15,7 +15,7 @@ use Rattle.proper_value_laws.specs.Proper.{IsIdentifier, IsProperTable, HasPrope
 pub all_followed : {A : Type 0} (P : A → Type 0) (new : A) (e : Effect) (items : List A) → (e ≡ Adds → P new) → All P items → All P (followed new e items)
 all_followed P new Stays items p h = h
 all_followed P new Adds items p h = All-push P items new h (p refl)
-all_followed P new (Removes place) items p h = All-remove P items place h
+all_followed P new (Removes ordinal) items p h = All-remove P items ordinal h
 
 renamed_proper : (name : List ℕ) (table : TableDef) → IsIdentifier name → IsProperTable table → IsProperTable (record table { name = name })
 renamed_proper name table n h = record { named = n; some = h.some; few = h.few; columns = h.columns; apart = h.apart }

@@ -7,7 +7,7 @@ use Rattle.ae_base.specs.Atoms.{Atom}
 use Rattle.ae_base.specs.Results.{◌>>=◌}
 use Rattle.ae_base.specs.declared.faults.SqlFault.{SqlFault}
 use Rattle.ae_base.specs.declared.faults.SqlFault.TheVariants as fault
-use Rattle.sql_tree.specs.Sorts.{control_in}
+use Rattle.sql_tree.specs.Kinds.{control_in}
 use Rattle.sql_tree.specs.declared.statements.TransactionControl.{TransactionControl}
 use Rattle.sql_tree.specs.declared.statements.TransactionControl.TheVariants as control
 use Rattle.catalog.specs.Catalogs.{Catalog}
@@ -20,9 +20,9 @@ use Rattle.wire_messages.specs.declared.params.SentParam.{SentParam}
 use Rattle.wire_messages.specs.declared.requests.Request.{Request}
 use Rattle.wire_messages.specs.declared.requests.Request.TheVariants.{Describe, Execute}
 use Rattle.wire_messages.specs.Messages.{Description}
-use Rattle.statement_analysis.specs.Describing.{Meant, understood, describe}
-use Rattle.statement_analysis.specs.Params.{declaration_of, suited}
-use Rattle.server_core.specs.Serve.{State, answered, ask_of, catalog_of, described, executed, prepared, serve, understood_at}
+use Rattle.statement_analysis.specs.Describing.{Analysis, analyzed, describe}
+use Rattle.statement_analysis.specs.Params.{declaration_of, checked_params}
+use Rattle.server_core.specs.Serve.{State, answered, ask_of, catalog_of, described, executed, prepared, serve, analyzed_at}
 use Rattle.operators.proofs.Interface.{came}
 use Rattle.proper_value_laws.specs.Laws.{HasProperCatalogs, ProperTablesStay, TextsAreProper}
 use Rattle.proper_value_laws.specs.Proper.{HasProperTables, IsProperStatement}
@@ -61,15 +61,15 @@ seen state h = (h.shared, λ session. by (slice_index_or state.sessions (session
 
 -- ---- a call
 
-called : (state : State) (session : ℕ) (meant : Meant) (atoms : List Atom) → IsProperStatement meant.bound.statement → AreStored HasTables state
-    → AreStored HasTables (transact state session (ask_of (meant, atoms))).after
-called state session meant atoms p h =
+called : (state : State) (session : ℕ) (analysis : Analysis) (atoms : List Atom) → IsProperStatement analysis.bound.statement → AreStored HasTables state
+    → AreStored HasTables (transact state session (ask_of (analysis, atoms))).after
+called state session analysis atoms p h =
     (transact_kept HasTables IsProperlyAsked (λ a. Unit {0}) (λ w e k q. (step_tables w k e.bound e.encs e.params q, tt)) (λ f. tt) tt (λ is_own shared own k m. m)
-    state session (ask_of (meant, atoms)) h
-    (asks (control_in meant.bound.statement))).0
+    state session (ask_of (analysis, atoms)) h
+    (asks (control_in analysis.bound.statement))).0
   where
     e : Execution
-    e = execution meant.bound meant.encs atoms
+    e = execution analysis.bound analysis.encs atoms
 
     asks : (c : Option TransactionControl) → OfExecuted IsProperlyAsked (asked c e)
     asks None = p
@@ -80,28 +80,28 @@ called state session meant atoms p h =
 -- ---- a request
 
 module _ (law : TextsAreProper) where
-  understood_proper : (catalog : Catalog) (version : ℕ) (text : List ℕ) (params : List SentParam) (meant : Meant) → understood_at catalog version text params ≡ Ok meant
-      → IsProperStatement meant.bound.statement
-  understood_proper catalog version text params meant e = by (version == catalog.version) e
+  analyzed_proper : (catalog : Catalog) (version : ℕ) (text : List ℕ) (params : List SentParam) (analysis : Analysis) → analyzed_at catalog version text params ≡ Ok analysis
+      → IsProperStatement analysis.bound.statement
+  analyzed_proper catalog version text params analysis e = by (version == catalog.version) e
     where
-      by : (b : Bool) → (if b then understood catalog text (map declaration_of params) else Err (fault.Moved (record { seen = version; now = catalog.version }))) ≡ Ok meant
-          → IsProperStatement meant.bound.statement
-      by true k = law.statements catalog text (map declaration_of params) meant k
+      by : (b : Bool) → (if b then analyzed catalog text (map declaration_of params) else Err (fault.Moved (record { seen = version; now = catalog.version }))) ≡ Ok analysis
+          → IsProperStatement analysis.bound.statement
+      by true k = law.statements catalog text (map declaration_of params) analysis k
       by false k = absurd cc
 
-  abbrev ready_ok : Meant → List Atom → Result (Meant × List Atom) SqlFault
-  ready_ok meant atoms = Ok (meant, atoms)
+  abbrev ready_ok : Analysis → List Atom → Result (Analysis × List Atom) SqlFault
+  ready_ok analysis atoms = Ok (analysis, atoms)
 
-  prepared_proper : (catalog : Catalog) (version : ℕ) (text : List ℕ) (params : List SentParam) (ready : Meant × List Atom) → prepared catalog version text params ≡ Ok ready
+  prepared_proper : (catalog : Catalog) (version : ℕ) (text : List ℕ) (params : List SentParam) (ready : Analysis × List Atom) → prepared catalog version text params ≡ Ok ready
       → IsProperStatement ready.0.bound.statement
   prepared_proper catalog version text params ready e =
-      let c = came (understood_at catalog version text params) (λ meant. suited meant.encs params >>= λ atoms. ready_ok meant atoms) ready e in
-      let s = came (suited c.value.encs params) (λ atoms. ready_ok c.value atoms) ready c.then in
+      let c = came (analyzed_at catalog version text params) (λ analysis. checked_params analysis.encs params >>= λ atoms. ready_ok analysis atoms) ready e in
+      let s = came (checked_params c.value.encs params) (λ atoms. ready_ok c.value atoms) ready c.then in
       let same : c.value ≡ ready.0 = first_same c.value ready s.value s.then in
-      subst (λ (m : Meant). IsProperStatement m.bound.statement) same (understood_proper catalog version text params c.value c.is)
+      subst (λ (m : Analysis). IsProperStatement m.bound.statement) same (analyzed_proper catalog version text params c.value c.is)
     where
-      first_same : (m : Meant) (ready : Meant × List Atom) (atoms : List Atom) → ready_ok m atoms ≡ Ok ready → m ≡ ready.0
-      first_same m ready atoms e = let pair : (m, atoms) ≡ ready = cc in subst (λ (r : Meant × List Atom). m ≡ r.0) pair refl
+      first_same : (m : Analysis) (ready : Analysis × List Atom) (atoms : List Atom) → ready_ok m atoms ≡ Ok ready → m ≡ ready.0
+      first_same m ready atoms e = let pair : (m, atoms) ≡ ready = cc in subst (λ (r : Analysis × List Atom). m ≡ r.0) pair refl
 
   answered_stored : (catalog : Catalog) (a : Result Answer SqlFault) (new : State) → AreStored HasTables new → AreStored HasTables (answered catalog a new).after
   answered_stored catalog (Ok answer) new h = h
@@ -111,7 +111,7 @@ module _ (law : TextsAreProper) where
   described_stored state (Ok description) h = h
   described_stored state (Err f) h = h
 
-  executed_stored : (state : State) (session : ℕ) (r : Result (Meant × List Atom) SqlFault) → ((ready : Meant × List Atom) → r ≡ Ok ready → IsProperStatement ready.0.bound.statement)
+  executed_stored : (state : State) (session : ℕ) (r : Result (Analysis × List Atom) SqlFault) → ((ready : Analysis × List Atom) → r ≡ Ok ready → IsProperStatement ready.0.bound.statement)
       → AreStored HasTables state → AreStored HasTables (executed state session r).after
   executed_stored state session (Ok ready) p h =
       let t = transact state session (ask_of ready) in

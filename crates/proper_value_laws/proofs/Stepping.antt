@@ -35,7 +35,7 @@ use Rattle.sql_tree.specs.Bound.{
 use Rattle.sql_tree.specs.Bound as bound
 use Rattle.sql_tree.specs.declared.bound.BoundDefinition.{BoundDefinition}
 use Rattle.sql_tree.specs.declared.bound.ColumnSite.{ColumnSite}
-use Rattle.sql_tree.specs.declared.bound.PlaceAt.{PlaceAt}
+use Rattle.sql_tree.specs.declared.bound.OrdinalAt.{OrdinalAt}
 use Rattle.catalog.specs.Catalogs.{Catalog}
 use Rattle.catalog.specs.Definitions.{defined_by, effect_of, followed}
 use Rattle.operators.specs.Alike.{alike_on}
@@ -54,7 +54,7 @@ use Rattle.engine.specs.Queries.{walked, where_true, found_in}
 use Rattle.engine.specs.Queries as queries
 use Rattle.engine.specs.Step as step
 use Rattle.engine.specs.Step.{Done, outcome, columns_of, uniques_of, rows_to_insert, rows_to_update, rows_to_delete, done_by}
-use Rattle.engine.specs.Worlds.{World, rows_of, with_rows, place_of}
+use Rattle.engine.specs.Worlds.{World, rows_of, with_rows, table_position_of}
 use Rattle.engine.specs.declared.answers.ResultColumn.{ResultColumn}
 use Rattle.engine.proofs.Interface.{inserted_done, updated_done, deleted_done, selected_done}
 use Rattle.transactions.proofs.Interface.{all_set}
@@ -180,43 +180,43 @@ one_more n (g ∷ groups) h =
     let first = All-head (IsGroupOf n) g groups h in
     All-cons (IsGroupOf (n + 1)) g groups (first.0, let le = first.1 in omega arith) (one_more n groups (All-tail (IsGroupOf n) g groups h))
 
-grouped_row_proper : (places : List ℕ) (n : ℕ) (groups : List Group) (row : List Atom) → All (IsGroupOf n) groups → IsProperRow row → All (IsGroupOf (n + 1)) (grouped_row places groups row)
-grouped_row_proper places n [] row h p = All-cons (IsGroupOf (n + 1)) (group_of row 1) [] (p, omega arith) (All-nil (IsGroupOf (n + 1)))
-grouped_row_proper places n (group ∷ groups) row h p =
-    by_test (alike_on places group.first row) (grouped_row_proper places n groups row (All-tail (IsGroupOf n) group groups h) p)
+grouped_row_proper : (ordinals : List ℕ) (n : ℕ) (groups : List Group) (row : List Atom) → All (IsGroupOf n) groups → IsProperRow row → All (IsGroupOf (n + 1)) (grouped_row ordinals groups row)
+grouped_row_proper ordinals n [] row h p = All-cons (IsGroupOf (n + 1)) (group_of row 1) [] (p, omega arith) (All-nil (IsGroupOf (n + 1)))
+grouped_row_proper ordinals n (group ∷ groups) row h p =
+    by_test (alike_on ordinals group.first row) (grouped_row_proper ordinals n groups row (All-tail (IsGroupOf n) group groups h) p)
   where
     first : IsGroupOf n group
     first = All-head (IsGroupOf n) group groups h
 
-    by_test : (b : Bool) → All (IsGroupOf (n + 1)) (grouped_row places groups row)
-        → All (IsGroupOf (n + 1)) (cond b (record { first = group.first; count = group.count + 1 } ∷ groups) (group ∷ grouped_row places groups row))
+    by_test : (b : Bool) → All (IsGroupOf (n + 1)) (grouped_row ordinals groups row)
+        → All (IsGroupOf (n + 1)) (cond b (record { first = group.first; count = group.count + 1 } ∷ groups) (group ∷ grouped_row ordinals groups row))
     by_test true more =
         All-cons (IsGroupOf (n + 1)) (group_of group.first (group.count + 1)) groups (first.0, let le = first.1 in omega arith) (one_more n groups (All-tail (IsGroupOf n) group groups h))
-    by_test false more = All-cons (IsGroupOf (n + 1)) group (grouped_row places groups row) (first.0, let le = first.1 in omega arith) more
+    by_test false more = All-cons (IsGroupOf (n + 1)) group (grouped_row ordinals groups row) (first.0, let le = first.1 in omega arith) more
 
-grouping_proper : (places : List ℕ) (n : ℕ) (groups : List Group) (rows : List (List Atom)) → All (IsGroupOf n) groups → AreProperRows rows
-    → All (IsGroupOf (n + length rows)) (grouping_of places groups rows)
-grouping_proper places n groups [] h k = subst (λ m. All (IsGroupOf m) groups) (omega arith) h
-grouping_proper places n groups (row ∷ rows) h k =
-    let more = grouped_row_proper places n groups row h (All-head IsProperRow row rows k) in
+grouping_proper : (ordinals : List ℕ) (n : ℕ) (groups : List Group) (rows : List (List Atom)) → All (IsGroupOf n) groups → AreProperRows rows
+    → All (IsGroupOf (n + length rows)) (grouping_of ordinals groups rows)
+grouping_proper ordinals n groups [] h k = subst (λ m. All (IsGroupOf m) groups) (omega arith) h
+grouping_proper ordinals n groups (row ∷ rows) h k =
+    let more = grouped_row_proper ordinals n groups row h (All-head IsProperRow row rows k) in
     let m : (n + 1) + length rows ≡ n + length (row ∷ rows) = omega arith in
-    subst (λ m. All (IsGroupOf m) (grouping_of places groups (row ∷ rows))) m (grouping_proper places (n + 1) (grouped_row places groups row) rows more (All-tail IsProperRow row rows k))
+    subst (λ m. All (IsGroupOf m) (grouping_of ordinals groups (row ∷ rows))) m (grouping_proper ordinals (n + 1) (grouped_row ordinals groups row) rows more (All-tail IsProperRow row rows k))
 
-groups_proper : (keys : List PlaceAt) (rows : List (List Atom)) → AreProperRows rows → All (IsGroupOf (length rows)) (groups_of keys rows)
+groups_proper : (keys : List OrdinalAt) (rows : List (List Atom)) → AreProperRows rows → All (IsGroupOf (length rows)) (groups_of keys rows)
 groups_proper [] rows h = All-cons (IsGroupOf (length rows)) (group_of [] (length rows)) [] (All-nil IsProperAtom, omega arith) (All-nil (IsGroupOf (length rows)))
 groups_proper (key ∷ keys) rows h =
     let n : 0 + length rows ≡ length rows = omega arith in
-    let places = map (λ (k : PlaceAt). k.place) (key ∷ keys) in
-    subst (λ m. All (IsGroupOf m) (grouping_of places [] rows)) n (grouping_proper places 0 [] rows (All-nil (IsGroupOf 0)) h)
+    let ordinals = map (λ (k : OrdinalAt). k.ordinal) (key ∷ keys) in
+    subst (λ m. All (IsGroupOf m) (grouping_of ordinals [] rows)) n (grouping_proper ordinals 0 [] rows (All-nil (IsGroupOf 0)) h)
 
 -- ---- over a world
 
 module _ (world : World) (w : All AreProperRows world.contents) (params : List Atom) (given : All IsProperAtom params) where
   rows_proper : (name : List ℕ) → AreProperRows (rows_of world name)
-  rows_proper name = contents_at world.contents (place_of world name) w
+  rows_proper name = contents_at world.contents (table_position_of world name) w
 
   put_proper : (name : List ℕ) (rows : List (List Atom)) → AreProperRows rows → All AreProperRows (with_rows world name rows).contents
-  put_proper name rows h = all_set AreProperRows world.contents (place_of world name) rows w h
+  put_proper name rows h = all_set AreProperRows world.contents (table_position_of world name) rows w h
 
   -- ---- SELECT
 
@@ -285,8 +285,8 @@ module _ (world : World) (w : All AreProperRows world.contents) (params : List A
   inserted_proper i rows h e =
       let old = rows_of world i.table in
       let own = columns_of world i.table in
-      let made = came (new_rows own i.named params (length old) i.rows) (λ rows. unless_twins (first_twins 1 (uniques_of world i.table) (old ++ rows)) rows) rows e in
-      subst AreProperRows (no_twins (first_twins 1 (uniques_of world i.table) (old ++ made.value)) made.value rows made.then) (new_rows_proper own i.named (length old) i.rows made.value h made.is)
+      let made = came (new_rows own i.columns params (length old) i.rows) (λ rows. unless_twins (first_twins 1 (uniques_of world i.table) (old ++ rows)) rows) rows e in
+      subst AreProperRows (no_twins (first_twins 1 (uniques_of world i.table) (old ++ made.value)) made.value rows made.then) (new_rows_proper own i.columns (length old) i.rows made.value h made.is)
     where
       no_twins : (o : Option ℕ) (x y : List (List Atom)) → unless_twins o x ≡ Ok y → x ≡ y
       no_twins None x y e = cc
@@ -312,7 +312,7 @@ module _ (world : World) (w : All AreProperRows world.contents) (params : List A
   updated_is columns u row true t h own e =
       let c = came (set_values columns row params u.assignments) (λ given. tested_ok (tested true (replaced 0 given row))) t e in
       let vs = map (λ (a : BoundAssignment). a.value) u.assignments in
-      let values = values_proper row params own given columns (map (λ (a : BoundAssignment). a.place) u.assignments) vs c.value (set_operands u.assignments h) c.is in
+      let values = values_proper row params own given columns (map (λ (a : BoundAssignment). a.ordinal) u.assignments) vs c.value (set_operands u.assignments h) c.is in
       subst IsTested (same_tested (tested true (replaced 0 c.value row)) t c.then) (replaced_proper 0 c.value row values own)
   updated_is columns u row false t h own e = subst IsTested (same_tested (tested false row) t e) own
 

@@ -1,4 +1,4 @@
--- What holds of each world that is stored holds behind a session's call, where a step keeps it.
+-- What holds of each world that is stored holds after a session's call, where a step keeps it.
 use Rattle.std.proofs.Common.{◌-◌, ℕ, List, [], ◌∷◌, Option, Some, None, Result, Ok, Err, Bool, true, false}
 use Rattle.std.specs.Prelude.{IfSome, if◌then◌else◌}
 use Rattle.std.specs.List.{All}
@@ -8,10 +8,10 @@ use Rattle.ae_base.specs.declared.faults.SqlFault.{SqlFault}
 use Rattle.ae_base.specs.declared.faults.SqlFault.TheVariants as fault
 use Rattle.ae_base.specs.declared.tables.TableDef.{TableDef}
 use Rattle.sql_tree.specs.Bound.{BoundStatement}
-use Rattle.sql_tree.specs.Sorts.{is_definition, target}
+use Rattle.sql_tree.specs.Kinds.{is_definition, target}
 use Rattle.engine.specs.Step as step
 use Rattle.engine.specs.Step.{Answer}
-use Rattle.engine.specs.Worlds.{World, place_of, rows_of}
+use Rattle.engine.specs.Worlds.{World, table_position_of, rows_of}
 use Rattle.transactions.specs.Counted.{Counted, CountedOutcome, Execution, changed_by, counts_behind, is_at_last_count, counted, counted_step, raised, raised_at, raised_all, alone}
 use Rattle.transactions.specs.Stores.{
   Transaction,
@@ -149,7 +149,7 @@ merged_proper is_own theirs (def ∷ tables) (item ∷ items) g h =
 laid_proper : (is_own : List ℕ → Bool) (shared own : Counted) → IsProperWorld shared.world → IsProperWorld own.world → IsProperWorld (over is_own shared own).world
 laid_proper is_own shared own h k = record {
   tables = k.tables;
-  rows = merged_proper is_own (rows_of shared.world) own.world.catalog.tables own.world.contents (λ name. contents_at shared.world.contents (place_of shared.world name) h.rows) k.rows;
+  rows = merged_proper is_own (rows_of shared.world) own.world.catalog.tables own.world.contents (λ name. contents_at shared.world.contents (table_position_of shared.world name) h.rows) k.rows;
 }
 
 executed_proper : (ask : Ask) → IsProperAsk ask → OfExecuted IsProperExecution ask

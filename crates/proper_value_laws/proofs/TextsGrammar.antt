@@ -168,13 +168,13 @@ AreProper tokens = All IsProperToken tokens
 record Gives {A : Type 0} (S : Spelling A) (P : A → Type 0) : Type 0 where
   gives : (x : A) (tokens : List Token) → AreProper tokens → S x tokens → P x
 
-before : (front rest : List Token) → AreProper (front ++ rest) → AreProper front
+before : (prefix rest : List Token) → AreProper (prefix ++ rest) → AreProper prefix
 before [] rest h = All-nil IsProperToken
-before (t ∷ front) rest h = All-cons IsProperToken t front (All-head IsProperToken t (front ++ rest) h) (before front rest (All-tail IsProperToken t (front ++ rest) h))
+before (t ∷ prefix) rest h = All-cons IsProperToken t prefix (All-head IsProperToken t (prefix ++ rest) h) (before prefix rest (All-tail IsProperToken t (prefix ++ rest) h))
 
-behind : (front rest : List Token) → AreProper (front ++ rest) → AreProper rest
+behind : (prefix rest : List Token) → AreProper (prefix ++ rest) → AreProper rest
 behind [] rest h = h
-behind (t ∷ front) rest h = behind front rest (All-tail IsProperToken t (front ++ rest) h)
+behind (t ∷ prefix) rest h = behind prefix rest (All-tail IsProperToken t (prefix ++ rest) h)
 
 anything : {A : Type 0} (S : Spelling A) → Gives S (λ x. Unit {0})
 anything S = record { gives = λ x tokens h s. tt }
@@ -319,7 +319,7 @@ cond_other : {A : Type 0} (b : Bool) (x y : A) → cond b None (Some x) ≡ Some
 cond_other true x y e = cc
 cond_other false x y e = let same : x ≡ y = cc in (refl, same)
 
--- what stands behind a column's type
+-- what stands after a column's type
 abbrev SpellsRest : Spelling (Option (ℕ × ℕ) × (Option Encryption × (Option Bool × Option ℕ)))
 SpellsRest = Both (Optional (Both (Word keyword.Collate) (Reads (codes "LATIN1_GENERAL_BIN2")))) (Both (Optional SpellsEncryption) (Both (Optional SpellsNullity) (Optional (Word keyword.Unique))))
 

@@ -12,22 +12,22 @@ use Rattle.catalog.specs.Catalogs.{Catalog}
 use Rattle.enc_types.specs.Least.{inferred_encs}
 use Rattle.expression_binding.specs.Declarations.{type_of}
 use Rattle.expression_binding.proofs.Interface.{first_part}
-use Rattle.statement_analysis.specs.Describing.{Meant, binding_of, understood, with_encs}
+use Rattle.statement_analysis.specs.Describing.{Analysis, binding_of, analyzed, with_encs}
 use Rattle.proper_value_laws.specs.Laws.{TextsAreProper}
 use Rattle.proper_value_laws.proofs.Binding.{IsBoundProper, bound_proper}
 use Rattle.proper_value_laws.proofs.Texts.{text_read}
 
-typed_is : (b : Bound) (o : Result (List Enc) ℕ) (meant : Meant) → with_encs b o ≡ Ok meant → b ≡ meant.bound
-typed_is b (Err at) meant e = cc
-typed_is b (Ok encs) meant e =
-    let same : record { bound = b; encs = encs } ≡ meant = cc in
-    ap (λ (m : Meant). m.bound) same
+typed_is : (b : Bound) (o : Result (List Enc) ℕ) (analysis : Analysis) → with_encs b o ≡ Ok analysis → b ≡ analysis.bound
+typed_is b (Err at) analysis e = cc
+typed_is b (Ok encs) analysis e =
+    let same : record { bound = b; encs = encs } ≡ analysis = cc in
+    ap (λ (m : Analysis). m.bound) same
 
-meant_proper : TreeIsTheGrammars → (catalog : Catalog) (text : List ℕ) (ds : List ParamDecl) (meant : Meant) → understood catalog text ds ≡ Ok meant → IsBoundProper catalog ds meant.bound
-unfolding understood
-meant_proper grammar catalog text ds meant e =
-    first_part (binding_of catalog text ds) _ meant (IsBoundProper catalog ds meant.bound) e
-    (λ b eb e1. subst (IsBoundProper catalog ds) (typed_is b (inferred_encs b) meant e1)
+analysis_proper : TreeIsTheGrammars → (catalog : Catalog) (text : List ℕ) (ds : List ParamDecl) (analysis : Analysis) → analyzed catalog text ds ≡ Ok analysis → IsBoundProper catalog ds analysis.bound
+unfolding analyzed
+analysis_proper grammar catalog text ds analysis e =
+    first_part (binding_of catalog text ds) _ analysis (IsBoundProper catalog ds analysis.bound) e
+    (λ b eb e1. subst (IsBoundProper catalog ds) (typed_is b (inferred_encs b) analysis e1)
     (first_part (statement_in (encode_utf8_all text)) _ b (IsBoundProper catalog ds b) eb
     (λ s es e2.
     let r = text_read grammar (encode_utf8_all text) s es in
@@ -35,8 +35,8 @@ meant_proper grammar catalog text ds meant e =
 
 pub texts_proper : TreeIsTheGrammars → TextsAreProper
 texts_proper grammar = record {
-  statements = λ catalog text ds meant e. (meant_proper grammar catalog text ds meant e).statement;
-  bound = λ catalog text ds meant tables types e.
-      let h = meant_proper grammar catalog text ds meant e in
+  statements = λ catalog text ds analysis e. (analysis_proper grammar catalog text ds analysis e).statement;
+  bound = λ catalog text ds analysis tables types e.
+      let h = analysis_proper grammar catalog text ds analysis e in
       record { statement = h.statement; columns = h.columns tables; params = subst (All IsType) (sym h.params) (All-map IsType type_of ds types) };
 }

@@ -59,14 +59,14 @@ use Rattle.sql_tree.specs.declared.lexemes.Lexeme.{Lexeme}
 use Rattle.sql_tree.specs.declared.lexemes.Lexeme.TheVariants as lexeme
 use Rattle.sql_tree.specs.declared.lexemes.Token.{Token}
 use Rattle.sql_tree.specs.Tokens.{
-  Front,
+  NextToken,
   begins_word,
   is_digit,
   value_of_digits,
   binary_of,
   bracketed_lexeme,
   first_wide,
-  front,
+  next_token,
   is_name,
   is_word_byte,
   in_capitals,
@@ -74,10 +74,10 @@ use Rattle.sql_tree.specs.Tokens.{
   keywords,
   named,
   named_in,
-  number_front,
+  next_number,
   passed_over,
   quoted,
-  symbol_front,
+  next_symbol,
   text_lexeme,
   then_tokens,
   tokens_from,
@@ -98,10 +98,10 @@ pub record IsProperToken (t : Token) : Type 0 where
   pub read : IsProperLexeme t.lexeme
   pub narrow : wide 9223372036854775807 t.lexeme ≡ false
 
--- ---- the token at the front of a text
+-- ---- the token at the start of a text
 
-record Fine (front : Front) : Type 0 where
-  read : (l : Lexeme) (n : ℕ) → front ≡ Some (l, n) → IsProperLexeme l
+record Fine (next_token : NextToken) : Type 0 where
+  read : (l : Lexeme) (n : ℕ) → next_token ≡ Some (l, n) → IsProperLexeme l
 
 fine_none : Fine None
 fine_none = record { read = λ l n e. cc }
@@ -109,11 +109,11 @@ fine_none = record { read = λ l n e. cc }
 fine_some : (l : Lexeme) (n : ℕ) → IsProperLexeme l → Fine (Some (l, n))
 fine_some l n h = record { read = λ k m e. let same : (l, n) ≡ (k, m) = cc in subst IsProperLexeme (ap (λ (r : Lexeme × ℕ). r.0) same) h }
 
-fine_if : (b : Bool) {x y : Front} → Fine x → Fine y → Fine (cond b x y)
+fine_if : (b : Bool) {x y : NextToken} → Fine x → Fine y → Fine (cond b x y)
 fine_if true p q = p
 fine_if false p q = q
 
-fine_when : (b : Bool) (x : Front) → (b ≡ true → Fine x) → Fine (cond b x None)
+fine_when : (b : Bool) (x : NextToken) → (b ≡ true → Fine x) → Fine (cond b x None)
 fine_when true x h = h refl
 fine_when false x h = fine_none
 
@@ -210,12 +210,12 @@ binary_fine : (len : ℕ) (r : Result (List ℕ) FromHexError) → ((bytes : Lis
 binary_fine len (Ok bytes) h = fine_some (lexeme.Binary bytes) len (h bytes refl)
 binary_fine len (Err fault) h = fine_none
 
--- ---- each front
+-- ---- each prefix
 
 fine_symbol : (s : Symbol) (n : ℕ) → Fine (Some (lexeme.Symbol s, n))
 fine_symbol s n = fine_some (lexeme.Symbol s) n tt
 
-symbol_fine : (b next : ℕ) → Fine (symbol_front b next)
+symbol_fine : (b next : ℕ) → Fine (next_symbol b next)
 symbol_fine b next =
     fine_if (b == 40) (fine_symbol symbol.Open 1) (fine_if (b == 41) (fine_symbol symbol.Close 1) (fine_if (b == 44) (fine_symbol symbol.Comma 1)
     (fine_if (b == 46) (fine_symbol symbol.Dot 1) (fine_if (b == 59) (fine_symbol symbol.Semicolon 1) (fine_if (b == 61) (fine_symbol symbol.Equal 1)
@@ -224,12 +224,12 @@ symbol_fine b next =
     (fine_if (b == 33) (fine_if (next == 61) (fine_symbol symbol.NotEqual 2) fine_none)
     (fine_if (b == 43) (fine_symbol symbol.Plus 1) (fine_if (b == 45) (fine_symbol symbol.Minus 1) (fine_if (b == 42) (fine_symbol symbol.Star 1) fine_none)))))))))))
 
-number_fine : (bytes : List ℕ) → Fine (number_front bytes)
+number_fine : (bytes : List ℕ) → Fine (next_number bytes)
 number_fine bytes = let digits = take_while is_digit bytes in
     fine_if (begins_word (slice_index bytes (length digits))) fine_none (fine_some (lexeme.Number (value_of_digits digits)) (length digits) tt)
 
-front_fine : (bytes : List ℕ) → Fine (front bytes)
-front_fine bytes =
+prefix_fine : (bytes : List ℕ) → Fine (next_token bytes)
+prefix_fine bytes =
     let b = slice_index bytes 0 in
     let next = slice_index bytes 1 in
     let digits = take_while is_word_byte (drop 2 bytes) in
@@ -251,21 +251,21 @@ read_then : (t : Token) (o : Option (List Token)) (tokens : List Token) → IsPr
 read_then t None tokens p q e = cc
 read_then t (Some ts) tokens p q e = let same : t ∷ ts ≡ tokens = cc in subst AreRead same (All-cons (λ (t : Token). IsProperLexeme t.lexeme) t ts p (q ts refl))
 
-read_front : (at : ℕ) (f : Front) (found : ℕ → Option (List Token)) (tokens : List Token) → Fine f → ((skip : ℕ) (ts : List Token) → found skip ≡ Some ts → AreRead ts)
+read_prefix : (at : ℕ) (f : NextToken) (found : ℕ → Option (List Token)) (tokens : List Token) → Fine f → ((skip : ℕ) (ts : List Token) → found skip ≡ Some ts → AreRead ts)
     → option_and_then (then_tokens at found) f ≡ Some tokens → AreRead tokens
-read_front at None found tokens p q e = cc
-read_front at (Some f) found tokens p q e = read_then (record { at = at; lexeme = f.0 }) (found (f.1 - 1)) tokens (p.read f.0 f.1 refl) (q (f.1 - 1)) e
+read_prefix at None found tokens p q e = cc
+read_prefix at (Some f) found tokens p q e = read_then (record { at = at; lexeme = f.0 }) (found (f.1 - 1)) tokens (p.read f.0 f.1 refl) (q (f.1 - 1)) e
 
-read_either : (at : ℕ) (t : Bool) (skip : ℕ) (f : Front) (found : ℕ → Option (List Token)) (tokens : List Token) → Fine f → ((skip : ℕ) (ts : List Token) → found skip ≡ Some ts → AreRead ts)
+read_either : (at : ℕ) (t : Bool) (skip : ℕ) (f : NextToken) (found : ℕ → Option (List Token)) (tokens : List Token) → Fine f → ((skip : ℕ) (ts : List Token) → found skip ≡ Some ts → AreRead ts)
     → cond t (found skip) (option_and_then (then_tokens at found) f) ≡ Some tokens → AreRead tokens
 read_either at true skip f found tokens p q e = q skip tokens e
-read_either at false skip f found tokens p q e = read_front at f found tokens p q e
+read_either at false skip f found tokens p q e = read_prefix at f found tokens p q e
 
 all_read : (at skip : ℕ) (bytes : List ℕ) (tokens : List Token) → tokens_from at skip bytes ≡ Some tokens → AreRead tokens
 all_read at skip [] tokens e = let same : [] ≡ tokens = cc in subst AreRead same (All-nil (λ (t : Token). IsProperLexeme t.lexeme))
 all_read at (suc skip) (b ∷ bytes) tokens e = all_read (at + 1) skip bytes tokens e
 all_read at zero (b ∷ bytes) tokens e =
-    read_either at (nat_lt 0 (passed_over (b ∷ bytes))) (passed_over (b ∷ bytes) - 1) (front (b ∷ bytes)) (λ skip. tokens_from (at + 1) skip bytes) tokens (front_fine (b ∷ bytes))
+    read_either at (nat_lt 0 (passed_over (b ∷ bytes))) (passed_over (b ∷ bytes) - 1) (next_token (b ∷ bytes)) (λ skip. tokens_from (at + 1) skip bytes) tokens (prefix_fine (b ∷ bytes))
     (λ skip ts. all_read (at + 1) skip bytes ts) e
 
 -- ---- numbers

@@ -1,11 +1,11 @@
--- The laws of proper values, from the texts of statements to what is stored and answered.
+-- The laws of proper values, from the texts of statements to stored values and answers.
 use Rattle.std.specs.Prelude.{◌≡◌, ℕ, List, Ok}
 use Rattle.std.specs.List.{All}
 use Rattle.ae_base.specs.Types.{IsType}
 use Rattle.ae_base.specs.declared.batches.ParamDecl.{ParamDecl}
 use Rattle.catalog.specs.Catalogs.{Catalog}
 use Rattle.wire_messages.specs.declared.requests.Request.{Request}
-use Rattle.statement_analysis.specs.Describing.{Meant, understood}
+use Rattle.statement_analysis.specs.Describing.{Analysis, analyzed}
 use Rattle.transactions.specs.Stores.{Ask, Store, transact}
 use Rattle.server_core.specs.Serve.{State, catalog_of, serve}
 use Rattle.proper_value_laws.specs.Proper.{HasProperTables, IsProperAnswer, IsProperAsk, IsProperBound, IsProperStatement, IsProperStore}
@@ -13,10 +13,10 @@ use Rattle.proper_value_laws.specs.Proper.{HasProperTables, IsProperAnswer, IsPr
 -- Whatever a text is, its statement's literals are proper, and so are the tables that it defines. Over a catalog whose tables are proper the types
 -- of all that it reads are types, where those of its parameters are.
 pub record TextsAreProper : Type 0 where
-  pub statements : (catalog : Catalog) (text : List ℕ) (declarations : List ParamDecl) (meant : Meant)
-      → understood catalog text declarations ≡ Ok meant → IsProperStatement meant.bound.statement
-  pub bound : (catalog : Catalog) (text : List ℕ) (declarations : List ParamDecl) (meant : Meant) → HasProperTables catalog → All (λ (d : ParamDecl). IsType d.ty) declarations
-      → understood catalog text declarations ≡ Ok meant → IsProperBound meant.bound
+  pub statements : (catalog : Catalog) (text : List ℕ) (declarations : List ParamDecl) (analysis : Analysis)
+      → analyzed catalog text declarations ≡ Ok analysis → IsProperStatement analysis.bound.statement
+  pub bound : (catalog : Catalog) (text : List ℕ) (declarations : List ParamDecl) (analysis : Analysis) → HasProperTables catalog → All (λ (d : ParamDecl). IsType d.ty) declarations
+      → analyzed catalog text declarations ≡ Ok analysis → IsProperBound analysis.bound
 
 -- what is stored stays proper, and what is answered is
 pub record StaysProper (store : Store) (session : ℕ) (ask : Ask) : Type 0 where

@@ -78,7 +78,7 @@ abbrev pub IsProperItem : BoundItemValue → Type 0
 IsProperItem (bound.Value operand) = IsProperOperand operand
 IsProperItem (bound.Count at) = Unit {0}
 
--- behind REPLACE BY the new table has the old one's name
+-- after REPLACE BY the new table has the old one's name
 abbrev pub DefinesProper : BoundDefinition → Type 0
 DefinesProper (definition.CreateTable table) = IsProperTable table.def
 DefinesProper (definition.ReplaceTable old new) = IsIdentifier old

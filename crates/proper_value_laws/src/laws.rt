@@ -13,8 +13,8 @@ pub fn texts_are_proper()
     reads_the_grammar();
 }
 
-/// Where what is stored and what is asked is proper, what is stored after it and what is answered
-/// is so.
+/// If the stored values and the request are proper, so are the values stored after it and the
+/// answer.
 pub fn proper_values_stay()
     ensures { ProperValuesStay }
 {}

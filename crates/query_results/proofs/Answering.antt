@@ -1,4 +1,4 @@
--- What comes behind the walk of a query keeps what holds of each row, and goes alike over rows that correspond.
+-- What comes after the walk of a query keeps what holds of each row, and goes alike over rows that correspond.
 use Rattle.std.proofs.Common.{◌≡◌, ℕ, zero, suc, List, [], ◌∷◌, ◌++◌, length, map, append_assoc, refl, ap, sym, subst, ◌∙◌, arith, Option, Some, None, Ordering}
 use Rattle.std.specs.Prelude.{IsSome}
 use Rattle.std.specs.List.{All, AllZip}

@@ -17,14 +17,14 @@ use Rattle.operators.specs.Events.{or_overflow}
 use Rattle.operators.specs.Found.{Found, keys_of}
 use Rattle.query_results.specs.Results.{item_of, items_of, found_of}
 
-read_null : (row : List Atom) → All (λ atom. atom ≡ Null) row → (place : ℕ) → atom_at row place ≡ atom_at [] place
-read_null [] h place = refl
+read_null : (row : List Atom) → All (λ atom. atom ≡ Null) row → (ordinal : ℕ) → atom_at row ordinal ≡ atom_at [] ordinal
+read_null [] h ordinal = refl
 read_null (a ∷ row) h zero = All-head (λ atom. atom ≡ Null) a row h
-read_null (a ∷ row) h (suc place) = read_null row (All-tail (λ atom. atom ≡ Null) a row h) place
+read_null (a ∷ row) h (suc ordinal) = read_null row (All-tail (λ atom. atom ≡ Null) a row h) ordinal
 
 -- ---- rows that read alike
 
-module _ (row other params : List Atom) (same : (place : ℕ) → atom_at row place ≡ atom_at other place) where
+module _ (row other params : List Atom) (same : (ordinal : ℕ) → atom_at row ordinal ≡ atom_at other ordinal) where
   mutual
     eval_same : (v : BoundOperand) → eval row params v ≡ eval other params v
     eval_same (operands.Literal at v) = refl
@@ -62,7 +62,7 @@ module _ (row other params : List Atom) (same : (place : ℕ) → atom_at row pl
 
   keys_same : (keys : List BoundOrderKey) → keys_of keys row ≡ keys_of keys other
   keys_same [] = refl
-  keys_same (key ∷ keys) = ap (λ a. a ∷ keys_of keys row) (same key.place) ∙ ap (λ ks. atom_at other key.place ∷ ks) (keys_same keys)
+  keys_same (key ∷ keys) = ap (λ a. a ∷ keys_of keys row) (same key.ordinal) ∙ ap (λ ks. atom_at other key.ordinal ∷ ks) (keys_same keys)
 
 abbrev found_parts : List Atom → List Atom → Found
 found_parts keys shown = record { keys = keys; shown = shown }

@@ -33,7 +33,7 @@ abbrev pub checked : {A : Type 0} → Result A SqlFault → Result (Unit {0}) Sq
 checked (Ok x) = Ok tt
 checked (Err fault) = Err fault
 
--- what was kept of so many rows, and then what is found of the events behind them
+-- what was kept of so many rows, and then what is found of the events after them
 abbrev pub behind_found : {A B : Type 0} → (A → B) → (List Atom → Result B SqlFault) → ℕ → List A → List Event → Result (List B) SqlFault
 behind_found view f count kept events = results f count events >>= λ rest. Ok (map view kept ++ rest)
 

@@ -46,7 +46,7 @@ fn distinct_if<'a, K: Same>(
     }
 }
 
-/// Keeps so many from the front, or all.
+/// Keeps so many from the start, or all.
 fn top<K: Same>(found: &mut Vec<Found<'_, K>>, most: Option<u64>)
     ensures { found.new.items ≡ top_of most found.old.items }
 {

@@ -1,5 +1,5 @@
-//! What a query shows of the rows that its walk meets: items, groups, and DISTINCT, ORDER BY and
-//! TOP behind them.
+//! What a query shows of the rows that its walk meets: items, groups, and after them DISTINCT,
+//! ORDER BY and TOP.
 #![tactic(auto)]
 
 mod answered;

@@ -8,7 +8,7 @@ use Rattle.catalog.specs.Definitions.{defined_by, effect_of, followed}
 use Rattle.engine.specs.Step.{Defined, Outcome, done_by, outcome}
 use Rattle.sql_tree.specs.Bound.{BoundStatement}
 use Rattle.sql_tree.specs.Bound as bound
-use Rattle.sql_tree.specs.Sorts.{is_defining}
+use Rattle.sql_tree.specs.Kinds.{is_defining}
 use Rattle.sql_tree.specs.declared.bound.BoundDefinition.{BoundDefinition}
 use Rattle.transactions.specs.Counted.{Counted, CountedOutcome, Execution, counted, counted_step}
 use Rattle.transactions.specs.Journal.{is_lasting}

@@ -4,9 +4,9 @@ use Rattle.std.specs.Prelude.{if◌then◌else◌, replicate, slice_set, slice_i
 use Rattle.wire_messages.specs.Exchanges.{Served}
 use Rattle.wire_messages.specs.declared.requests.Request.{Request}
 use Rattle.wire_messages.specs.declared.requests.Request.TheVariants.{Describe, Execute}
-use Rattle.statement_analysis.specs.Sorts.{sort_of}
-use Rattle.statement_analysis.specs.declared.sorts.Sort.{Sort}
-use Rattle.statement_analysis.specs.declared.sorts.Sort.TheVariants.{Reads, Changes, Defines, Begins, Commits, RollsBack, NoStatement}
+use Rattle.statement_analysis.specs.Kinds.{kind_of}
+use Rattle.statement_analysis.specs.declared.kinds.TextKind.{TextKind}
+use Rattle.statement_analysis.specs.declared.kinds.TextKind.TheVariants.{Reads, Changes, Defines, Begins, Commits, RollsBack, NoStatement}
 use Rattle.server_core.specs.Serve.{State, serve}
 use Rattle.recording_laws.specs.Recorded.{Kept, kept, is_done, kept_of, kept_where, kept_by, has_transaction, nothing_held, held_at, with_held, session_of, recorded}
 
@@ -25,17 +25,17 @@ module _ {A B : Type 0} (f : A → B) where
   more : (xs : List A) (x : A) → map f xs ++ f x ∷ [] ≡ map f (xs ++ x ∷ [])
   more xs x = sym (map_append f xs (x ∷ []))
 
-  of_sort : (sort : Sort) (held : List A) (asked : A) → Forgets (kept_of sort held asked) (kept_of sort (map f held) (f asked))
-  of_sort Reads held asked = refl
-  of_sort Changes [] asked = refl
-  of_sort Changes (begin ∷ changes) asked = ap (λ xs. kept [] (f begin ∷ xs)) (more changes asked)
-  of_sort Defines held asked = refl
-  of_sort Begins held asked = refl
-  of_sort Commits [] asked = refl
-  of_sort Commits (begin ∷ []) asked = refl
-  of_sort Commits (begin ∷ change ∷ changes) asked = ap (λ xs. kept ((f begin ∷ f change ∷ xs) ∷ []) []) (more changes asked)
-  of_sort RollsBack held asked = refl
-  of_sort NoStatement held asked = refl
+  of_kind : (kind : TextKind) (held : List A) (asked : A) → Forgets (kept_of kind held asked) (kept_of kind (map f held) (f asked))
+  of_kind Reads held asked = refl
+  of_kind Changes [] asked = refl
+  of_kind Changes (begin ∷ changes) asked = ap (λ xs. kept [] (f begin ∷ xs)) (more changes asked)
+  of_kind Defines held asked = refl
+  of_kind Begins held asked = refl
+  of_kind Commits [] asked = refl
+  of_kind Commits (begin ∷ []) asked = refl
+  of_kind Commits (begin ∷ change ∷ changes) asked = ap (λ xs. kept ((f begin ∷ f change ∷ xs) ∷ []) []) (more changes asked)
+  of_kind RollsBack held asked = refl
+  of_kind NoStatement held asked = refl
 
   of_where : (there : Bool) (held : List A) → Forgets (kept_where there held) (kept_where there (map f held))
   of_where true held = refl
@@ -46,9 +46,9 @@ module _ {A B : Type 0} (f : A → B) where
   of_one (Execute session version text params) asked served held = by (is_done served.replies)
     where
       by : (b : Bool)
-          → Forgets (if b then kept_of (sort_of text) held asked else kept_where (has_transaction served.after session) held)
-          (if b then kept_of (sort_of text) (map f held) (f asked) else kept_where (has_transaction served.after session) (map f held))
-      by true = of_sort (sort_of text) held asked
+          → Forgets (if b then kept_of (kind_of text) held asked else kept_where (has_transaction served.after session) held)
+          (if b then kept_of (kind_of text) (map f held) (f asked) else kept_where (has_transaction served.after session) (map f held))
+      by true = of_kind (kind_of text) held asked
       by false = of_where (has_transaction served.after session) held
 
   -- of what is held of all sessions

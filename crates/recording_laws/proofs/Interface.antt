@@ -2,5 +2,5 @@
 
 -- Recording commutes with forgetting, as the versions of requests.
 pub use Rattle.recording_laws.proofs.Forgetting.{map_append, records_forget}
--- Behind records the state can stand, and where they are served again there is no transaction.
+-- After records the state can stand, and where they are served again there is no transaction.
 pub use Rattle.recording_laws.proofs.Replays.{none_behind, store_behind}

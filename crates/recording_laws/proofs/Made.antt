@@ -7,7 +7,7 @@ use Rattle.ae_base.specs.declared.faults.SqlFault.TheVariants as fault
 use Rattle.catalog.specs.Catalogs.{Catalog}
 use Rattle.engine.specs.Step.{Answer, Rows, Changed, Defined}
 use Rattle.engine.specs.declared.answers.ResultColumn.{ResultColumn}
-use Rattle.sql_tree.specs.Sorts.{is_definition, is_defining, target}
+use Rattle.sql_tree.specs.Kinds.{is_definition, is_defining, target}
 use Rattle.transactions.specs.Counted.{Counted, counted_step}
 use Rattle.transactions.specs.Journal.{call_of, calls_in, AreAccepted}
 use Rattle.transactions.specs.Serial.{Deed, Call, all_after}
@@ -34,11 +34,11 @@ use Rattle.transactions.proofs.Interface.{IsKeptSo, changes_show_no_rows, idle, 
 use Rattle.wire_messages.specs.Exchanges.{Served}
 use Rattle.wire_messages.specs.declared.requests.Request.{Request}
 use Rattle.wire_messages.specs.declared.requests.Request.TheVariants.{Describe, Execute}
-use Rattle.statement_analysis.specs.Describing.{Meant}
+use Rattle.statement_analysis.specs.Describing.{Analysis}
 use Rattle.server_core.specs.Serve.{State, answered, prepared, ask_of, catalog_of, executed, serve, asked, called, calls_of}
 use Rattle.server_core.proofs.Interface.{answered_after}
 use Rattle.recording_laws.specs.Recorded.{is_done, session_of, after_requests, after_records}
-use Rattle.recording_laws.specs.Laws.{AreDone, AreServedAgain, by_place, calls_of_records}
+use Rattle.recording_laws.specs.Laws.{AreDone, AreServedAgain, by_slot, calls_of_records}
 use Rattle.recording_laws.proofs.Catalogs.{catalog_behind, step_leaves}
 use Rattle.recording_laws.proofs.Held.{AreChanges, AsksSo, called_at, called_is, catalog_made}
 use Rattle.recording_laws.proofs.Slots.{set_there, set_within}
@@ -127,7 +127,7 @@ served_so : (s : State) (request : Request) (ask : Ask) → called s request ≡
 served_so s (Describe session text declarations) ask h = absurd cc
 served_so s (Execute session version text params) ask h = by (prepared (catalog_of s session) version text params) h
   where
-    by : (p : Result (Meant × List Atom) SqlFault) → asked session p ≡ call_of session ask ∷ []
+    by : (p : Result (Analysis × List Atom) SqlFault) → asked session p ≡ call_of session ask ∷ []
         → executed s session p ≡ answered (catalog_of s session) (transact s session ask).answer (transact s session ask).after
     by (Ok ready) h =
         let is : ask_of ready ≡ ask = ap (ask_in ask) h in
@@ -164,22 +164,22 @@ makes_done (request ∷ requests) (c ∷ cs) s m a =
     ((d.0, subst (λ x. AreDone x requests) (sym d.1) more.0), ap (λ x. after_requests x requests) d.1 ∙ more.1)
 
 -- by the places of their sessions, they are the calls that the requests make of the state
-makes_calls : (requests : List Request) (cs : List Call) (s : State) → Makes s requests cs → AreAccepted s cs → map by_place (calls_of s requests) ≡ map by_place cs
+makes_calls : (requests : List Request) (cs : List Call) (s : State) → Makes s requests cs → AreAccepted s cs → map by_slot (calls_of s requests) ≡ map by_slot cs
 makes_calls [] [] s m a = refl
 makes_calls [] (c ∷ cs) s m a = absurd m
 makes_calls (request ∷ requests) [] s m a = absurd m
 makes_calls (request ∷ requests) (c ∷ cs) s m a =
     let d = asks_done s c request m.0 a.0 in
-    ap (λ (xs : List Call). map by_place (xs ++ calls_of (serve s request).after requests)) m.0.asks
-    ∙ ap (λ (x : State). (session_of request - 1, c.ask) ∷ map by_place (calls_of x requests)) d.1
-    ∙ ap (λ (n : ℕ). (n, c.ask) ∷ map by_place (calls_of (transact s c.session c.ask).after requests)) m.0.lies
-    ∙ ap (λ (xs : List (ℕ × Ask)). by_place c ∷ xs) (makes_calls requests cs (transact s c.session c.ask).after m.1 a.1)
+    ap (λ (xs : List Call). map by_slot (xs ++ calls_of (serve s request).after requests)) m.0.asks
+    ∙ ap (λ (x : State). (session_of request - 1, c.ask) ∷ map by_slot (calls_of x requests)) d.1
+    ∙ ap (λ (n : ℕ). (n, c.ask) ∷ map by_slot (calls_of (transact s c.session c.ask).after requests)) m.0.lies
+    ∙ ap (λ (xs : List (ℕ × Ask)). by_slot c ∷ xs) (makes_calls requests cs (transact s c.session c.ask).after m.1 a.1)
 
 -- from one shared world the records lead to the other, and make the calls of a journal
 pub record Goes (shared now : Counted) (records : List (List Request)) (journal : List (List Call)) : Type 0 where
   pub served : AreServedAgain (idle shared) records
   pub after : after_records (idle shared) records ≡ idle now
-  pub calls : map (map by_place) (calls_of_records (idle shared) records) ≡ map (map by_place) journal
+  pub calls : map (map by_slot) (calls_of_records (idle shared) records) ≡ map (map by_slot) journal
 
 pub record_goes : (shared now : Counted) (requests : List Request) (cs : List Call) → Makes (idle shared) requests cs → IsKeptSo shared now (cs ∷ []) → Goes shared now (requests ∷ []) (cs ∷ [])
 record_goes shared now requests cs m kept =

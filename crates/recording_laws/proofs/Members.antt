@@ -7,9 +7,9 @@ use Rattle.transactions.proofs.Interface.{all_at, all_set}
 use Rattle.wire_messages.specs.Exchanges.{Served}
 use Rattle.wire_messages.specs.declared.requests.Request.{Request}
 use Rattle.wire_messages.specs.declared.requests.Request.TheVariants.{Describe, Execute}
-use Rattle.statement_analysis.specs.Sorts.{sort_of}
-use Rattle.statement_analysis.specs.declared.sorts.Sort.{Sort}
-use Rattle.statement_analysis.specs.declared.sorts.Sort.TheVariants.{Reads, Changes, Defines, Begins, Commits, RollsBack, NoStatement}
+use Rattle.statement_analysis.specs.Kinds.{kind_of}
+use Rattle.statement_analysis.specs.declared.kinds.TextKind.{TextKind}
+use Rattle.statement_analysis.specs.declared.kinds.TextKind.TheVariants.{Reads, Changes, Defines, Begins, Commits, RollsBack, NoStatement}
 use Rattle.server_core.specs.Serve.{State, serve}
 use Rattle.recording_laws.specs.Recorded.{Kept, kept, is_done, kept_of, kept_where, kept_by, has_transaction, nothing_held, held_at, with_held, session_of, recorded}
 
@@ -35,17 +35,17 @@ module _ {A : Type 0} (P : A → Type 0) where
   single : (request : A) → P request → All P (request ∷ [])
   single request p = All-cons P request [] p (All-nil P)
 
-  sort_of_them : (sort : Sort) (held : List A) (request : A) → All P held → P request → AreOf (kept_of sort held request)
-  sort_of_them Reads held request h p = only_held held h
-  sort_of_them Changes [] request h p = one_record (request ∷ []) [] (single request p) (All-nil P)
-  sort_of_them Changes (begin ∷ changes) request h p = only_held (begin ∷ changes ++ request ∷ []) (All-push P (begin ∷ changes) request h p)
-  sort_of_them Defines held request h p = one_record (request ∷ []) held (single request p) h
-  sort_of_them Begins held request h p = only_held (request ∷ []) (single request p)
-  sort_of_them Commits [] request h p = only_held [] (All-nil P)
-  sort_of_them Commits (begin ∷ []) request h p = only_held [] (All-nil P)
-  sort_of_them Commits (begin ∷ change ∷ changes) request h p = one_record (begin ∷ change ∷ changes ++ request ∷ []) [] (All-push P (begin ∷ change ∷ changes) request h p) (All-nil P)
-  sort_of_them RollsBack held request h p = only_held [] (All-nil P)
-  sort_of_them NoStatement held request h p = only_held held h
+  kind_of_them : (kind : TextKind) (held : List A) (request : A) → All P held → P request → AreOf (kept_of kind held request)
+  kind_of_them Reads held request h p = only_held held h
+  kind_of_them Changes [] request h p = one_record (request ∷ []) [] (single request p) (All-nil P)
+  kind_of_them Changes (begin ∷ changes) request h p = only_held (begin ∷ changes ++ request ∷ []) (All-push P (begin ∷ changes) request h p)
+  kind_of_them Defines held request h p = one_record (request ∷ []) held (single request p) h
+  kind_of_them Begins held request h p = only_held (request ∷ []) (single request p)
+  kind_of_them Commits [] request h p = only_held [] (All-nil P)
+  kind_of_them Commits (begin ∷ []) request h p = only_held [] (All-nil P)
+  kind_of_them Commits (begin ∷ change ∷ changes) request h p = one_record (begin ∷ change ∷ changes ++ request ∷ []) [] (All-push P (begin ∷ change ∷ changes) request h p) (All-nil P)
+  kind_of_them RollsBack held request h p = only_held [] (All-nil P)
+  kind_of_them NoStatement held request h p = only_held held h
 
   where_of_them : (there : Bool) (held : List A) → All P held → AreOf (kept_where there held)
   where_of_them true held h = only_held held h
@@ -56,8 +56,8 @@ module _ {A : Type 0} (P : A → Type 0) where
   kept_are (Describe session text declarations) asked served held h p = only_held held h
   kept_are (Execute session version text params) asked served held h p = by (is_done served.replies)
     where
-      by : (b : Bool) → AreOf (if b then kept_of (sort_of text) held asked else kept_where (has_transaction served.after session) held)
-      by true = sort_of_them (sort_of text) held asked h (p tt)
+      by : (b : Bool) → AreOf (if b then kept_of (kind_of text) held asked else kept_where (has_transaction served.after session) held)
+      by true = kind_of_them (kind_of text) held asked h (p tt)
       by false = where_of_them (has_transaction served.after session) held h
 
   module _ (request_of : A → Request) where

@@ -14,15 +14,15 @@ use Rattle.transactions.proofs.Interface.{AreLogged, idle, length_nobody, logged
 use Rattle.wire_messages.specs.declared.params.SentParam.{SentParam}
 use Rattle.wire_messages.specs.declared.requests.Request.{Request}
 use Rattle.wire_messages.specs.declared.requests.Request.TheVariants.{Describe, Execute}
-use Rattle.statement_analysis.specs.Describing.{Meant, describe}
-use Rattle.statement_analysis.specs.Sorts.{sort_of}
+use Rattle.statement_analysis.specs.Describing.{Analysis, describe}
+use Rattle.statement_analysis.specs.Kinds.{kind_of}
 use Rattle.server_core.specs.Serve.{State, answered, prepared, ask_of, catalog_of, executed, serve, asked, called, calls_of}
 use Rattle.server_core.specs.Laws.{RequestsMayBeAsked}
 use Rattle.server_core.specs.States.{any_cell}
-use Rattle.server_core.proofs.Interface.{answered_after, described_after, prepared_sort, sort_bound}
+use Rattle.server_core.proofs.Interface.{answered_after, described_after, prepared_kind, kind_bound}
 use Rattle.recording_laws.specs.Recorded.{Kept, kept, is_done, kept_of, kept_where, kept_by, has_transaction, nothing_held, held_at, with_held, session_of, requests_recorded}
 use Rattle.recording_laws.specs.Recorded.{after_requests, after_records}
-use Rattle.recording_laws.specs.Laws.{AreServedAgain, IsReplayed, by_place, calls_of_records}
+use Rattle.recording_laws.specs.Laws.{AreServedAgain, IsReplayed, by_slot, calls_of_records}
 use Rattle.recording_laws.proofs.Asked.{asked_step}
 use Rattle.recording_laws.proofs.Forgetting.{map_append}
 use Rattle.recording_laws.proofs.Held.{Holds, holds_later}
@@ -95,18 +95,18 @@ module _ (s : State) (logs : List (List Deed)) (held : List (List Request)) (h :
     request = Execute session version text params
 
     -- what is kept, where it is ready to be executed
-    ready_kept : (ready : Meant × List Atom) → prepared (catalog_of s session) version text params ≡ Ok ready
+    ready_kept : (ready : Analysis × List Atom) → prepared (catalog_of s session) version text params ≡ Ok ready
         → let t = transact s session (ask_of ready) in
-        kept_so (sort_bound ready.0.bound.statement) (held_at held session) request (catalog_of s session) session t ≡ kept_by request request (executed s session (Ok ready)) (held_at held session)
+        kept_so (kind_bound ready.0.bound.statement) (held_at held session) request (catalog_of s session) session t ≡ kept_by request request (executed s session (Ok ready)) (held_at held session)
     ready_kept ready e =
         let t = transact s session (ask_of ready) in
         let served = answered (catalog_of s session) t.answer t.after in
         ap (λ q. if is_done served.replies then kept_of q (held_at held session) request else kept_where (has_transaction t.after session) (held_at held session))
-        (sym (prepared_sort (catalog_of s session) version text params ready e))
-        ∙ ap (λ (x : State). if is_done served.replies then kept_of (sort_of text) (held_at held session) request
+        (sym (prepared_kind (catalog_of s session) version text params ready e))
+        ∙ ap (λ (x : State). if is_done served.replies then kept_of (kind_of text) (held_at held session) request
         else kept_where (has_transaction x session) (held_at held session)) (sym (answered_after (catalog_of s session) t.answer t.after))
 
-    ready_went : (ready : Meant × List Atom) → prepared (catalog_of s session) version text params ≡ Ok ready
+    ready_went : (ready : Analysis × List Atom) → prepared (catalog_of s session) version text params ≡ Ok ready
         → Went s logs session held (asked session (Ok ready)) (executed s session (Ok ready)).after (kept_by request request (executed s session (Ok ready)) (held_at held session))
     ready_went ready e =
         let x = execution ready.0.bound ready.0.encs ready.1 in
@@ -123,9 +123,9 @@ module _ (s : State) (logs : List (List Deed)) (held : List (List Request)) (h :
         subst (λ (after : State). Went s logs session held (asked session (Ok ready)) after
         (kept_by request request (executed s session (Ok ready)) (held_at held session))) (sym (answered_after (catalog_of s session) t.answer t.after))
         (subst (Went s logs session held (asked session (Ok ready)) t.after) (ready_kept ready e)
-        (stepped_so session (ask_of ready) (kept_so (sort_bound ready.0.bound.statement) (held_at held session) request (catalog_of s session) session t) may step))
+        (stepped_so session (ask_of ready) (kept_so (kind_bound ready.0.bound.statement) (held_at held session) request (catalog_of s session) session t) may step))
 
-    execute_went : (p : Result (Meant × List Atom) SqlFault) → prepared (catalog_of s session) version text params ≡ p
+    execute_went : (p : Result (Analysis × List Atom) SqlFault) → prepared (catalog_of s session) version text params ≡ p
         → Went s logs session held (asked session p) (executed s session p).after (kept_by request request (executed s session p) (held_at held session))
     execute_went (Ok ready) e = ready_went ready e
     execute_went (Err f) e = refused_so session
@@ -142,9 +142,9 @@ pub served_append : (s : State) (xs ys : List (List Request)) → AreServedAgain
 served_append s [] ys h g = g
 served_append s (x ∷ xs) ys h g = (h.0, h.1, served_append (after_requests s x) xs ys h.2 g)
 
-served_front : (s : State) (xs ys : List (List Request)) → AreServedAgain s (xs ++ ys) → AreServedAgain s xs
-served_front s [] ys h = tt
-served_front s (x ∷ xs) ys h = (h.0, h.1, served_front (after_requests s x) xs ys h.2)
+served_prefix : (s : State) (xs ys : List (List Request)) → AreServedAgain s (xs ++ ys) → AreServedAgain s xs
+served_prefix s [] ys h = tt
+served_prefix s (x ∷ xs) ys h = (h.0, h.1, served_prefix (after_requests s x) xs ys h.2)
 
 after_append : (s : State) (xs ys : List (List Request)) → after_records s (xs ++ ys) ≡ after_records (after_records s xs) ys
 after_append s [] ys = refl
@@ -159,8 +159,8 @@ goes_append a b c xs ys js ks f g = record {
   served = served_append (idle a) xs ys f.served (subst (λ x. AreServedAgain x ys) (sym f.after) g.served);
   after = after_append (idle a) xs ys ∙ ap (λ x. after_records x ys) f.after ∙ g.after;
   calls =
-      ap (map (map by_place)) (calls_append (idle a) xs ys ∙ ap (λ x. calls_of_records (idle a) xs ++ calls_of_records x ys) f.after)
-      ∙ map_append (map by_place) (calls_of_records (idle a) xs) (calls_of_records (idle b) ys) ∙ (λ i. f.calls i ++ g.calls i) ∙ sym (map_append (map by_place) js ks);
+      ap (map (map by_slot)) (calls_append (idle a) xs ys ∙ ap (λ x. calls_of_records (idle a) xs ++ calls_of_records x ys) f.after)
+      ∙ map_append (map by_slot) (calls_of_records (idle a) xs) (calls_of_records (idle b) ys) ∙ (λ i. f.calls i ++ g.calls i) ∙ sym (map_append (map by_slot) js ks);
 }
 
 -- ---- requests one after another
@@ -210,12 +210,12 @@ replayed law s requests store none =
 
 -- the records make the calls of the journal
 pub are_journals : RequestsMayBeAsked → (s : State) (requests : List Request) → IsStore any_cell s → HasNoTransactions s
-    → map (map by_place) (calls_of_records s (requests_recorded s nothing_held requests)) ≡ map (map by_place) (journal s no_logs (calls_of s requests))
+    → map (map by_slot) (calls_of_records s (requests_recorded s nothing_held requests)) ≡ map (map by_slot) (journal s no_logs (calls_of s requests))
 are_journals law s requests store none =
     let is : idle s.shared ≡ s = ap (λ ss. let x : Store = record { shared = s.shared; sessions = ss } in x) (sym none.none) in
-    ap (λ x. map (map by_place) (calls_of_records x (requests_recorded s nothing_held requests))) (sym is) ∙ (all_went law requests s no_logs nothing_held store (nothing_so s none)).goes.calls
+    ap (λ x. map (map by_slot) (calls_of_records x (requests_recorded s nothing_held requests))) (sym is) ∙ (all_went law requests s no_logs nothing_held store (nothing_so s none)).goes.calls
 
--- behind requests, and behind records of them, the state can stand
+-- after requests, and after records of them, the state can stand
 requests_behind : RequestsMayBeAsked → (requests : List Request) (s : State) → IsStore any_cell s → IsStore any_cell (after_requests s requests)
 requests_behind law [] s store = store
 requests_behind law (request ∷ requests) s store = requests_behind law requests (serve s request).after (law.1 s request store).store
@@ -224,16 +224,16 @@ pub store_behind : RequestsMayBeAsked → (records : List (List Request)) (s : S
 store_behind law [] s store = store
 store_behind law (requests ∷ records) s store = store_behind law records (after_requests s requests) (requests_behind law requests s store)
 
--- behind records that are served again there is no transaction
+-- after records that are served again there is no transaction
 pub none_behind : RequestsMayBeAsked → (records : List (List Request)) (s : State) → IsStore any_cell s → HasNoTransactions s → AreServedAgain s records → HasNoTransactions (after_records s records)
 none_behind law [] s store none h = none
 none_behind law (requests ∷ records) s store none h =
     let after = requests_behind law requests s store in
     none_behind law records (after_requests s requests) after (record { counts = after.shared.counts; none = h.1 }) h.2
 
-pub fronts_accepted : RequestsMayBeAsked → (s : State) (records front : List (List Request)) (requests : List Request) → IsStore any_cell s → HasNoTransactions s → AreServedAgain s records
-    → IsPrefix front (requests_recorded (after_records s records) nothing_held requests) → AreServedAgain s (records ++ front)
-fronts_accepted law s records front requests store none h f =
+pub prefixes_accepted : RequestsMayBeAsked → (s : State) (records prefix : List (List Request)) (requests : List Request) → IsStore any_cell s → HasNoTransactions s → AreServedAgain s records
+    → IsPrefix prefix (requests_recorded (after_records s records) nothing_held requests) → AreServedAgain s (records ++ prefix)
+prefixes_accepted law s records prefix requests store none h f =
     let given = after_records s records in
     let r = replayed law given requests (store_behind law records s store) (none_behind law records s store none h) in
-    served_append s records front h (served_front given front f.rest (subst (AreServedAgain given) f.is r.served))
+    served_append s records prefix h (served_prefix given prefix f.rest (subst (AreServedAgain given) f.is r.served))

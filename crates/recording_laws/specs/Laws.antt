@@ -19,7 +19,7 @@ abbrev pub AreDone : State → List Request → Type 0
 AreDone state [] = Unit {0}
 AreDone state (request ∷ requests) = (is_done (serve state request).replies ≡ true) × AreDone (serve state request).after requests
 
--- each request of each record is done, and no transaction is open behind a record
+-- each request of each record is done, and no transaction is open after a record
 abbrev pub AreServedAgain : State → List (List Request) → Type 0
 AreServedAgain state [] = Unit {0}
 AreServedAgain state (requests ∷ records) = AreDone state requests × IsIdle (after_requests state requests) × AreServedAgain (after_requests state requests) records
@@ -41,17 +41,17 @@ calls_of_records state [] = []
 calls_of_records state (requests ∷ records) = calls_of state requests ∷ calls_of_records (after_requests state requests) records
 
 -- a call by the place of its session: sessions are numbered from 1, and 0 would have the place of 1
-abbrev pub by_place : Call → ℕ × Ask
-by_place call = (call.session - 1, call.ask)
+abbrev pub by_slot : Call → ℕ × Ask
+by_slot call = (call.session - 1, call.ask)
 
 -- served again, the records of some requests make the calls that the journal of the requests' calls holds
 abbrev pub RecordsAreJournals : Type 0
 RecordsAreJournals = (state : State) (requests : List Request) → IsStore any_cell state → HasNoTransactions state
-    → map (map by_place) (calls_of_records state (requests_recorded state nothing_held requests)) ≡ map (map by_place) (journal state no_logs (calls_of state requests))
+    → map (map by_slot) (calls_of_records state (requests_recorded state nothing_held requests)) ≡ map (map by_slot) (journal state no_logs (calls_of state requests))
 
--- ---- fronts
+-- ---- prefixes
 
--- behind records that are served again, each front of what is recorded from the state that they lead to is served again too
+-- after records that are served again, each prefix of what is recorded from the state that they lead to is served again too
 abbrev pub PrefixesAreAccepted : Type 0
-PrefixesAreAccepted = (state : State) (records front : List (List Request)) (requests : List Request) → IsStore any_cell state → HasNoTransactions state → AreServedAgain state records
-    → IsPrefix front (requests_recorded (after_records state records) nothing_held requests) → AreServedAgain state (records ++ front)
+PrefixesAreAccepted = (state : State) (records prefix : List (List Request)) (requests : List Request) → IsStore any_cell state → HasNoTransactions state → AreServedAgain state records
+    → IsPrefix prefix (requests_recorded (after_records state records) nothing_held requests) → AreServedAgain state (records ++ prefix)

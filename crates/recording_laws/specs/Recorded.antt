@@ -9,9 +9,9 @@ use Rattle.wire_messages.specs.declared.replies.Reply.{Reply}
 use Rattle.wire_messages.specs.declared.replies.Reply.TheVariants.{Ended}
 use Rattle.wire_messages.specs.declared.requests.Request.{Request}
 use Rattle.wire_messages.specs.declared.requests.Request.TheVariants.{Describe, Execute}
-use Rattle.statement_analysis.specs.Sorts.{sort_of}
-use Rattle.statement_analysis.specs.declared.sorts.Sort.{Sort}
-use Rattle.statement_analysis.specs.declared.sorts.Sort.TheVariants.{Reads, Changes, Defines, Begins, Commits, RollsBack, NoStatement}
+use Rattle.statement_analysis.specs.Kinds.{kind_of}
+use Rattle.statement_analysis.specs.declared.kinds.TextKind.{TextKind}
+use Rattle.statement_analysis.specs.declared.kinds.TextKind.TheVariants.{Reads, Changes, Defines, Begins, Commits, RollsBack, NoStatement}
 use Rattle.server_core.specs.Serve.{State, serve, serve_all}
 pub use Rattle.server_core.specs.Serve.{session_of}
 
@@ -32,7 +32,7 @@ abbrev pub kept : {A : Type 0} → List (List A) → List A → Kept A
 kept records held = record { records = records; held = held }
 
 -- of a statement that is done: nothing is held of a session without a transaction, else its BEGIN and its changes so far
-abbrev pub kept_of : {A : Type 0} → Sort → List A → A → Kept A
+abbrev pub kept_of : {A : Type 0} → TextKind → List A → A → Kept A
 kept_of Reads held request = kept [] held
 kept_of Changes [] request = kept ((request ∷ []) ∷ []) []
 kept_of Changes (begin ∷ changes) request = kept [] (begin ∷ changes ++ request ∷ [])
@@ -56,7 +56,7 @@ has_transaction state session = is_some (transaction_at state session)
 abbrev pub kept_by : {A : Type 0} → Request → A → Served State → List A → Kept A
 kept_by (Describe session text declarations) asked served held = kept [] held
 kept_by (Execute session version text params) asked served held =
-    if is_done served.replies then kept_of (sort_of text) held asked else kept_where (has_transaction served.after session) held
+    if is_done served.replies then kept_of (kind_of text) held asked else kept_where (has_transaction served.after session) held
 
 -- ---- requests one after another
 

@@ -4,8 +4,8 @@ ghost use Rattle.recording_laws.specs.Laws.{PrefixesAreAccepted, RecordsAreJourn
 
 use server_core::laws::requests_may_be_asked;
 
-/// From a state that can stand and has no transactions, the records of some requests are served
-/// again one after another: each of their requests is done, no transaction is open behind a record,
+/// From a state that can occur and has no transactions, the records of some requests are served
+/// again one after another: each of their requests is done, no transaction is open after a record,
 /// and they lead to the shared world that the requests lead to, with its change counts.
 pub fn replay_law()
     ensures { ReplayLaw }
@@ -13,7 +13,7 @@ pub fn replay_law()
     requests_may_be_asked();
 }
 
-/// Behind records that are served again, each front of what is recorded from there is served again
+/// After records that are served again, each prefix of what is recorded from there is served again
 /// too.
 pub fn prefixes_are_accepted()
     ensures { PrefixesAreAccepted }
@@ -21,7 +21,7 @@ pub fn prefixes_are_accepted()
     requests_may_be_asked();
 }
 
-/// From a state that can stand and has no transactions, the requests of the records make, when they
+/// From a state that can occur and has no transactions, the requests of the records make, when they
 /// are served again, the calls that the journal of the requests' calls holds: record by record, and
 /// call by call.
 pub fn records_are_journals()

@@ -96,7 +96,7 @@ module _ (R : Pairing) (r : IsOneToOne R) (within : ArePairsWithin R) (cell : Li
       All-cons (λ (row : List Atom). length row ≡ length columns) row rows (sym (zip_long (IsOf cell) columns row (All-head P row rows h))) (rows_wide columns rows (All-tail P row rows h))
 
   abbrev IsTyped : List Class → List ℕ → Type 0
-  IsTyped cs key = All (λ place. IsNotRandomized (class_at cs place)) key
+  IsTyped cs key = All (λ ordinal. IsNotRandomized (class_at cs ordinal)) key
 
   keys_apart : (cs : List Class) (keys : List (List ℕ)) (rows others : List (List Atom)) → All (IsTyped cs) keys
       → AllZip (RowsCorrespond R cs) rows others → All (λ key. has_twins key rows ≡ false) keys → All (λ key. has_twins key others ≡ false) keys

@@ -24,4 +24,4 @@ joins_more declarations whole before scope made one joins i join lt e w s h =
     ∙ ap (λ x. onto (map join_of made) (bind_join x declarations (joined_seen join) >>= λ b. bind_joins declarations x (map joined_seen (drop (i + 1) joins)) >>= λ more. Ok (b ∷ more))) (sym s)
     ∙ ap (λ r. onto (map join_of made) (r >>= λ b. bind_joins declarations scope (map joined_seen (drop (i + 1) joins)) >>= λ more. Ok (b ∷ more))) h
     ∙ onto_push (map join_of made) (join_of one) (bind_joins declarations scope (map joined_seen (drop (i + 1) joins)))
-    ∙ ap (λ front. onto front (bind_joins declarations scope (map joined_seen (drop (i + 1) joins)))) (sym (map-append join_of made (one ∷ [])))
+    ∙ ap (λ prefix. onto prefix (bind_joins declarations scope (map joined_seen (drop (i + 1) joins)))) (sym (map-append join_of made (one ∷ [])))

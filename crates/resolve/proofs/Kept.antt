@@ -5,7 +5,7 @@ use Rattle.ae_base.specs.Results.{each}
 use Rattle.ae_base.specs.declared.batches.ParamDecl.{ParamDecl}
 use Rattle.ae_base.specs.declared.tables.TableDef.{TableDef}
 use Rattle.sql_tree.specs.declared.operands.ColumnRef.{ColumnRef}
-use Rattle.sql_tree.specs.declared.bound.PlaceAt.{PlaceAt}
+use Rattle.sql_tree.specs.declared.bound.OrdinalAt.{OrdinalAt}
 use Rattle.sql_tree.specs.declared.bound.BoundOrderKey.{BoundOrderKey}
 use Rattle.sql_tree.specs.Operands.{Operand, Terms}
 use Rattle.sql_tree.specs.Operands as operands
@@ -33,11 +33,11 @@ use Rattle.sql_tree.specs.Uses.{
 }
 use Rattle.catalog.specs.Catalogs.{Catalog}
 use Rattle.expression_binding.specs.Walks.{each_from}
-use Rattle.expression_binding.specs.Scopes.{Scope, ScopeColumn, nothing_in_scope, scope_of, with_source, named_place}
+use Rattle.expression_binding.specs.Scopes.{Scope, ScopeColumn, nothing_in_scope, scope_of, with_source, named_ordinal}
 use Rattle.expression_binding.specs.Names.{bind_operand, bind_operands, bind_condition, bind_filter}
 use Rattle.resolve.specs.Tables.{Joined, Sources, all_sources, table_for, sources_for}
 use Rattle.resolve.specs.Queries.{star_items, title_of, bind_value, bind_item, bind_items, bind_join, bind_joins, bind_column_at, bind_key, bind_query}
-use Rattle.resolve.specs.Changes.{table_scope, places_for, bind_row, bind_insert, column_of, bind_assignment, nth_assignment, bind_update, bind_delete}
+use Rattle.resolve.specs.Changes.{table_scope, ordinals_for, bind_row, bind_insert, column_of, bind_assignment, nth_assignment, bind_update, bind_delete}
 use Rattle.resolve.specs.Definitions.{bind_definition}
 use Rattle.resolve.specs.Bind.{bound_over, resolution}
 use Rattle.resolve.specs.Laws.{NamesKeepTheUsed}
@@ -56,19 +56,19 @@ row_kept ds es f o b e =
 
 insert_kept : (ds es : List ParamDecl) (f : ℕ → ℕ) (def : TableDef) (table : List ℕ) (names : Option (List (List ℕ))) (rows : List tree.ValueRow) (b : bound.BoundInsert)
     → bind_insert ds def table names rows ≡ Ok b → Keeps ds es f (λ p. list_any (uses_in_row p) b.rows)
-    → bind_insert es def table names rows ≡ Ok (record { table = b.table; named = b.named; rows = map (renamed_row f) b.rows })
+    → bind_insert es def table names rows ≡ Ok (record { table = b.table; columns = b.columns; rows = map (renamed_row f) b.rows })
 insert_kept ds es f def table names rows b e =
-    two_parts (places_for def.columns names) (each (bind_row ds) rows) (λ n rs. record { table = table; named = n; rows = rs }) b
-    (λ z. Keeps ds es f (λ p. list_any (uses_in_row p) z.rows) → bind_insert es def table names rows ≡ Ok (record { table = z.table; named = z.named; rows = map (renamed_row f) z.rows })) e
-    (λ n rs en er k. two_ok (places_for def.columns names) (each (bind_row es) rows) (λ n rs. record { table = table; named = n; rows = rs }) n (map (renamed_row f) rs)
+    two_parts (ordinals_for def.columns names) (each (bind_row ds) rows) (λ n rs. record { table = table; columns = n; rows = rs }) b
+    (λ z. Keeps ds es f (λ p. list_any (uses_in_row p) z.rows) → bind_insert es def table names rows ≡ Ok (record { table = z.table; columns = z.columns; rows = map (renamed_row f) z.rows })) e
+    (λ n rs en er k. two_ok (ordinals_for def.columns names) (each (bind_row es) rows) (λ n rs. record { table = table; columns = n; rows = rs }) n (map (renamed_row f) rs)
     en (each_kept ds es f (bind_row ds) (bind_row es) uses_in_row (renamed_row f) (λ x y. row_kept ds es f x y) rows rs er k))
 
 assignment_kept : (ds es : List ParamDecl) (f : ℕ → ℕ) (def : TableDef) (s : Scope) (before : List tree.Assignment) (o : tree.Assignment) (b : bound.BoundAssignment)
     → bind_assignment ds def s before o ≡ Ok b → Keeps ds es f (λ p. uses_in_assignment p b) → bind_assignment es def s before o ≡ Ok (renamed_assignment f b)
 assignment_kept ds es f def s before o b e =
-    two_parts (named_place def.columns (map column_of before) o.column) (bind_operand s ds o.value) (λ p v. record { at = o.at; place = p; value = v }) b
+    two_parts (named_ordinal def.columns (map column_of before) o.column) (bind_operand s ds o.value) (λ p v. record { at = o.at; ordinal = p; value = v }) b
     (λ z. Keeps ds es f (λ p. uses_in_assignment p z) → bind_assignment es def s before o ≡ Ok (renamed_assignment f z)) e
-    (λ p v ep ev k. two_ok (named_place def.columns (map column_of before) o.column) (bind_operand s es o.value) (λ p v. record { at = o.at; place = p; value = v }) p (renamed_operand f v)
+    (λ p v ep ev k. two_ok (named_ordinal def.columns (map column_of before) o.column) (bind_operand s es o.value) (λ p v. record { at = o.at; ordinal = p; value = v }) p (renamed_operand f v)
     ep (operand_kept s ds es f o.value v ev k))
 
 update_kept : (ds es : List ParamDecl) (f : ℕ → ℕ) (def : TableDef) (table : List ℕ) (all : List tree.Assignment) (filter : Option (Condition ColumnRef (List ℕ))) (b : bound.BoundUpdate)
@@ -140,7 +140,7 @@ KeptQuery ds es f sources q z =
     Keeps ds es f (λ p. list_any (uses_in_item p) z.items || (list_any (uses_in_join p) z.joins || uses_in_filter p z.filter)) → bind_query es sources q ≡ Ok (renamed_query f z)
 
 parts_kept : (ds es : List ParamDecl) (f : ℕ → ℕ) (sources : Sources) (q : tree.Query) (items : List bound.BoundItem)
-    (joins : List bound.BoundJoin) (filter : Option (Condition ℕ ℕ)) (group : List PlaceAt) (order : List BoundOrderKey)
+    (joins : List bound.BoundJoin) (filter : Option (Condition ℕ ℕ)) (group : List OrdinalAt) (order : List BoundOrderKey)
     → bind_items (scope_of (all_sources sources)) ds q.items ≡ Ok items → bind_joins ds (scope_of (sources.from ∷ [])) sources.joins ≡ Ok joins
     → bind_filter (scope_of (all_sources sources)) ds q.filter ≡ Ok filter
     → each (bind_column_at (scope_of (all_sources sources))) q.group_by ≡ Ok group → each (bind_key (scope_of (all_sources sources))) q.order_by ≡ Ok order

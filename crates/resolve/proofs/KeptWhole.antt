@@ -10,7 +10,7 @@ use Rattle.ae_base.specs.declared.faults.SqlFault.TheVariants as fault
 use Rattle.sql_tree.specs.Statements.{Statement}
 use Rattle.sql_tree.specs.Bound.{Bound}
 use Rattle.sql_tree.specs.Uses.{uses, renamed}
-use Rattle.enc_types.specs.UsedAlone.{used_among, place_among, is_used}
+use Rattle.enc_types.specs.UsedAlone.{used_among, ordinal_among, is_used}
 use Rattle.enc_types.proofs.Interface.{found_among, inferred_alone}
 use Rattle.semantic_checks.specs.Checks.{check_of}
 use Rattle.semantic_checks.proofs.Interface.{checks_keep_the_used}
@@ -30,7 +30,7 @@ after_names : {A B : Type 0} (x : Result A SqlFault) (b : B) (r : B → B) → (
 after_names (Ok fine) b r = refl
 after_names (Err f) b r = refl
 
-bind_kept : (catalog : Catalog) (statement : Statement) (ds es : List ParamDecl) (f : ℕ → ℕ) (b : Bound) → resolution catalog statement ds ≡ Ok b → Keeps ds es f (λ place. uses place b)
+bind_kept : (catalog : Catalog) (statement : Statement) (ds es : List ParamDecl) (f : ℕ → ℕ) (b : Bound) → resolution catalog statement ds ≡ Ok b → Keeps ds es f (λ ordinal. uses ordinal b)
     → bind catalog statement es ≡ (bind catalog statement ds >>= λ made. Ok (renamed f (map type_of es) made))
 unfolding bind
 bind_kept catalog statement ds es f b e k =
@@ -59,7 +59,7 @@ from_on p first (x ∷ xs) k e = go (p x) e (from_on p (first + 1) xs k)
 module _ (used : ℕ → Bool) where
   -- what a name finds is found among those that are used
   position_among : {X : Type 0} (p : X → Bool) (xs : List X) (first j start : ℕ) → position_from p first xs ≡ Some (first + j) → used (first + j) ≡ true
-      → position_from p start (used_among used first xs) ≡ Some (start + place_among used first j)
+      → position_from p start (used_among used first xs) ≡ Some (start + ordinal_among used first j)
   position_among p [] first j start e u = absurd cc
   position_among p (x ∷ xs) first zero start e u = go (p x) refl e
     where
@@ -76,17 +76,17 @@ module _ (used : ℕ → Bool) where
       let next : first + 1 ≡ suc first = omega arith in
       position_among p xs (suc first) j s (subst (λ z. position_from p z xs ≡ Some (suc first + j)) next (h ∙ ap Some (sym there))) (ap used there ∙ u))
     where
-      rest : (t b : Bool) → p x ≡ false → ((s : ℕ) → position_from p s (used_among used (suc first) xs) ≡ Some (s + place_among used (suc first) j))
+      rest : (t b : Bool) → p x ≡ false → ((s : ℕ) → position_from p s (used_among used (suc first) xs) ≡ Some (s + ordinal_among used (suc first) j))
           → position_from p start (cond b (x ∷ used_among used (suc first) xs) (used_among used (suc first) xs))
-          ≡ Some (start + cond b (suc (place_among used (suc first) j)) (place_among used (suc first) j))
+          ≡ Some (start + cond b (suc (ordinal_among used (suc first) j)) (ordinal_among used (suc first) j))
       rest t true h more =
-          let one : (start + 1) + place_among used (suc first) j ≡ start + suc (place_among used (suc first) j) = omega arith in
+          let one : (start + 1) + ordinal_among used (suc first) j ≡ start + suc (ordinal_among used (suc first) j) = omega arith in
           ap (λ b. cond b (Some start) (position_from p (start + 1) (used_among used (suc first) xs))) h ∙ more (start + 1) ∙ ap Some one
       rest t false h more = more start
 
       go : (t : Bool) → p x ≡ t → cond t (Some first) (position_from p (first + 1) xs) ≡ Some (first + suc j)
-          → ((s : ℕ) → position_from p (first + 1) xs ≡ Some (first + suc j) → position_from p s (used_among used (suc first) xs) ≡ Some (s + place_among used (suc first) j))
-          → position_from p start (used_among used first (x ∷ xs)) ≡ Some (start + place_among used first (suc j))
+          → ((s : ℕ) → position_from p (first + 1) xs ≡ Some (first + suc j) → position_from p s (used_among used (suc first) xs) ≡ Some (s + ordinal_among used (suc first) j))
+          → position_from p start (used_among used first (x ∷ xs)) ≡ Some (start + ordinal_among used first (suc j))
       go true h e more = let same : first ≡ first + suc j = cc in absurd (omega (arith, same))
       go false h e more = rest false (used first) h (λ s. more s e)
 
@@ -99,20 +99,20 @@ module _ (used : ℕ → Bool) where
       go true h = ap (λ z. g x ∷ z) h
       go false h = h
 
-  keeps_alone : (ds : List ParamDecl) → Keeps ds (used_among used 0 ds) (place_among used 0) used
+  keeps_alone : (ds : List ParamDecl) → Keeps ds (used_among used 0 ds) (ordinal_among used 0) used
   keeps_alone ds = record {
-    named = λ name place e u.
+    named = λ name ordinal e u.
         let named_so : ParamDecl → Bool = λ d. bytes_eq d.name name in
-        let start : 0 + place ≡ place = omega arith in
-        let rank : 0 + place_among used 0 place ≡ place_among used 0 place = omega arith in
-        let here : position named_so ds ≡ Some place = found (fault.NoParam name) (position named_so ds) place e in
-        let from : position_from named_so 0 ds ≡ Some (0 + place) = sym (position_from-zero named_so ds) ∙ here ∙ ap Some (sym start) in
-        let there : position named_so (used_among used 0 ds) ≡ Some (place_among used 0 place) =
-        position_from-zero named_so (used_among used 0 ds) ∙ position_among named_so ds 0 place 0 from (ap used start ∙ u) ∙ ap Some rank in
+        let start : 0 + ordinal ≡ ordinal = omega arith in
+        let rank : 0 + ordinal_among used 0 ordinal ≡ ordinal_among used 0 ordinal = omega arith in
+        let here : position named_so ds ≡ Some ordinal = found (fault.NoParam name) (position named_so ds) ordinal e in
+        let from : position_from named_so 0 ds ≡ Some (0 + ordinal) = sym (position_from-zero named_so ds) ∙ here ∙ ap Some (sym start) in
+        let there : position named_so (used_among used 0 ds) ≡ Some (ordinal_among used 0 ordinal) =
+        position_from-zero named_so (used_among used 0 ds) ∙ position_among named_so ds 0 ordinal 0 from (ap used start ∙ u) ∙ ap Some rank in
         ap (or_fault (fault.NoParam name)) there;
-    typed = λ place u.
-        let start : 0 + place ≡ place = omega arith in
-        ap (λ z. slice_get z (place_among used 0 place)) (map_among type_of 0 ds) ∙ found_among used (map type_of ds) 0 place (ap used start ∙ u);
+    typed = λ ordinal u.
+        let start : 0 + ordinal ≡ ordinal = omega arith in
+        ap (λ z. slice_get z (ordinal_among used 0 ordinal)) (map_among type_of 0 ds) ∙ found_among used (map type_of ds) 0 ordinal (ap used start ∙ u);
   }
 
 bound_names : (catalog : Catalog) (statement : Statement) (ds : List ParamDecl) (b : Bound) → bind catalog statement ds ≡ Ok b → resolution catalog statement ds ≡ Ok b
@@ -127,8 +127,8 @@ prepared_alone catalog statement ds b encs e i =
     let sent : List ParamDecl = used_among used 0 ds in
     let over = bound_statements_are catalog statement ds b e in
     let types : map type_of sent ≡ used_among used 0 b.params = map_among used type_of 0 ds ∙ ap (used_among used 0) (sym over.params) in
-    let kept = bind_kept catalog statement ds sent (place_among used 0) b (bound_names catalog statement ds b e) (keeps_alone used ds) in
+    let kept = bind_kept catalog statement ds sent (ordinal_among used 0) b (bound_names catalog statement ds b e) (keeps_alone used ds) in
     record {
-      is_bound = kept ∙ ap (λ z. z >>= λ made. Ok (renamed (place_among used 0) (map type_of sent) made)) e ∙ ap (λ z. Ok (renamed (place_among used 0) z b)) types;
+      is_bound = kept ∙ ap (λ z. z >>= λ made. Ok (renamed (ordinal_among used 0) (map type_of sent) made)) e ∙ ap (λ z. Ok (renamed (ordinal_among used 0) z b)) types;
       is_inferred = inferred_alone b encs over.placed i;
     }

@@ -1,9 +1,9 @@
--- The parts of a query behind its items, one after another.
+-- The parts of a query after its items, one after another.
 use Rattle.std.proofs.Common.{◌≡◌, ℕ, List, [], ◌∷◌, refl, Option, Result, Ok, Err}
 use Rattle.ae_base.specs.Results.{◌>>=◌, each}
 use Rattle.ae_base.specs.declared.batches.ParamDecl.{ParamDecl}
 use Rattle.ae_base.specs.declared.faults.SqlFault.{SqlFault}
-use Rattle.sql_tree.specs.declared.bound.PlaceAt.{PlaceAt}
+use Rattle.sql_tree.specs.declared.bound.OrdinalAt.{OrdinalAt}
 use Rattle.sql_tree.specs.declared.bound.BoundOrderKey.{BoundOrderKey}
 use Rattle.sql_tree.specs.Conditions.{Condition}
 use Rattle.sql_tree.specs.Statements as tree
@@ -13,7 +13,7 @@ use Rattle.expression_binding.specs.Names.{bind_filter}
 use Rattle.resolve.specs.Tables.{Sources, all_sources}
 use Rattle.resolve.specs.Queries.{bind_items, bind_joins, bind_column_at, bind_key, bind_query}
 
-abbrev pub made : tree.Query → Sources → List bound.BoundItem → List bound.BoundJoin → Option (Condition ℕ ℕ) → List PlaceAt → List BoundOrderKey → bound.BoundQuery
+abbrev pub made : tree.Query → Sources → List bound.BoundItem → List bound.BoundJoin → Option (Condition ℕ ℕ) → List OrdinalAt → List BoundOrderKey → bound.BoundQuery
 made q sources items joins filter group order = record {
   distinct = q.distinct;
   top = q.top;
@@ -25,7 +25,7 @@ made q sources items joins filter group order = record {
   order_by = order;
 }
 
-abbrev pub ordered : tree.Query → Sources → List bound.BoundItem → List bound.BoundJoin → Option (Condition ℕ ℕ) → List PlaceAt → Result bound.BoundQuery SqlFault
+abbrev pub ordered : tree.Query → Sources → List bound.BoundItem → List bound.BoundJoin → Option (Condition ℕ ℕ) → List OrdinalAt → Result bound.BoundQuery SqlFault
 ordered q sources items joins filter group = each (bind_key (scope_of (all_sources sources))) q.order_by >>= λ order. Ok (made q sources items joins filter group order)
 
 abbrev pub grouped : tree.Query → Sources → List bound.BoundItem → List bound.BoundJoin → Option (Condition ℕ ℕ) → Result bound.BoundQuery SqlFault
@@ -37,18 +37,18 @@ filtered ds q sources items joins = bind_filter (scope_of (all_sources sources))
 abbrev pub joined : List ParamDecl → tree.Query → Sources → List bound.BoundItem → Result bound.BoundQuery SqlFault
 joined ds q sources items = bind_joins ds (scope_of (sources.from ∷ [])) sources.joins >>= λ joins. filtered ds q sources items joins
 
-abbrev both : List PlaceAt → List BoundOrderKey → List PlaceAt × List BoundOrderKey
+abbrev both : List OrdinalAt → List BoundOrderKey → List OrdinalAt × List BoundOrderKey
 both group order = (group, order)
 
 order_alike : (q : tree.Query) (sources : Sources) (items : List bound.BoundItem) (joins : List bound.BoundJoin)
-    (filter : Option (Condition ℕ ℕ)) (group : Result (List PlaceAt) SqlFault) (order : Result (List BoundOrderKey) SqlFault)
+    (filter : Option (Condition ℕ ℕ)) (group : Result (List OrdinalAt) SqlFault) (order : Result (List BoundOrderKey) SqlFault)
     → ((group >>= λ g. order >>= λ o. Ok (both g o)) >>= λ z. Ok (made q sources items joins filter z.0 z.1)) ≡ (group >>= λ g. order >>= λ o. Ok (made q sources items joins filter g o))
 order_alike q sources items joins filter (Err e) order = refl
 order_alike q sources items joins filter (Ok g) (Err e) = refl
 order_alike q sources items joins filter (Ok g) (Ok o) = refl
 
 parts_alike : (q : tree.Query) (sources : Sources) (items : Result (List bound.BoundItem) SqlFault)
-    (joins : Result (List bound.BoundJoin) SqlFault) (filter : Result (Option (Condition ℕ ℕ)) SqlFault) (group : Result (List PlaceAt) SqlFault) (order : Result (List BoundOrderKey) SqlFault)
+    (joins : Result (List bound.BoundJoin) SqlFault) (filter : Result (Option (Condition ℕ ℕ)) SqlFault) (group : Result (List OrdinalAt) SqlFault) (order : Result (List BoundOrderKey) SqlFault)
     → (items >>= λ i. joins >>= λ j. filter >>= λ f. (group >>= λ g. order >>= λ o. Ok (both g o)) >>= λ z. Ok (made q sources i j f z.0 z.1))
     ≡ (items >>= λ i. joins >>= λ j. filter >>= λ f. group >>= λ g. order >>= λ o. Ok (made q sources i j f g o))
 parts_alike q sources (Err e) joins filter group order = refl

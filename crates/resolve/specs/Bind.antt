@@ -1,6 +1,6 @@
 -- Binding a statement, in five passes over the whole of it: its tables, then its other names, then kinds that clash, then
 -- what isn't grouped, then its length. The answer is the first fault of the first pass that has one: of tables and names in
--- text order, of kinds and of what isn't grouped at the smallest place.
+-- text order, of kinds and of what isn't grouped at the smallest offset.
 use Rattle.std.specs.Prelude.{List, [], map, Result, Ok}
 use Rattle.ae_base.specs.Results.{◌>>=◌}
 use Rattle.ae_base.specs.declared.batches.ParamDecl.{ParamDecl}

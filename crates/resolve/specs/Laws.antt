@@ -1,4 +1,4 @@
--- What each bound statement is; and one that is bound over all declarations is bound alike over others that have those it uses.
+-- What each bound statement is; and one that is bound over all declarations is bound alike over others that have those in use.
 use Rattle.std.specs.Prelude.{◌≡◌, ℕ, List, map, Ok}
 use Rattle.std.specs.List.{All}
 use Rattle.ae_base.specs.Results.{◌>>=◌}
@@ -17,7 +17,7 @@ use Rattle.catalog.specs.WellFormed.{IsKeyThere, IsCatalog}
 use Rattle.expression_binding.specs.Declarations.{type_of, Keeps}
 use Rattle.resolve.specs.Bind.{bound_over, resolution, bind}
 
--- a bound statement has the declared types, its places lie within them and its columns, and its tables and keys are those of
+-- a bound statement has the declared types, its ordinals lie within them and its columns, and its tables and keys are those of
 -- the catalog
 pub record IsBoundOver (catalog : Catalog) (declarations : List ParamDecl) (b : Bound) : Type 0 where
   pub params : b.params ≡ map type_of declarations
@@ -32,13 +32,13 @@ BoundStatementsAre = (catalog : Catalog) (statement : Statement) (declarations :
 -- over others that have those it uses it is the same statement, its parameters where f puts them
 pub record NamesKeepTheUsed : Type 0 where
   pub kept : (catalog : Catalog) (statement : Statement) (declarations others : List ParamDecl) (f : ℕ → ℕ) (bound : Bound)
-      → resolution catalog statement declarations ≡ Ok bound → Keeps declarations others f (λ place. uses place bound)
+      → resolution catalog statement declarations ≡ Ok bound → Keeps declarations others f (λ ordinal. uses ordinal bound)
       → resolution catalog statement others ≡ Ok (bound_over others bound.columns (renamed_statement f bound.statement))
 
 -- and the whole statement is, or the same fault of its kinds, its groups or its length is answered
 pub record BindKeepsTheUsed : Type 0 where
   pub kept : (catalog : Catalog) (statement : Statement) (declarations others : List ParamDecl) (f : ℕ → ℕ) (bound : Bound)
-      → resolution catalog statement declarations ≡ Ok bound → Keeps declarations others f (λ place. uses place bound)
+      → resolution catalog statement declarations ≡ Ok bound → Keeps declarations others f (λ ordinal. uses ordinal bound)
       → bind catalog statement others ≡ (bind catalog statement declarations >>= λ made. Ok (renamed f (map type_of others) made))
 
 -- a statement that is described over all declarations is, over those that it uses alone, the same with its parameters there,

@@ -6,7 +6,7 @@ use Rattle.ae_base.specs.declared.faults.SqlFault.{SqlFault}
 use Rattle.sql_tree.specs.declared.operands.ColumnRef.{ColumnRef}
 use Rattle.sql_tree.specs.declared.statements.ColumnAt.{ColumnAt}
 use Rattle.sql_tree.specs.declared.statements.OrderKey.{OrderKey}
-use Rattle.sql_tree.specs.declared.bound.PlaceAt.{PlaceAt}
+use Rattle.sql_tree.specs.declared.bound.OrdinalAt.{OrdinalAt}
 use Rattle.sql_tree.specs.declared.bound.BoundOrderKey.{BoundOrderKey}
 use Rattle.sql_tree.specs.Operands.{Operand}
 use Rattle.sql_tree.specs.Operands as operands
@@ -14,7 +14,7 @@ use Rattle.sql_tree.specs.Statements.{Item, ItemValue, Items, Query}
 use Rattle.sql_tree.specs.Statements as tree
 use Rattle.sql_tree.specs.Bound.{BoundItem, BoundItemValue, BoundJoin, BoundQuery}
 use Rattle.sql_tree.specs.Bound as bound
-use Rattle.expression_binding.specs.Scopes.{Scope, ScopeColumn, scope_of, with_source, bound_source, column_place}
+use Rattle.expression_binding.specs.Scopes.{Scope, ScopeColumn, scope_of, with_source, bound_source, column_ordinal}
 use Rattle.resolve.specs.Tables.{Joined, Sources, all_sources}
 use Rattle.expression_binding.specs.Names.{bind_operand, bind_condition, bind_filter}
 
@@ -57,14 +57,14 @@ bind_joins declarations before (join ∷ joins) =
     bind_joins declarations (with_source before join.source) joins >>= λ more.
     Ok (bound ∷ more)
 
-abbrev pub bind_column_at : Scope → ColumnAt → Result PlaceAt SqlFault
-bind_column_at scope column = column_place scope column.column >>= λ place. Ok (record { at = column.at; place = place })
+abbrev pub bind_column_at : Scope → ColumnAt → Result OrdinalAt SqlFault
+bind_column_at scope column = column_ordinal scope column.column >>= λ ordinal. Ok (record { at = column.at; ordinal = ordinal })
 
 abbrev pub bind_key : Scope → OrderKey → Result BoundOrderKey SqlFault
 bind_key scope key =
-    column_place scope key.column.column >>= λ place. Ok (record { at = key.column.at; place = place; descending = key.descending })
+    column_ordinal scope key.column.column >>= λ ordinal. Ok (record { at = key.column.at; ordinal = ordinal; descending = key.descending })
 
-abbrev pub bind_order : Scope → Query → Result (List PlaceAt × List BoundOrderKey) SqlFault
+abbrev pub bind_order : Scope → Query → Result (List OrdinalAt × List BoundOrderKey) SqlFault
 bind_order scope query =
     each (bind_column_at scope) query.group_by >>= λ group_by. each (bind_key scope) query.order_by >>= λ order_by. Ok (group_by, order_by)
 

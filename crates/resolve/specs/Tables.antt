@@ -1,4 +1,4 @@
--- The tables of a statement, in text order: one that isn't there is NoTable, a second one of one visible name Ambiguous.
+-- The tables of a statement, in text order: one that doesn't exist is NoTable, a second one of one visible name Ambiguous.
 use Rattle.std.specs.Prelude.{ℕ, List, [], ◌∷◌, ◌++◌, map, Result, Ok, Err, unwrap_or, if◌then◌else◌}
 use Rattle.std.specs.List.{list_any}
 use Rattle.std.specs.Str.{bytes_eq}

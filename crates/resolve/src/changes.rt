@@ -9,8 +9,8 @@ ghost use Rattle.sql_tree.specs.Conditions.{condition_of};
 ghost use Rattle.sql_tree.specs.Bound as bound;
 ghost use Rattle.sql_tree.specs.Statements as tree;
 ghost use Rattle.expression_binding.specs.Walks.{each_from};
-ghost use Rattle.expression_binding.specs.Scopes.{named_place};
-ghost use Rattle.resolve.specs.Changes.{all_places, nth_assignment, bind_assignment, bind_delete, bind_insert, bind_row, bind_update, column_of, listed_place, places_for, table_scope};
+ghost use Rattle.expression_binding.specs.Scopes.{named_ordinal};
+ghost use Rattle.resolve.specs.Changes.{all_ordinals, nth_assignment, bind_assignment, bind_delete, bind_insert, bind_row, bind_update, column_of, listed_ordinal, ordinals_for, table_scope};
 ghost use Rattle.expression_binding.specs.Seen.{scope_seen};
 
 use ae_base::batches::ParamDecl;
@@ -20,7 +20,7 @@ use ae_base::refusals::Refusal;
 use ae_base::tables::{ColumnDef, TableDef};
 use expression_binding::conditions::bind_filter;
 use expression_binding::operands::{bind_operand, bind_operands};
-use expression_binding::scopes::{Scope, Source, new_place};
+use expression_binding::scopes::{Scope, Source, new_ordinal};
 use sql_tree::bound::{BoundAssignment, BoundDelete, BoundInsert, BoundRow, BoundUpdate};
 use sql_tree::conditions::Condition;
 use sql_tree::operands::ColumnRef;
@@ -44,48 +44,48 @@ fn table_scope<'a>(
     Ok(scope)
 }
 
-/// The places of the named columns; without a list all, in table order.
-fn places_for(
+/// The ordinals of the named columns; without a list all, in table order.
+fn ordinals_for(
     alloc: Global,
     columns: &[ColumnDef],
     names: &Option<Seq<Name>>,
 ) -> Result<Seq<usize>, Refusal>
-    ensures { Answers result (places_for columns.now names.now) }
+    ensures { Answers result (ordinals_for columns.now names.now) }
 {
     match names {
-        Some(names) => listed_places(alloc, columns, names.as_slice()),
-        None => Ok(all_places(alloc, columns)?),
+        Some(names) => listed_ordinals(alloc, columns, names.as_slice()),
+        None => Ok(all_ordinals(alloc, columns)?),
     }
 }
 
-fn all_places(alloc: Global, columns: &[ColumnDef]) -> Result<Seq<usize>, AllocError>
-    ensures { IfOk result (λ places. places ≡ all_places 0 columns.now) }
+fn all_ordinals(alloc: Global, columns: &[ColumnDef]) -> Result<Seq<usize>, AllocError>
+    ensures { IfOk result (λ ordinals. ordinals ≡ all_ordinals 0 columns.now) }
 {
-    let mut places = Seq::new(alloc);
-    for (place, _) in columns.iter().enumerate() {
-        places.push(place)?;
+    let mut ordinals = Seq::new(alloc);
+    for (ordinal, _) in columns.iter().enumerate() {
+        ordinals.push(ordinal)?;
     }
-    Ok(places)
+    Ok(ordinals)
 }
 
-fn listed_places(
+fn listed_ordinals(
     alloc: Global,
     columns: &[ColumnDef],
     names: &[Name],
 ) -> Result<Seq<usize>, Refusal>
-    ensures { Answers result (each_from (listed_place columns.now names.now) 0 names.now) }
+    ensures { Answers result (each_from (listed_ordinal columns.now names.now) 0 names.now) }
 {
-    let mut places = Seq::new(alloc);
+    let mut ordinals = Seq::new(alloc);
     for (given, name) in names.iter().enumerate() {
-        places.push(listed_place(columns, &names[..given], name)?)?;
+        ordinals.push(listed_ordinal(columns, &names[..given], name)?)?;
     }
-    Ok(places)
+    Ok(ordinals)
 }
 
-fn listed_place(columns: &[ColumnDef], before: &[Name], name: &Name) -> Result<usize, Refusal>
-    ensures { Answers result (named_place columns.now before.now name.now) }
+fn listed_ordinal(columns: &[ColumnDef], before: &[Name], name: &Name) -> Result<usize, Refusal>
+    ensures { Answers result (named_ordinal columns.now before.now name.now) }
 {
-    new_place(columns, name, is_listed(before, name))
+    new_ordinal(columns, name, is_listed(before, name))
 }
 
 fn is_listed(names: &[Name], name: &Name) -> bool
@@ -131,11 +131,11 @@ pub(crate) fn bind_insert(
     ensures { AnswersAs bound.insert_of result
         (bind_insert declarations.now def.now table.now names.now (map tree.row_of rows.now)) }
 {
-    let named = places_for(alloc, def.columns.as_slice(), names)?;
+    let columns = ordinals_for(alloc, def.columns.as_slice(), names)?;
     let rows = bind_rows(alloc, declarations, rows)?;
     Ok(BoundInsert {
         table: table.copy()?,
-        named,
+        columns,
         rows,
     })
 }
@@ -153,10 +153,10 @@ fn bind_assignment(
         (map tree.assignment_of before.now) (tree.assignment_of assignment.now)) }
 {
     let column = &assignment.column;
-    let place = new_place(def.columns.as_slice(), column, is_set(before, column))?;
+    let ordinal = new_ordinal(def.columns.as_slice(), column, is_set(before, column))?;
     Ok(BoundAssignment {
         at: assignment.at,
-        place,
+        ordinal,
         value: bind_operand(alloc, scope, declarations, &assignment.value)?,
     })
 }

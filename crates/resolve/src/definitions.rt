@@ -25,8 +25,8 @@ ghost use Rattle.resolve.specs.Definitions.{
   bind_key_values,
   name_of,
   new_name,
-  place_of_key,
-  places_of_list,
+  ordinal_of_key,
+  ordinals_of_list,
   word_keys,
   wrapped_key,
 };
@@ -43,8 +43,8 @@ use ae_base::tables::{ColumnDef, TableDef, UniqueKey};
 use ae_base::texts::Txt;
 use ae_base::types::{Enc, KeyId};
 use catalog::catalogs::Catalog;
-use expression_binding::scopes::new_place;
-use sql_tree::bound::{BoundDefinition, BoundTable, PlaceAt};
+use expression_binding::scopes::new_ordinal;
+use sql_tree::bound::{BoundDefinition, BoundTable, OrdinalAt};
 use sql_tree::statements::{
     ColumnSpec, Definition, Encryption, EncryptionKind, NameAt, UniqueSpec, WrittenValue,
 };
@@ -68,7 +68,7 @@ fn wrapped_key(bytes: &Blob) -> Result<WrappedKey, Refusal>
     }
 }
 
-/// Whether a master key of the name is there.
+/// Whether a master key of the name exists.
 fn master_for(catalog: &Catalog, name: &Name) -> Result<(), Refusal>
     ensures { Answers result (master_for catalog.now name.now) }
 {
@@ -78,7 +78,7 @@ fn master_for(catalog: &Catalog, name: &Name) -> Result<(), Refusal>
     }
 }
 
-/// Whether a column key of the name is there.
+/// Whether a column key of the name exists.
 fn key_for(catalog: &Catalog, name: &Name) -> Result<(), Refusal>
     ensures { Answers result (key_for catalog.now name.now) }
 {
@@ -88,7 +88,7 @@ fn key_for(catalog: &Catalog, name: &Name) -> Result<(), Refusal>
     }
 }
 
-/// A value of a column key under a master key that is there.
+/// A value of a column key under a master key that exists.
 fn bind_key_value(catalog: &Catalog, value: &WrittenValue) -> Result<EncryptedValue, Refusal>
     ensures { Answers result (bind_key_value catalog.now value.now) }
 {
@@ -116,7 +116,7 @@ fn bind_second_value(
     Ok(Some(value))
 }
 
-/// The values of a column key, under different master keys that are there.
+/// The values of a column key, under different master keys that exist.
 fn bind_key_values(
     catalog: &Catalog,
     values: &OneOrTwo<WrittenValue>,
@@ -201,13 +201,13 @@ fn bind_columns(
 }
 
 /// The columns with the word UNIQUE.
-fn word_keys(alloc: Global, columns: &[ColumnSpec]) -> Result<Seq<PlaceAt>, AllocError>
+fn word_keys(alloc: Global, columns: &[ColumnSpec]) -> Result<Seq<OrdinalAt>, AllocError>
     ensures { IfOk result (λ keys. keys ≡ word_keys 0 columns.now) }
 {
     let mut keys = Seq::new(alloc);
-    for (place, column) in columns.iter().enumerate() {
+    for (ordinal, column) in columns.iter().enumerate() {
         if let Some(at) = column.unique {
-            keys.push(PlaceAt { at, place })?;
+            keys.push(OrdinalAt { at, ordinal })?;
         }
     }
     Ok(keys)
@@ -228,13 +228,13 @@ fn bind_key_column(
     columns: &[ColumnDef],
     before: &[NameAt],
     named: &NameAt,
-) -> Result<PlaceAt, Refusal>
+) -> Result<OrdinalAt, Refusal>
     ensures { Answers result (key_column_behind columns.now before.now named.now) }
 {
     let given = is_listed(before, &named.name);
-    Ok(PlaceAt {
+    Ok(OrdinalAt {
         at: named.at,
-        place: new_place(columns, &named.name, given)?,
+        ordinal: new_ordinal(columns, &named.name, given)?,
     })
 }
 
@@ -242,7 +242,7 @@ fn bind_unique(
     alloc: Global,
     columns: &[ColumnDef],
     names: &[NameAt],
-) -> Result<Seq<PlaceAt>, Refusal>
+) -> Result<Seq<OrdinalAt>, Refusal>
     ensures { Answers result (each_from (bind_key_column columns.now names.now) 0 names.now) }
 {
     let mut keys = Seq::new(alloc);
@@ -256,7 +256,7 @@ fn bind_uniques(
     alloc: Global,
     columns: &[ColumnDef],
     uniques: &[UniqueSpec],
-) -> Result<Seq<Seq<PlaceAt>>, Refusal>
+) -> Result<Seq<Seq<OrdinalAt>>, Refusal>
     ensures { Answers result (each (bind_unique columns.now) uniques.now) }
 {
     let mut lists = Seq::new(alloc);
@@ -266,24 +266,24 @@ fn bind_uniques(
     Ok(lists)
 }
 
-fn places_of_list(alloc: Global, keys: &[PlaceAt]) -> Result<UniqueKey, AllocError>
-    ensures { IfOk result (λ places. places ≡ places_of_list keys.now) }
+fn ordinals_of_list(alloc: Global, keys: &[OrdinalAt]) -> Result<UniqueKey, AllocError>
+    ensures { IfOk result (λ ordinals. ordinals ≡ ordinals_of_list keys.now) }
 {
-    let mut places = Seq::new(alloc);
+    let mut ordinals = Seq::new(alloc);
     for key in keys {
-        places.push(key.place)?;
+        ordinals.push(key.ordinal)?;
     }
-    Ok(places)
+    Ok(ordinals)
 }
 
-fn each_alone(alloc: Global, words: &[PlaceAt]) -> Result<Seq<UniqueKey>, AllocError>
+fn each_alone(alloc: Global, words: &[OrdinalAt]) -> Result<Seq<UniqueKey>, AllocError>
     ensures { IfOk result (λ uniques. uniques ≡ map alone words.now) }
 {
     let mut uniques = Seq::new(alloc);
     for key in words {
-        let mut places = Seq::new(alloc);
-        places.push(key.place)?;
-        uniques.push(places)?;
+        let mut ordinals = Seq::new(alloc);
+        ordinals.push(key.ordinal)?;
+        uniques.push(ordinals)?;
     }
     Ok(uniques)
 }
@@ -291,21 +291,21 @@ fn each_alone(alloc: Global, words: &[PlaceAt]) -> Result<Seq<UniqueKey>, AllocE
 /// The unique keys of a table: those by a word, then those by a list.
 fn uniques_of(
     alloc: Global,
-    words: &[PlaceAt],
-    lists: &[Seq<PlaceAt>],
+    words: &[OrdinalAt],
+    lists: &[Seq<OrdinalAt>],
 ) -> Result<Seq<UniqueKey>, AllocError>
     ensures { IfOk result
-        (λ uniques. uniques ≡ map alone words.now ++ map places_of_list lists.now) }
+        (λ uniques. uniques ≡ map alone words.now ++ map ordinals_of_list lists.now) }
 {
     let mut uniques = each_alone(alloc, words)?;
     for keys in lists {
-        uniques.push(places_of_list(alloc, keys.as_slice())?)?;
+        uniques.push(ordinals_of_list(alloc, keys.as_slice())?)?;
     }
     Ok(uniques)
 }
 
-/// The columns of the unique keys one after another, of which those by a word are given.
-fn keyed_of(words: Seq<PlaceAt>, lists: &[Seq<PlaceAt>]) -> Result<Seq<PlaceAt>, AllocError>
+/// The columns of the unique keys one after another, those by a word being given.
+fn keyed_of(words: Seq<OrdinalAt>, lists: &[Seq<OrdinalAt>]) -> Result<Seq<OrdinalAt>, AllocError>
     ensures { IfOk result (λ keyed. keyed ≡ words ++ flat_map (λ keys. keys) lists.now) }
 {
     let mut keyed = words;
@@ -315,7 +315,7 @@ fn keyed_of(words: Seq<PlaceAt>, lists: &[Seq<PlaceAt>]) -> Result<Seq<PlaceAt>,
     Ok(keyed)
 }
 
-fn add_all(keyed: &mut Seq<PlaceAt>, keys: &[PlaceAt]) -> Result<(), AllocError>
+fn add_all(keyed: &mut Seq<OrdinalAt>, keys: &[OrdinalAt]) -> Result<(), AllocError>
     ensures { OnOk result (keyed.new ≡ keyed.old ++ keys.now) }
 {
     for key in keys {

@@ -2,8 +2,8 @@
 
 ghost use Rattle.resolve.specs.Laws.{BindKeepsTheUsed, BoundStatementsAre, NamesKeepTheUsed, PreparedAlone};
 
-/// A bound statement has the types of the declarations, its places lie within them and its columns,
-/// and its tables and keys are those of the catalog.
+/// A bound statement has the types of the declarations, its ordinals lie within them and its
+/// columns, and its tables and keys are those of the catalog.
 pub fn bound_statements_are()
     ensures { BoundStatementsAre }
 {}

@@ -1,4 +1,4 @@
-//! Binding: each name of a statement becomes the place of its column or parameter.
+//! Binding: each name of a statement becomes the ordinal of its column or parameter.
 #![tactic(auto)]
 
 mod changes;

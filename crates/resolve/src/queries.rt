@@ -18,9 +18,9 @@ use ae_base::names::{ParamName, Title};
 use ae_base::refusals::Refusal;
 use expression_binding::conditions::{bind_condition, bind_filter};
 use expression_binding::operands::bind_operand;
-use expression_binding::scopes::{Scope, ScopeColumn, Source, column_place};
+use expression_binding::scopes::{Scope, ScopeColumn, Source, column_ordinal};
 use sql_tree::bound::{
-    BoundItem, BoundItemValue, BoundJoin, BoundOrderKey, BoundQuery, BoundSource, PlaceAt,
+    BoundItem, BoundItemValue, BoundJoin, BoundOrderKey, BoundQuery, BoundSource, OrdinalAt,
 };
 use sql_tree::operands::{ColumnRef, Operand};
 use sql_tree::statements::{ColumnAt, Item, ItemValue, Items, OrderKey, Query};
@@ -53,19 +53,22 @@ fn starred(alloc: Global, at: u32, scope: &Scope<'_>) -> Result<Seq<BoundItem>, 
         (λ items. map bound.item_of items ≡ star_items at 0 (scope_seen scope.now).columns) }
 {
     let mut items = Seq::new(alloc);
-    for (place, column) in scope.columns.as_slice().iter().enumerate() {
-        items.push(starred_item(at, place, column)?)?;
+    for (ordinal, column) in scope.columns.as_slice().iter().enumerate() {
+        items.push(starred_item(at, ordinal, column)?)?;
     }
     Ok(items)
 }
 
-fn starred_item(at: u32, place: usize, column: &ScopeColumn<'_>) -> Result<BoundItem, AllocError>
-    ensures { IfOk result (λ item. star_items at place (column_seen column.now ∷ [])
+fn starred_item(at: u32, ordinal: usize, column: &ScopeColumn<'_>) -> Result<BoundItem, AllocError>
+    ensures { IfOk result (λ item. star_items at ordinal (column_seen column.now ∷ [])
         ≡ bound.item_of item ∷ []) }
 {
     Ok(BoundItem {
         title: Title::from_name(column.column.name.copy()?),
-        value: BoundItemValue::Value(Operand::Column { at, column: place }),
+        value: BoundItemValue::Value(Operand::Column {
+            at,
+            column: ordinal,
+        }),
     })
 }
 
@@ -202,15 +205,15 @@ fn bind_columns(
     alloc: Global,
     scope: &Scope<'_>,
     columns: &[ColumnAt],
-) -> Result<Seq<PlaceAt>, Refusal>
+) -> Result<Seq<OrdinalAt>, Refusal>
     ensures { Answers result (each (bind_column_at (scope_seen scope.now)) columns.now) }
 {
     let mut list = Seq::new(alloc);
     for column in columns {
-        let place = column_place(scope, &column.column)?;
-        list.push(PlaceAt {
+        let ordinal = column_ordinal(scope, &column.column)?;
+        list.push(OrdinalAt {
             at: column.at,
-            place,
+            ordinal,
         })?;
     }
     Ok(list)
@@ -225,10 +228,10 @@ fn bind_keys(
 {
     let mut list = Seq::new(alloc);
     for key in keys {
-        let place = column_place(scope, &key.column.column)?;
+        let ordinal = column_ordinal(scope, &key.column.column)?;
         list.push(BoundOrderKey {
             at: key.column.at,
-            place,
+            ordinal,
             descending: key.descending,
         })?;
     }
@@ -240,7 +243,7 @@ fn bind_order(
     alloc: Global,
     scope: &Scope<'_>,
     query: &Query,
-) -> Result<(Seq<PlaceAt>, Seq<BoundOrderKey>), Refusal>
+) -> Result<(Seq<OrdinalAt>, Seq<BoundOrderKey>), Refusal>
     ensures { Answers result (bind_order (scope_seen scope.now) (tree.query_of query.now)) }
 {
     let group_by = bind_columns(alloc, scope, query.group_by.as_slice())?;
@@ -282,7 +285,7 @@ fn bind_over(
     }
 }
 
-/// The query with its names as places.
+/// The query with its names as ordinals.
 pub(crate) fn bind_query(
     alloc: Global,
     declarations: &[ParamDecl],

@@ -74,7 +74,7 @@ fn sites_of(alloc: Global, sources: &Sources<'_>) -> Result<Seq<ColumnSite>, All
     Ok(sites)
 }
 
-/// The columns that a statement sees, and the statement with its names as places.
+/// The columns that a statement sees, and the statement with its names as ordinals.
 #[derive(Drop)]
 struct Placed {
     columns: Seq<ColumnSite>,
@@ -91,7 +91,7 @@ fn new_sites(alloc: Global, made: &BoundDefinition) -> Result<Seq<ColumnSite>, A
     }
 }
 
-fn place_definition(
+fn ordinal_definition(
     alloc: Global,
     catalog: &Catalog,
     definition: &Definition,
@@ -107,7 +107,7 @@ fn place_definition(
     })
 }
 
-fn place_insert(
+fn ordinal_insert(
     alloc: Global,
     catalog: &Catalog,
     declarations: &[ParamDecl],
@@ -128,7 +128,7 @@ fn place_insert(
     })
 }
 
-fn place_update(
+fn ordinal_update(
     alloc: Global,
     catalog: &Catalog,
     declarations: &[ParamDecl],
@@ -151,7 +151,7 @@ fn place_update(
     })
 }
 
-fn place_delete(
+fn ordinal_delete(
     alloc: Global,
     catalog: &Catalog,
     declarations: &[ParamDecl],
@@ -171,7 +171,7 @@ fn place_delete(
     })
 }
 
-fn place_query(
+fn ordinal_query(
     alloc: Global,
     catalog: &Catalog,
     declarations: &[ParamDecl],
@@ -189,7 +189,7 @@ fn place_query(
     })
 }
 
-fn place(
+fn ordinal(
     alloc: Global,
     catalog: &Catalog,
     statement: &Statement,
@@ -199,21 +199,21 @@ fn place(
         (resolution catalog.now (tree.statement_of statement.now) declarations.now) }
 {
     match statement {
-        Statement::Definition(definition) => place_definition(alloc, catalog, definition),
+        Statement::Definition(definition) => ordinal_definition(alloc, catalog, definition),
         Statement::Insert {
             table,
             columns,
             rows,
-        } => place_insert(alloc, catalog, declarations, table, columns, rows),
+        } => ordinal_insert(alloc, catalog, declarations, table, columns, rows),
         Statement::Update {
             table,
             assignments,
             filter,
-        } => place_update(alloc, catalog, declarations, table, assignments, filter),
+        } => ordinal_update(alloc, catalog, declarations, table, assignments, filter),
         Statement::Delete { table, filter } => {
-            place_delete(alloc, catalog, declarations, table, filter)
+            ordinal_delete(alloc, catalog, declarations, table, filter)
         }
-        Statement::Select(query) => place_query(alloc, catalog, declarations, query),
+        Statement::Select(query) => ordinal_query(alloc, catalog, declarations, query),
         Statement::Control(control) => Ok(Placed {
             columns: Seq::new(alloc),
             statement: BoundStatement::Control(*control),
@@ -232,7 +232,7 @@ fn named(
         (resolution catalog.now (tree.statement_of statement.now) declarations.now) }
 {
     let params = types_of(alloc, declarations)?;
-    let placed = place(alloc, catalog, statement, declarations)?;
+    let placed = ordinal(alloc, catalog, statement, declarations)?;
     Ok(Bound {
         params,
         columns: placed.columns,
@@ -262,10 +262,10 @@ fn passed(
 }
 
 /// Binds a statement over a catalog and the declarations of its parameters: each name becomes the
-/// place of its column or parameter, from 0. The answer is the first fault of the first pass over
+/// ordinal of its column or parameter, from 0. The answer is the first fault of the first pass over
 /// the whole statement that has one: the tables (NoTable, Ambiguous) and the other names (NoColumn,
 /// Ambiguous, NoTable, NoParam, NoKey) in text order, the kinds of values (TypeClash) and what
-/// isn't grouped (NotGrouped) at the smallest place, and the length (TooLong).
+/// isn't grouped (NotGrouped) at the smallest offset, and the length (TooLong).
 #[tactic(auto, using(crate::proofs::Causes::bind_causes))]
 pub fn bind(
     alloc: Global,

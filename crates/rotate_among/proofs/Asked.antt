@@ -1,4 +1,4 @@
--- A request that is asked behind those of others, whole or in part.
+-- A request that is asked after those of others, whole or in part.
 use Rattle.std.proofs.Common.{◌≡◌, ℕ, List, [], ◌∷◌, ◌++◌, Option, None, Result, Ok, Err, refl, sym, subst, append-nil, arith, inl, inr}
 use Rattle.std.specs.Borrow.{GName}
 use Rattle.ae_edge.specs.Devices.{WhereExposed, Adds, AddsPrefix, Calls, Device, Stays}
@@ -12,9 +12,9 @@ use Rattle.wire_encoding.specs.Packing.{packed}
 use Rattle.wire_encoding.specs.Spelling.{request_frame}
 use Rattle.conversation.specs.Paths.{Asked}
 use Rattle.script_run.specs.Shares.{Queue, Wire, AreServed, queue_of}
-use Rattle.script_run.specs.Ways.{AsksInPart, IsSilent}
+use Rattle.script_run.specs.Progress.{AsksInPart, IsSilent}
 use Rattle.script_run.proofs.Interface.{queued, same_state}
-use Rattle.ae_edge.proofs.Interface.{adds_front_none, adds_none, calls_none}
+use Rattle.ae_edge.proofs.Interface.{adds_prefix_none, adds_none, calls_none}
 use Rattle.script_run.specs.Connections.{Sends}
 use Rattle.server_core.specs.Beside.{Beside}
 use Rattle.rotate_among.specs.Passing.{Passes}
@@ -61,7 +61,7 @@ pub unasked : (request : Request) (old : Wire) (names : List (List GName)) (stat
 unasked request old names state e f = (
   refl,
   inl (record {
-    tap = calls_none (AddsPrefix []) old.tap (adds_front_none [] old.tap.content);
+    tap = calls_none (AddsPrefix []) old.tap (adds_prefix_none [] old.tap.content);
     closed = refl;
     log = adds_none old.log;
     state = subst (WhereExposed (AreServed []) old.state) (sym f) (same_state old.state);

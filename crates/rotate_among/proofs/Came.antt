@@ -14,7 +14,7 @@ use Rattle.driver.specs.declared.outcomes.Fault.{Fault}
 use Rattle.outcome_text.specs.Counting.{nothing}
 use Rattle.outcome_text.specs.declared.tallies.Tally.{Tally}
 use Rattle.script_run.specs.Shares.{Outside}
-use Rattle.script_run.specs.Ways.{Advances, CantBeRead, IsTooLong, LacksAt}
+use Rattle.script_run.specs.Progress.{Advances, CantBeRead, IsTooLong, LacksAt}
 use Rattle.script_run.specs.declared.stops.Stop.{Stop}
 use Rattle.script_run.specs.declared.stops.Stop.TheVariants as stop
 use Rattle.script_run.specs.Rotations.{rotated_as}
@@ -22,10 +22,10 @@ use Rattle.script_run.proofs.Interface.{write_rises}
 use Rattle.server_core.specs.Beside.{first_of}
 use Rattle.server_core.specs.Serve.{State}
 use Rattle.rotate_among.specs.Beside.{IsBehindSome}
-use Rattle.rotate_among.specs.Coming.{CameTo, Comes, HasNoStream, IfEnded, IsBy, Kept, Lent, Names, outside, untouched}
-use Rattle.rotate_among.specs.declared.rotating.Rotated.{Rotated}
-use Rattle.rotate_among.specs.declared.rotating.Rotated.TheVariants as came
-use Rattle.rotate_among.proofs.Others.{told_is}
+use Rattle.rotate_among.specs.Coming.{EndedIn, Comes, HasNoStream, IfEnded, IsBy, RotationState, Lent, Names, outside, untouched}
+use Rattle.rotate_among.specs.declared.rotating.RotateEnding.{RotateEnding}
+use Rattle.rotate_among.specs.declared.rotating.RotateEnding.TheVariants as came
+use Rattle.rotate_among.proofs.Others.{exposed_is}
 
 -- a session that has a batch rotates nothing
 pub rotates_begins : (trusted : List (List ℕ)) (number : ℕ) (old new : List ℕ) (before : Session) (k : Ends) → beginning trusted number old new k before ≡ rotating trusted number old new before k
@@ -52,7 +52,7 @@ never_rose m n e f h =
 pub no_stream : (ended : Result (Result ℕ Fault) Stop) (t : Talk) (onward : Result ℕ Fault → Talk) (a b : Outside) → Advances ended t onward a b → b.wire.stream ≡ None
     → a.client.out.faults ≡ 0 → b.client.out.faults ≡ 0 → a.wire.tap.faults ≡ 0 → b.wire.tap.faults ≡ 0 → HasNoStream ended
 no_stream (Ok rotated) t onward a b h s o p q r = tt
-no_stream (Err (stop.BadReply place)) t onward a b h s o p q r = tt
+no_stream (Err (stop.BadReply offset)) t onward a b h s o p q r = tt
 no_stream (Err stop.ReadFault) t onward a b h s o p q r = subst (CantBeRead (LacksAt b.wire.version h.0.between)) s h.1
 no_stream (Err stop.TooLong) t onward a b h s o p q r = subst (IsTooLong (LacksAt b.wire.version h.0.between)) s h.1
 no_stream (Err stop.EntropyFault) t onward a b h s o p q r = tt
@@ -66,12 +66,12 @@ no_stream (Err stop.OutOfMemory) t onward a b h s o p q r = tt
 
 module _ (ended : Result (Result ℕ Fault) Stop) (trusted : List (List ℕ)) (number : ℕ) (old new : List ℕ) (before after : Session)
     (version : FrameVersion) (between : List (List Request)) (a b : Lent) where
-  abbrev pub Goes_by : Names → Names → Kept → Kept → Type 0
+  abbrev pub Goes_by : Names → Names → RotationState → RotationState → Type 0
   Goes_by names names_after k l =
       (c : Ends) → Advances ended (beginning trusted number old new c before) (λ rotated. c (rotated_as rotated) after) (outside version names k a) (outside version names_after l b)
 
-  came_so : (names names_after : Names) (k l : Kept) → k ≡ untouched between → Goes_by names names_after k l
-      → CameTo ended (rotating trusted number old new before) after version between l.frames a b
+  came_so : (names names_after : Names) (k l : RotationState) → k ≡ untouched between → Goes_by names names_after k l
+      → EndedIn ended (rotating trusted number old new before) after version between l.frames a b
   came_so names names_after k l e h = record {
     names = names;
     names_after = names_after;
@@ -85,44 +85,44 @@ module _ (ended : Result (Result ℕ Fault) Stop) (trusted : List (List ℕ)) (n
   }
 
 module _ (ended : Result (Result ℕ Fault) Stop) (t : Ends → Talk) (after : Session) (version : FrameVersion) (between : List (List Request)) (frames : List ℕ) (a b : Lent)
-    (told : Option State) (others : ℕ) where
+    (exposed : Option State) (others : ℕ) where
   abbrev Came : Lent → Result (Result ℕ Fault) Stop → List ℕ → Type 0
-  Came b ended frames = CameTo ended t after version between frames a b
+  Came b ended frames = EndedIn ended t after version between frames a b
 
   -- where the peer's state is the one that is told
-  stood : (h : Came (record b { state = told }) ended frames) → others ≡ 0 → IsBehindSome others (first_of h.kept.between) told b.state → Came b ended frames
+  stood : (h : Came (record b { state = exposed }) ended frames) → others ≡ 0 → IsBehindSome others (first_of h.kept.between) exposed b.state → Came b ended frames
   stood h n i =
-      let g = subst (λ w. Came (record b { state = w }) ended frames) (told_is others (first_of h.kept.between) told b.state n i) h in
+      let g = subst (λ w. Came (record b { state = w }) ended frames) (exposed_is others (first_of h.kept.between) exposed b.state n i) h in
       record { names = g.names; names_after = g.names_after; kept = g.kept; is = g.is; leads = g.leads }
 
   -- by what it answers
-  pub comes_by : (result : Rotated) → IsBy result ended frames others → (h : Came (record b { state = told }) ended frames) → IsBehindSome others (first_of h.kept.between) told b.state
+  pub comes_by : (result : RotateEnding) → IsBy result ended frames others → (h : Came (record b { state = exposed }) ended frames) → IsBehindSome others (first_of h.kept.between) exposed b.state
       → Comes result t after version between a b
   comes_by (came.Ended rotated w) i h s = subst (λ x. Came b (Ok rotated) x) (sym i.1) (subst (λ x. Came b x frames) i.0 (stood h i.2 s))
   comes_by came.EntropyFault i h s = (frames, subst (λ x. Came b x frames) i.0 (stood h i.1 s))
   comes_by came.VaultFault i h s = (frames, subst (λ x. Came b x frames) i.0 (stood h i.1 s))
-  comes_by (came.BadReply place w) i h s = subst (λ x. Came b (Err (stop.BadReply place)) x) (sym i.1) (subst (λ x. Came b x frames) i.0 (stood h i.2 s))
-  comes_by came.OutOfMemory i h s = record { ended = ended; told = told; frames = frames; came = h; others = others; state = s; by_itself = i }
+  comes_by (came.BadReply offset w) i h s = subst (λ x. Came b (Err (stop.BadReply offset)) x) (sym i.1) (subst (λ x. Came b x frames) i.0 (stood h i.2 s))
+  comes_by came.OutOfMemory i h s = record { ended = ended; exposed = exposed; frames = frames; came = h; others = others; state = s; by_itself = i }
 
 -- from what is known of a run
-pub comes_so : (result : Rotated) (ended : Result (Result ℕ Fault) Stop) (trusted : List (List ℕ)) (number : ℕ) (old new : List ℕ) (before after : Session)
-    (version : FrameVersion) (between : List (List Request)) (a b : Lent) (from told : Option State) (others : ℕ) (names names_after : Names) (k l : Kept)
-    → IsBy result ended l.frames others → IsBehindSome others (first_of l.between) told b.state → k ≡ untouched between → from ≡ a.state
-    → Goes_by ended trusted number old new before after version between (record a { state = from }) (record b { state = told }) names names_after k l
+pub comes_so : (result : RotateEnding) (ended : Result (Result ℕ Fault) Stop) (trusted : List (List ℕ)) (number : ℕ) (old new : List ℕ) (before after : Session)
+    (version : FrameVersion) (between : List (List Request)) (a b : Lent) (from exposed : Option State) (others : ℕ) (names names_after : Names) (k l : RotationState)
+    → IsBy result ended l.frames others → IsBehindSome others (first_of l.between) exposed b.state → k ≡ untouched between → from ≡ a.state
+    → Goes_by ended trusted number old new before after version between (record a { state = from }) (record b { state = exposed }) names names_after k l
     → Comes result (rotating trusted number old new before) after version between a b
 unfolding came_so
-comes_so result ended trusted number old new before after version between a b from told others names names_after k l i s e f h =
-    let stands : Lent = record b { state = told } in
+comes_so result ended trusted number old new before after version between a b from exposed others names names_after k l i s e f h =
+    let stands : Lent = record b { state = exposed } in
     let goes : Goes_by ended trusted number old new before after version between a stands names names_after k l =
     subst (λ w. Goes_by ended trusted number old new before after version between (record a { state = w }) stands names names_after k l) f h in
-    comes_by ended (rotating trusted number old new before) after version between l.frames a b told others result i
+    comes_by ended (rotating trusted number old new before) after version between l.frames a b exposed others result i
     (came_so ended trusted number old new before after version between a stands names names_after k l e goes) s
 
 -- where it ended, what holds at an end
-pub ended_so : (P : Type 0) (result : Rotated) (ended : Result (Result ℕ Fault) Stop) (frames : List ℕ) (others : ℕ)
+pub ended_so : (P : Type 0) (result : RotateEnding) (ended : Result (Result ℕ Fault) Stop) (frames : List ℕ) (others : ℕ)
     → IsBy result ended frames others → IfOk ended (λ rotated. P) → IfEnded P result
 ended_so P (came.Ended rotated w) ended frames others i h = subst (λ x. IfOk x (λ rotated. P)) i.0 h
 ended_so P came.EntropyFault ended frames others i h = tt
 ended_so P came.VaultFault ended frames others i h = tt
-ended_so P (came.BadReply place w) ended frames others i h = tt
+ended_so P (came.BadReply offset w) ended frames others i h = tt
 ended_so P came.OutOfMemory ended frames others i h = tt

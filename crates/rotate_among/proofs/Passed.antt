@@ -44,7 +44,7 @@ use Rattle.wire_messages.specs.Exchanges.{Exchange}
 use Rattle.wire_messages.specs.declared.replies.Reply.{Reply}
 use Rattle.wire_messages.specs.declared.requests.Request.{Request}
 use Rattle.conversation.specs.Drive.{BadReply, Done, Dry, End, Passed, over, requests_in}
-use Rattle.conversation.specs.Paths.{Event, Asked, Took, Strayed, Drew, Opened, Printed, drawn_in, outcome_in}
+use Rattle.conversation.specs.Paths.{Event, Asked, Took, GotUnexpected, Drew, Opened, Printed, drawn_in, outcome_in}
 use Rattle.conversation.specs.Devices.{IsAtDraw}
 use Rattle.conversation.specs.Talk.{Talk, Ends, Stops, Asks, Hears, Notes, Draws, Opens, Prints}
 use Rattle.conversation.specs.declared.outcomes.Outcome.{Outcome}
@@ -58,7 +58,7 @@ use Rattle.driver.specs.declared.outcomes.Fault.TheVariants.{OfServer, OfDriver}
 use Rattle.proper_value_laws.specs.Proper.{IsIdentifier}
 use Rattle.script_run.specs.Shares.{AreServed, Counts, Outside, exchanges_of, frames_of, messages_of}
 use Rattle.script_run.specs.Events.{stop_events}
-use Rattle.script_run.specs.Ways.{Advances, IsStuck, Proceeds, ProceedsBy, StopsBy}
+use Rattle.script_run.specs.Progress.{Advances, IsStuck, Proceeds, ProceedsBy, StopsBy}
 use Rattle.script_run.specs.declared.stops.Stop.{Stop}
 use Rattle.script_run.specs.declared.stops.Stop.TheVariants as stop
 use Rattle.script_run.proofs.Interface.{Begins, Reached, Starts, ahead, beside_serves, breaks_between, reached, served_so, state_there, stops_begin, stops_left}
@@ -69,12 +69,12 @@ use Rattle.server_core.specs.Serve.{State, empty_state}
 use Rattle.served_rotation_laws.specs.Beside.{all_asked, others_asked, rotated_beside, rotation, session_of}
 use Rattle.served_rotation_laws.specs.Laws.{AskingLeavesNoTrace, FinishedIsWhole, IsFinished, RotationsTellOneOutcome, UnfinishedLeavesNoTrace, behind}
 use Rattle.rotate_among.specs.Beside.{IsBehindSome, beside}
-use Rattle.rotate_among.specs.Coming.{Comes, Kept, Lent, Names, outside, untouched}
+use Rattle.rotate_among.specs.Coming.{Comes, RotationState, Lent, Names, outside, untouched}
 use Rattle.rotate_among.specs.Moving as moving
 use Rattle.rotate_among.specs.Moving.{AreOthers, HasFrames, HasNoTrace, HasNoTraceBehind, IsMovedWhole, Leaves, PassedSo, StoppedSo}
-use Rattle.rotate_among.specs.declared.rotating.Rotated.{Rotated}
-use Rattle.rotate_among.specs.declared.rotating.Rotated.TheVariants as came
-use Rattle.rotate_among.proofs.Others.{behind_told, none_asked}
+use Rattle.rotate_among.specs.declared.rotating.RotateEnding.{RotateEnding}
+use Rattle.rotate_among.specs.declared.rotating.RotateEnding.TheVariants as came
+use Rattle.rotate_among.proofs.Others.{behind_exposed, none_asked}
 use Rattle.rotate_among.proofs.Served.{between_left, over_leaves, served_leaves}
 
 -- ---- plain lists
@@ -97,19 +97,19 @@ framed : (version : FrameVersion) (events : List Event) → flat_map (frames_of 
 framed version [] = refl
 framed version (Asked request replies ∷ events) = ap (λ w. exchange_frames version (record { request = request; replies = replies }) ++ w) (framed version events)
 framed version (Took reply ∷ events) = framed version events
-framed version (Strayed next ∷ events) = framed version events
+framed version (GotUnexpected next ∷ events) = framed version events
 framed version (Drew bytes ∷ events) = framed version events
 framed version (Opened meta key ∷ events) = framed version events
 framed version (Printed comes ∷ events) = framed version events
 
--- the state that is told, and what is to be asked
-told_state : (between : List (List Request)) (after : Option State) (v : Beside) → option_map (beside between) after ≡ Some v → after ≡ Some v.state
-told_state between (Some s) v e = ap (option_map (λ (b : Beside). b.state)) e
-told_state between None v e = absurd cc
+-- the state that is exposed, and what is to be asked
+exposed_state : (between : List (List Request)) (after : Option State) (v : Beside) → option_map (beside between) after ≡ Some v → after ≡ Some v.state
+exposed_state between (Some s) v e = ap (option_map (λ (b : Beside). b.state)) e
+exposed_state between None v e = absurd cc
 
-told_between : (between : List (List Request)) (after : Option State) (v : Beside) → option_map (beside between) after ≡ Some v → between ≡ v.between
-told_between between (Some s) v e = let same : beside between s ≡ v = cc in ap (λ (b : Beside). b.between) same
-told_between between None v e = absurd cc
+exposed_between : (between : List (List Request)) (after : Option State) (v : Beside) → option_map (beside between) after ≡ Some v → between ≡ v.between
+exposed_between between (Some s) v e = let same : beside between s ≡ v = cc in ap (λ (b : Beside). b.between) same
+exposed_between between None v e = absurd cc
 
 abbrev IsOfOther : ℕ → Request → Type 0
 IsOfOther session request = IsRequest request × (session_of request ≢ session)
@@ -129,7 +129,7 @@ module _ (once : RotationsTellOneOutcome) (traceless : UnfinishedLeavesNoTrace) 
     (keys : KeyMap) (trusted : List (List ℕ)) (session : ℕ) (old new : List ℕ) (history : List Request) (between : List (List Request))
     (numbered : IsSession session) (old_named : IsIdentifier old) (new_named : IsIdentifier new) (before : All IsRequest history)
     (others : All (All (IsOfOther session)) between)
-    (after : Session) (version : FrameVersion) (a b : Lent) (told : a.vault.content ≡ Some keys) (from : a.state ≡ Some (behind empty_state history)) where
+    (after : Session) (version : FrameVersion) (a b : Lent) (exposed : a.vault.content ≡ Some keys) (from : a.state ≡ Some (behind empty_state history)) where
   abbrev start : Beside
   start = beside between (behind empty_state history)
 
@@ -139,7 +139,7 @@ module _ (once : RotationsTellOneOutcome) (traceless : UnfinishedLeavesNoTrace) 
   abbrev t : Talk
   t = rotation trusted session old new
 
-  module _ (names names_after : Names) (kept : Kept) (at : Option State) where
+  module _ (names names_after : Names) (kept : RotationState) (at : Option State) where
     abbrev first : Outside
     first = outside version names (untouched between) a
 
@@ -147,7 +147,7 @@ module _ (once : RotationsTellOneOutcome) (traceless : UnfinishedLeavesNoTrace) 
     last = outside version names_after kept (record b { state = at })
 
     starts : Starts keys start first
-    starts = record { state = ap (option_map (beside between)) from; keys = told; waiting = refl; queue = refl }
+    starts = record { state = ap (option_map (beside between)) from; keys = exposed; waiting = refl; queue = refl }
 
     module _ {C : Counts} (u : Talk) (g : ProceedsBy C t u first last) where
       abbrev there : Beside
@@ -175,7 +175,7 @@ module _ (once : RotationsTellOneOutcome) (traceless : UnfinishedLeavesNoTrace) 
       passed = way.is []
 
       stays : at ≡ Some there.state
-      stays = told_state kept.between at there (state_there (λ (x : Beside). x) serve_beside beside_serves keys t start first starts C u last g).1
+      stays = exposed_state kept.between at there (state_there (λ (x : Beside). x) serve_beside beside_serves keys t start first starts C u last g).1
 
       -- nothing passes from there on
       record Halts (state : Beside) (outcomes : List Outcome) (end : End) : Type 0 where
@@ -273,7 +273,7 @@ module _ (once : RotationsTellOneOutcome) (traceless : UnfinishedLeavesNoTrace) 
         passed_so u g [] (BadReply n) h _
         (unfinished u g [] (BadReply n) h (λ w. bad_not_done n _ (p u g).end (end_so u g [] (BadReply n) h) w.2), frames_so u g [] (BadReply n) h)
 
-    -- at a reply that isn't awaited
+    -- at a reply that isn't expected
     at_reply : (u : Talk) (g : Proceeds t u first last) → IsStuck u kept.waiting → PassedSo keys trusted session old new start (λ p. HasNoTrace start p × HasFrames version kept.frames p) at
     at_reply (Stops None) g d = stopped_so (Stops None) g _ (record { nothing = refl })
     at_reply (Ends sessions) g d = by kept.waiting d refl
@@ -316,10 +316,10 @@ module _ (once : RotationsTellOneOutcome) (traceless : UnfinishedLeavesNoTrace) 
       served = served_so (λ (x : Beside). x) serve_beside beside_serves so_far first.wire.state last.wire.state start starts.state (stops_left why t first last h).state
 
       state_so_far : at ≡ Some (behind start.state (all_asked between asked))
-      state_so_far = told_state kept.between at served.0 served.1 ∙ ap Some (served_leaves so_far start served.0 served.2)
+      state_so_far = exposed_state kept.between at served.0 served.1 ∙ ap Some (served_leaves so_far start served.0 served.2)
 
       next_so_far : kept.between ≡ drop (length asked) between
-      next_so_far = told_between kept.between at served.0 served.1 ∙ between_left so_far start served.0 served.2
+      next_so_far = exposed_between kept.between at served.0 served.1 ∙ between_left so_far start served.0 served.2
 
       abbrev left_of : List Request
       left_of = requests_in (begins.rest []).exchanges
@@ -327,7 +327,7 @@ module _ (once : RotationsTellOneOutcome) (traceless : UnfinishedLeavesNoTrace) 
       are_so : requests_in whole_way.exchanges ≡ asked ++ left_of
       are_so = ap (λ (x : Passed Beside). requests_in x.exchanges) (begins.is []) ∙ map-append (λ (e : Exchange). e.request) (flat_map exchanges_of so_far) (begins.rest []).exchanges
 
-      -- behind some of what others ask then
+      -- after some of what others ask then
       module _ (n : ℕ) (state : Option State) (stands : IsBehindSome n (first_of kept.between) at state) where
         abbrev further : List Request
         further = take n (first_of kept.between)
@@ -338,7 +338,7 @@ module _ (once : RotationsTellOneOutcome) (traceless : UnfinishedLeavesNoTrace) 
             (first_others session kept.between (subst (All (All (IsOfOther session))) (sym next_so_far) (All-drop (All (IsOfOther session)) (length asked) between others)))
 
         state_further : state ≡ Some (behind (behind start.state (all_asked between asked)) further)
-        state_further = behind_told n (first_of kept.between) at state _ state_so_far stands
+        state_further = behind_exposed n (first_of kept.between) at state _ state_so_far stands
 
         abbrev Stands : Type 0
         Stands = HasNoTraceBehind start asked further ⊎ ((n : ℕ) × (state ≡ Some (behind whole_way.state.state further)) × IsMovedWhole keys old new start whole_way n)
@@ -384,22 +384,23 @@ module _ (once : RotationsTellOneOutcome) (traceless : UnfinishedLeavesNoTrace) 
     lacked (Err why) h n state s = (stopped_there why h n state s).0
 
   -- by how it ended
-  leaves_so : (r : Rotated) → Comes r (rotating trusted session old new Idle) after version between a b → Leaves version keys trusted session old new start r b.state
+  leaves_so : (r : RotateEnding) → Comes r (rotating trusted session old new Idle) after version between a b → Leaves version keys trusted session old new start r b.state
   leaves_so (came.Ended r frames) h =
       subst (λ w. PassedSo keys trusted session old new start (λ p. moving.Ends keys old new start r p × HasFrames version w p) b.state) h.is
       (of r h.names h.names_after h.kept (h.leads ending))
     where
-      of : (r : Result ℕ Fault) (names names_after : Names) (kept : Kept) → Proceeds t (ending (rotated_as r) after) (first names names_after kept b.state) (last names names_after kept b.state)
+      of : (r : Result ℕ Fault) (names names_after : Names) (kept : RotationState) → Proceeds t (ending (rotated_as r) after) (first names names_after kept b.state)
+          (last names names_after kept b.state)
           → PassedSo keys trusted session old new start (λ p. moving.Ends keys old new start r p × HasFrames version kept.frames p) b.state
       of r names names_after kept g = ended names names_after kept b.state r g
-  leaves_so came.EntropyFault h = let c = h.1 in let g = c.leads ending in at_draw c.names c.names_after c.kept b.state _ g.rest g.goes g.place
+  leaves_so came.EntropyFault h = let c = h.1 in let g = c.leads ending in at_draw c.names c.names_after c.kept b.state _ g.rest g.goes g.point
   leaves_so came.VaultFault h =
       let c = h.1 in stopped_there c.names c.names_after c.kept b.state stop.VaultFault (c.leads ending) 0 b.state (none_asked (first_of c.kept.between) b.state)
-  leaves_so came.OutOfMemory h = let c = h.came in lacked c.names c.names_after c.kept h.told h.ended (c.leads ending) h.others b.state h.state
-  leaves_so (came.BadReply place frames) h =
+  leaves_so came.OutOfMemory h = let c = h.came in lacked c.names c.names_after c.kept h.exposed h.ended (c.leads ending) h.others b.state h.state
+  leaves_so (came.BadReply offset frames) h =
       let g = h.leads ending in
-      subst (λ w. PassedSo keys trusted session old new start (λ p. HasNoTrace start p × HasFrames version w p) b.state) h.is (at_reply h.names h.names_after h.kept b.state g.rest g.goes g.place.0)
+      subst (λ w. PassedSo keys trusted session old new start (λ p. HasNoTrace start p × HasFrames version w p) b.state) h.is (at_reply h.names h.names_after h.kept b.state g.rest g.goes g.point.0)
 
-  pub leaves_if : (result : Rotated) (first_session : Session) → first_session ≡ Idle
+  pub leaves_if : (result : RotateEnding) (first_session : Session) → first_session ≡ Idle
       → Comes result (rotating trusted session old new first_session) after version between a b → Leaves version keys trusted session old new start result b.state
   leaves_if result first_session e h = leaves_so result (subst (λ w. Comes result (rotating trusted session old new w) after version between a b) e h)

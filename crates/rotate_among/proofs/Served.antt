@@ -1,4 +1,4 @@
--- The state that requests lead to, each asked behind those of others.
+-- The state that requests lead to, each asked after those of others.
 use Rattle.std.proofs.Common.{◌≡◌, ℕ, zero, suc, List, [], ◌∷◌, ◌++◌, Bool, true, false, refl, sym, ◌∙◌, ap, length, take, drop, nat_lt}
 use Rattle.std.specs.Prelude.{flat_map}
 use Rattle.ae_edge.specs.Vaults.{KeyMap}
@@ -7,7 +7,7 @@ use Rattle.wire_messages.specs.declared.replies.Reply.{Reply}
 use Rattle.wire_messages.specs.declared.requests.Request.{Request}
 use Rattle.conversation.specs.Drive.{Caught, Listened, Lost, Passed, listen, over, passed_by, passed_on, requests_in}
 use Rattle.conversation.specs.Keys.{open_key}
-use Rattle.conversation.specs.Paths.{Event, Asked, Took, Strayed, Drew, Opened, Printed}
+use Rattle.conversation.specs.Paths.{Event, Asked, Took, GotUnexpected, Drew, Opened, Printed}
 use Rattle.conversation.specs.Talk.{Talk, Ends, Stops, Asks, Hears, Notes, Draws, Opens, Prints, Heard, broken, nothing_broken}
 use Rattle.script_run.specs.Shares.{AreServed, exchanges_of}
 use Rattle.server_core.specs.Beside.{Beside, first_of, rest_of, serve_beside}
@@ -32,7 +32,7 @@ served_leaves (Asked request replies ∷ events) b v h =
     let requests = requests_in (flat_map exchanges_of events) in
     served_leaves events h.0 v h.2 ∙ ap (λ (s : Served Beside). behind_all s.after requests) (sym h.1) ∙ sym (one_asked b request requests)
 served_leaves (Took reply ∷ events) b v h = served_leaves events b v h
-served_leaves (Strayed next ∷ events) b v h = served_leaves events b v h
+served_leaves (GotUnexpected next ∷ events) b v h = served_leaves events b v h
 served_leaves (Drew bytes ∷ events) b v h = served_leaves events b v h
 served_leaves (Opened meta key ∷ events) b v h = served_leaves events b v h
 served_leaves (Printed comes ∷ events) b v h = served_leaves events b v h
@@ -49,7 +49,7 @@ between_left (Asked request replies ∷ events) b v h =
     let n = length (requests_in (flat_map exchanges_of events)) in
     between_left events h.0 v h.2 ∙ ap (λ (s : Served Beside). drop n s.after.between) (sym h.1) ∙ drop_rest n b.between
 between_left (Took reply ∷ events) b v h = between_left events b v h
-between_left (Strayed next ∷ events) b v h = between_left events b v h
+between_left (GotUnexpected next ∷ events) b v h = between_left events b v h
 between_left (Drew bytes ∷ events) b v h = between_left events b v h
 between_left (Opened meta key ∷ events) b v h = between_left events b v h
 between_left (Printed comes ∷ events) b v h = between_left events b v h

@@ -1,4 +1,4 @@
--- The replies of an answer wait behind the others.
+-- The replies of an answer wait after the others.
 use Rattle.std.proofs.Common.{◌≡◌, ℕ, ◌+◌, List, ◌++◌, length, ◌∙◌, ap}
 use Rattle.ae_base.specs.declared.frames.FrameVersion.{FrameVersion}
 use Rattle.wire_frames.specs.Frames.{Placed, placed_answer}
@@ -9,7 +9,7 @@ use Rattle.script_run.specs.Shares.{Queue, with_answer}
 abbrev queue : List (Placed Reply) → ℕ → Queue
 queue waiting behind = record { waiting = waiting; behind = behind }
 
--- the replies wait behind the others
+-- the replies wait after the others
 pub waits_so : (version : FrameVersion) (replies : List Reply) (old waiting : List (Placed Reply)) (before behind : ℕ)
     → waiting ≡ old ++ placed_answer version before replies → behind ≡ before + length (packed version replies)
     → queue waiting behind ≡ with_answer version (queue old before) replies

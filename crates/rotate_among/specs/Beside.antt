@@ -1,4 +1,4 @@
--- What is told of a server that others ask too.
+-- What is exposed of a server that others ask too.
 use Rattle.std.specs.Prelude.{◌≡◌, ℕ, List, Option, option_map, take}
 use Rattle.std.specs.Borrow.{GName}
 use Rattle.ae_edge.specs.Devices.{WhereExposed}
@@ -10,18 +10,18 @@ use Rattle.served_rotation_laws.specs.Laws.{behind}
 abbrev pub beside : List (List Request) → State → Beside
 beside between s = record { state = s; between = between }
 
--- where it is told, a state is that behind so many of some requests
+-- where it is exposed, a state is that after so many of some requests
 abbrev pub IsBehindSome : ℕ → List Request → Option State → Option State → Type 0
 IsBehindSome n requests = WhereExposed (λ old new. new ≡ behind old (take n requests))
 
--- a peer: what it is lent, the state that is told behind the session's last request, the one by which it serves now, what others ask before each request
+-- a peer: what it borrows, the state that is exposed after the session's last request, the one by which it serves now, what others ask before each request
 -- that is to come, and how many of those before the next one they asked
 pub record Standing : Type 0 where
   pub names : List GName
-  pub told : Option State
+  pub exposed : Option State
   pub state : Option State
   pub between : List (List Request)
   pub others : ℕ
 
-abbrev pub told_beside : Standing → Option Beside
-told_beside s = option_map (beside s.between) s.told
+abbrev pub exposed_beside : Standing → Option Beside
+exposed_beside s = option_map (beside s.between) s.exposed

@@ -12,8 +12,8 @@ use Rattle.server_core.specs.Beside.{Beside, first_of}
 use Rattle.server_core.specs.Serve.{State}
 use Rattle.served_rotation_laws.specs.Beside.{all_asked, others_asked, rotated_beside, session_of}
 use Rattle.served_rotation_laws.specs.Laws.{FitMeanwhile, IsWhole, behind}
-use Rattle.rotate_among.specs.declared.rotating.Rotated.{Rotated}
-use Rattle.rotate_among.specs.declared.rotating.Rotated.TheVariants as came
+use Rattle.rotate_among.specs.declared.rotating.RotateEnding.{RotateEnding}
+use Rattle.rotate_among.specs.declared.rotating.RotateEnding.TheVariants as came
 
 abbrev pub IsOther : ℕ → Request → Type 0
 IsOther session request = session_of request ≢ session
@@ -40,12 +40,12 @@ pub record PassedSo (keys : KeyMap) (trusted : List (List ℕ)) (session : ℕ) 
   pub state : after ≡ Some (rotated_beside keys trusted session old new drawn start).state.state
   pub is : P (rotated_beside keys trusted session old new drawn start)
 
--- the same behind some of its requests, and some that others ask then
+-- the same after some of its requests, and some that others ask then
 abbrev pub HasNoTraceBehind : Beside → List Request → List Request → Type 0
 HasNoTraceBehind start asked further =
     (behind (behind start.state (all_asked start.between asked)) further).shared ≡ (behind (behind start.state (others_asked start.between asked)) further).shared
 
--- It stopped on its way, with some of its requests left, behind some of what others ask before the next one: it has no trace so far, or all passed and
+-- It stopped on its way, with some of its requests left, after some of what others ask before the next one: it has no trace so far, or all passed and
 -- the table was moved whole.
 pub record StoppedSo (keys : KeyMap) (trusted : List (List ℕ)) (session : ℕ) (old new : List ℕ) (start : Beside) (after : Option State) : Type 0 where
   pub drawn : List ℕ
@@ -62,11 +62,11 @@ abbrev pub HasFrames : FrameVersion → List ℕ → Passed Beside → Type 0
 HasFrames version frames p = frames ≡ flat_map (exchange_frames version) p.exchanges
 
 -- by how it ended
-abbrev pub Leaves : FrameVersion → KeyMap → (trusted : List (List ℕ)) → (session : ℕ) → (old new : List ℕ) → Beside → Rotated → Option State → Type 0
+abbrev pub Leaves : FrameVersion → KeyMap → (trusted : List (List ℕ)) → (session : ℕ) → (old new : List ℕ) → Beside → RotateEnding → Option State → Type 0
 Leaves version keys trusted session old new start (came.Ended rotated frames) after =
     PassedSo keys trusted session old new start (λ p. Ends keys old new start rotated p × HasFrames version frames p) after
 Leaves version keys trusted session old new start came.EntropyFault after = PassedSo keys trusted session old new start (HasNoTrace start) after
-Leaves version keys trusted session old new start (came.BadReply place frames) after =
+Leaves version keys trusted session old new start (came.BadReply offset frames) after =
     PassedSo keys trusted session old new start (λ p. HasNoTrace start p × HasFrames version frames p) after
 Leaves version keys trusted session old new start came.VaultFault after = (s : StoppedSo keys trusted session old new start after) × (s.further ≡ [])
 Leaves version keys trusted session old new start came.OutOfMemory after = StoppedSo keys trusted session old new start after

@@ -10,7 +10,7 @@ use Rattle.wire_encoding.specs.Packing.{packed}
 use Rattle.wire_encoding.specs.Spelling.{request_frame}
 use Rattle.script_run.specs.Shares.{Queue, with_answer}
 
--- all its frames, and the replies wait behind the others; or a front of the frames
+-- all its frames, and the replies wait after the others; or a prefix of the frames
 abbrev pub Passes : Result (Unit {0}) WriteError → FrameVersion → Request → List Reply → (old new : Device (List ℕ)) → Queue → Queue → Type 0
 Passes (Ok o) version request replies old new q r =
     Calls (Adds (request_frame version request ++ packed version replies)) Stays old new × (r ≡ with_answer version q replies)

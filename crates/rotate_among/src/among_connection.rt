@@ -7,15 +7,15 @@ ghost use Rattle.script_run.specs.Shares.{AreServed, Wire};
 ghost use Rattle.run_command.specs.Queues.{all_placed};
 ghost use Rattle.server_core.specs.Beside.{first_of, rest_of};
 ghost use Rattle.server_core.specs.Serve.{State};
-ghost use Rattle.rotate_among.specs.Beside.{IsBehindSome, told_beside};
+ghost use Rattle.rotate_among.specs.Beside.{IsBehindSome, exposed_beside};
 
 use ae_base::frames::FrameVersion;
 use ae_base::lists::Seq;
 use ae_edge::sinks::Sink;
 use ae_edge::streams::WriteError;
 use conversation::counts::past_64_bits;
-use run_command::peer_connection::{Places, Waiting, join, put_exchange};
-use script_run::connection::{Connection, EndFault, Front, LentReply, ReplyFault};
+use run_command::peer_connection::{FrameOffsets, Waiting, join, put_exchange};
+use script_run::connection::{Connection, EndFault, LentReply, NextReply, ReplyFault};
 use server_core::peers::Peer;
 use std::alloc::{AllocError, Global};
 use std::marker::Model;
@@ -23,22 +23,22 @@ use std::snapshot::Snapshot;
 use wire_messages::replies::Reply;
 use wire_messages::requests::Request;
 
-/// A peer that others ask too, as it stands behind this session's last request and some of those
-/// that others ask before the next one.
+/// A peer that others ask too: its state after this session's last request and some of those that
+/// others ask before the next one.
 #[derive(Drop)]
 pub struct Stand<'d, P: Peer> {
     pub peer: P,
-    /// The peer behind this session's last request.
+    /// The peer after this session's last request.
     pub asked: Snapshot<P>,
     /// What others ask before each request.
     pub between: &'d [Seq<Request<'static>>],
-    /// The place of what they ask before the next one.
+    /// The index of what they ask before the next request.
     pub at: usize,
     /// How many of these were asked.
     pub others: usize,
 }
 
-/// A peer that was asked so many of what others ask before the next request.
+/// A peer that has served some of the requests that others send before the next request.
 #[derive(Drop)]
 pub struct AskedPeer<P: Peer> {
     pub peer: P,
@@ -54,7 +54,7 @@ impl<'d, P: Peer> Model for Stand<'d, P> {
 
     ghost view = { λ s. record {
       names = P.names s.peer;
-      told = P.state s.asked.value;
+      exposed = P.state s.asked.value;
       state = P.state s.peer;
       between = drop s.at s.between.now;
       others = s.others;
@@ -69,7 +69,7 @@ impl<'d, P: Peer> Stand<'d, P> {
     pub fn new(peer: P, between: &'d [Seq<Request<'static>>]) -> Stand<'d, P>
         ensures { result ≡ record {
           names = P.names peer;
-          told = P.state peer;
+          exposed = P.state peer;
           state = P.state peer;
           between = between.now;
           others = 0;
@@ -84,11 +84,11 @@ impl<'d, P: Peer> Stand<'d, P> {
         }
     }
 
-    /// The peer, which was asked so many of what others ask before the next request.
+    /// The peer, which has served as many of the requests that others send before the next request.
     pub fn into_peer(self) -> AskedPeer<P>
         ensures names { P.names result.peer ≡ self.entry.names }
         ensures state { P.state result.peer ≡ self.entry.state }
-        ensures stands { IsBehindSome result.others (first_of self.entry.between) self.entry.told
+        ensures stands { IsBehindSome result.others (first_of self.entry.between) self.entry.exposed
             self.entry.state }
     {
         let Stand {
@@ -101,8 +101,8 @@ impl<'d, P: Peer> Stand<'d, P> {
         AskedPeer { peer, others }
     }
 
-    /// Asks a request behind the rest of the others: the replies to it. Without memory, it wasn't
-    /// asked.
+    /// Sends a request after the rest of the others' requests: the replies to it. Out of memory, it
+    /// wasn't sent.
     fn ask(
         &mut self,
         alloc: Global,
@@ -111,8 +111,8 @@ impl<'d, P: Peer> Stand<'d, P> {
         ensures same { self.new.names ≡ self.old.names }
         ensures asked { MatchResult result
             (λ replies. WhereExposed (AreServed (Asked request.now replies ∷ []))
-            (told_beside self.old) (told_beside self.new))
-            (λ _. told_beside self.new ≡ told_beside self.old) }
+            (exposed_beside self.old) (exposed_beside self.new))
+            (λ _. exposed_beside self.new ≡ exposed_beside self.old) }
     {
         let others = others_at(self.between, self.at);
         ask_rest(alloc, &mut self.peer, others, &mut self.others)?;
@@ -124,8 +124,8 @@ impl<'d, P: Peer> Stand<'d, P> {
     }
 }
 
-/// A peer behind a tap, of which others ask some requests before each of this session's; nobody
-/// here hears the replies to theirs.
+/// A peer with a tap, which others send some requests before each of this session's; nobody here
+/// receives the replies to theirs.
 #[derive(Drop)]
 pub struct AmongConnection<'a, 'd, T: Sink, P: Peer> {
     pub tap: T,
@@ -134,7 +134,7 @@ pub struct AmongConnection<'a, 'd, T: Sink, P: Peer> {
     pub version: FrameVersion,
     /// How many replies were taken.
     pub taken: u64,
-    /// The place behind the frames of all answers.
+    /// The offset after the frames of all answers.
     pub behind: u64,
 }
 
@@ -148,7 +148,7 @@ fn others_at<'a>(between: &'a [Seq<Request<'static>>], at: usize) -> &'a [Reques
     }
 }
 
-/// The place of what they ask before the one behind it.
+/// The index of what they ask before the next request.
 fn next_at(between: &[Seq<Request<'static>>], at: usize) -> usize
     ensures { drop result between.now ≡ rest_of (drop at between.now) }
 {
@@ -156,7 +156,7 @@ fn next_at(between: &[Seq<Request<'static>>], at: usize) -> usize
 }
 
 /// Asks the rest of some requests, of which so many were asked, and lets their replies go. Without
-/// memory for one, none behind it is asked.
+/// memory for one, none after it is asked.
 fn ask_rest<P: Peer>(
     alloc: Global,
     peer: &mut P,
@@ -164,9 +164,9 @@ fn ask_rest<P: Peer>(
     asked: &mut usize,
 ) -> Result<(), AllocError>
     ensures same { P.names peer.new ≡ P.names peer.old }
-    ensures state { (told : Option State)
-        → IsBehindSome asked.old requests.now told (P.state peer.old)
-        → IsBehindSome asked.new requests.now told (P.state peer.new) }
+    ensures state { (exposed : Option State)
+        → IsBehindSome asked.old requests.now exposed (P.state peer.old)
+        → IsBehindSome asked.new requests.now exposed (P.state peer.new) }
     ensures whole { IfOk result (λ _. length requests.now ≤ asked.new) }
 {
     'rest: while let Some(request) = requests.get(*asked) {
@@ -181,7 +181,7 @@ impl<T: Sink, P: Peer> Connection for AmongConnection<'_, '_, T, P> {
       tap = T.seen l.tap;
       closed = false;
       log = None;
-      state = told_beside l.stand;
+      state = exposed_beside l.stand;
       names = l.stand.names ∷ [];
       version = l.version;
       waiting = all_placed l.waiting.now.replies.items;
@@ -196,7 +196,7 @@ impl<T: Sink, P: Peer> Connection for AmongConnection<'_, '_, T, P> {
         let Ok(replies) = self.stand.ask(alloc, request) else {
             return Err(WriteError::OutOfMemory);
         };
-        let mut places = Places {
+        let mut offsets = FrameOffsets {
             noted: Vec::new(alloc),
             behind: self.behind,
         };
@@ -207,10 +207,10 @@ impl<T: Sink, P: Peer> Connection for AmongConnection<'_, '_, T, P> {
             self.version,
             request,
             answer,
-            &mut places,
+            &mut offsets,
         )?;
-        self.behind = places.behind;
-        match join(&mut self.waiting.replies, replies, places.noted.as_slice()) {
+        self.behind = offsets.behind;
+        match join(&mut self.waiting.replies, replies, offsets.noted.as_slice()) {
             Ok(()) => Ok(()),
             Err(_) => Err(WriteError::OutOfMemory),
         }
@@ -224,12 +224,12 @@ impl<T: Sink, P: Peer> Connection for AmongConnection<'_, '_, T, P> {
         }
     }
 
-    fn front(&self, alloc: Global) -> Result<Front<'_>, AllocError> {
+    fn peek(&self, alloc: Global) -> Result<NextReply<'_>, AllocError> {
         let Some(first) = self.waiting.replies.front() else {
             unreachable!()
         };
         if self.taken < u64::MAX {
-            Ok(Front {
+            Ok(NextReply {
                 reply: LentReply::Kept(&first.reply),
                 used: 0,
             })
@@ -238,7 +238,7 @@ impl<T: Sink, P: Peer> Connection for AmongConnection<'_, '_, T, P> {
         }
     }
 
-    fn place(&self) -> u64 {
+    fn offset(&self) -> u64 {
         match self.waiting.replies.front() {
             Some(first) => first.at,
             None => self.behind,

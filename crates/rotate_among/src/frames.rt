@@ -1,7 +1,7 @@
 //! Frames that are kept in memory.
 
 ghost use Rattle.std.specs.Prelude.{◌≡◌, [], false};
-ghost use Rattle.ae_edge.specs.Devices.{telling};
+ghost use Rattle.ae_edge.specs.Devices.{exposing};
 
 use ae_edge::sinks::{Put, Sink};
 use std::alloc::Global;
@@ -44,9 +44,9 @@ impl Frames {
     }
 }
 
-/// A sink that fails for want of memory alone.
+/// A sink that fails by out of memory alone.
 impl Sink for Frames {
-    ghost seen = { λ f. telling f 0 };
+    ghost seen = { λ f. exposing f 0 };
 
     ghost closed = { λ _. false };
 

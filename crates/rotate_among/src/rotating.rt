@@ -39,7 +39,7 @@ use wire_messages::requests::Request;
 
 /// How a rotation ended.
 #[derive(Drop)]
-pub enum Rotated {
+pub enum RotateEnding {
     /// So many rows were moved, or why nothing was changed; and the rotation's requests in order,
     /// each followed by the replies to it.
     Ended(Result<u64, Fault>, Frames),
@@ -47,8 +47,8 @@ pub enum Rotated {
     EntropyFault,
     /// The vault failed.
     VaultFault,
-    /// The reply at this place among the bytes of the replies to the rotation isn't awaited; and
-    /// its requests in order, each followed by the replies to it.
+    /// The reply at this offset of the replies to the rotation is unexpected; and its requests in
+    /// order, each followed by the replies to it.
     BadReply(u64, Frames),
     /// There was no memory. Some of what others ask before the next request may have been asked.
     OutOfMemory,
@@ -56,24 +56,28 @@ pub enum Rotated {
 
 /// How a rotation ended, by what it came to or why it stopped, where so many of the others'
 /// requests were asked before one for which there was no memory.
-fn rotated_by(ended: Result<Result<u64, Fault>, Stop>, frames: Frames, others: usize) -> Rotated
+fn rotated_by(
+    ended: Result<Result<u64, Fault>, Stop>,
+    frames: Frames,
+    others: usize,
+) -> RotateEnding
     requires { HasNoStream ended }
     ensures { IsBy result ended frames others }
 {
     if others > 0 {
-        return Rotated::OutOfMemory;
+        return RotateEnding::OutOfMemory;
     }
     match ended {
-        Ok(rotated) => Rotated::Ended(rotated, frames),
-        Err(Stop::EntropyFault) => Rotated::EntropyFault,
-        Err(Stop::VaultFault) => Rotated::VaultFault,
-        Err(Stop::BadReply(place)) => Rotated::BadReply(place, frames),
-        Err(Stop::OutOfMemory) => Rotated::OutOfMemory,
+        Ok(rotated) => RotateEnding::Ended(rotated, frames),
+        Err(Stop::EntropyFault) => RotateEnding::EntropyFault,
+        Err(Stop::VaultFault) => RotateEnding::VaultFault,
+        Err(Stop::BadReply(offset)) => RotateEnding::BadReply(offset, frames),
+        Err(Stop::OutOfMemory) => RotateEnding::OutOfMemory,
         Err(Stop::ReadFault | Stop::TooLong | Stop::WriteFault) => unreachable!(),
     }
 }
 
-/// Gives back what was lent, as it is: so a proof knows what its lender has then.
+/// Gives back borrowed devices as they are: so a proof knows what their lender has then.
 fn give_back<T>(lent: &mut T)
     ensures { lent.new ≡ lent.old }
 {}
@@ -90,7 +94,7 @@ fn rotate<P: Peer, V: Vault, E: Entropy>(
     old: &Name,
     new: &Name,
     between: &[Seq<Request<'static>>],
-) -> Rotated
+) -> RotateEnding
     requires { IsOfVault (V.seen vault.old).content driver.old }
     ensures leaves { IfEnded
         (onward.Leaves session driver.old driver.new (V.seen vault.new).content) result }
@@ -159,7 +163,7 @@ pub fn rotate_among<P: Peer, V: Vault, E: Entropy>(
     old: &Name,
     new: &Name,
     between: &[Seq<Request<'static>>],
-) -> Rotated
+) -> RotateEnding
     requires of_vault { IsOfVault (V.seen vault.old).content driver.old }
     requires others { AreOthers session between.now }
     ensures leaves { IfEnded

@@ -21,8 +21,8 @@ use Rattle.enc_types.specs.Least.{inferred_encs, clash_behind}
 use Rattle.enc_types.specs.Rules.{rules}
 use Rattle.resolve.specs.Bind.{bind}
 use Rattle.semantic_checks.specs.Checks.{check_of}
-use Rattle.statement_analysis.specs.Describing.{Meant, understood}
-use Rattle.statement_analysis.specs.Params.{declaration_of, suited, suited_atom}
+use Rattle.statement_analysis.specs.Describing.{Analysis, analyzed}
+use Rattle.statement_analysis.specs.Params.{declaration_of, checked_params, checked_atom}
 use Rattle.transactions.specs.Counted.{Execution, execution}
 use Rattle.transactions.specs.Rotating.{HasPut, HasRead, HasReplaced, HasRotated, IsWholeQuery}
 use Rattle.transactions.specs.Serial.{Deed}
@@ -38,12 +38,12 @@ use Rattle.rotation_laws.proofs.Putting.{put}
 
 -- ---- what is executed
 
-record IsExecuted (m : Meant) (sent : List SentParam) (e : Execution) : Type 0 where
+record IsExecuted (m : Analysis) (sent : List SentParam) (e : Execution) : Type 0 where
   atoms : List Atom
-  suits : suited m.encs sent ≡ Ok atoms
+  suits : checked_params m.encs sent ≡ Ok atoms
   is : e ≡ execution m.bound m.encs atoms
 
-executed_by : (m : Meant) (sent : List SentParam) (e : Execution) (r : Result (List Atom) SqlFault) → ((e : Execution) → ask_by m.bound.statement e ≡ Executes e) → suited m.encs sent ≡ r
+executed_by : (m : Analysis) (sent : List SentParam) (e : Execution) (r : Result (List Atom) SqlFault) → ((e : Execution) → ask_by m.bound.statement e ≡ Executes e) → checked_params m.encs sent ≡ r
     → ((r >>= λ atoms. Ok (m, atoms)) >>= λ ready. Ok (ask_of ready)) ≡ Ok (Executes e) → IsExecuted m sent e
 executed_by m sent e (Err f) free q h = absurd (cc)
 executed_by m sent e (Ok atoms) free q h =
@@ -51,26 +51,26 @@ executed_by m sent e (Ok atoms) free q h =
     let same : execution m.bound m.encs atoms ≡ e = cc in
     record { atoms = atoms; suits = q; is = sym same }
 
-executed : (catalog : Catalog) (batch : Batch) (d : Deed) (m : Meant) (deed : IsDeedOf catalog batch d)
-    → understood catalog batch.text (declared batch) ≡ Ok m → ((e : Execution) → ask_by m.bound.statement e ≡ Executes e)
+executed : (catalog : Catalog) (batch : Batch) (d : Deed) (m : Analysis) (deed : IsDeedOf catalog batch d)
+    → analyzed catalog batch.text (declared batch) ≡ Ok m → ((e : Execution) → ask_by m.bound.statement e ≡ Executes e)
     → IsExecuted m deed.sent d.execution
 executed catalog batch d m deed means free =
-    let same : asked_by catalog batch deed.sent ≡ ((suited m.encs deed.sent >>= λ atoms. Ok (m, atoms)) >>= λ ready. Ok (ask_of ready)) =
+    let same : asked_by catalog batch deed.sent ≡ ((checked_params m.encs deed.sent >>= λ atoms. Ok (m, atoms)) >>= λ ready. Ok (ask_of ready)) =
     rw (eq-eqb catalog.version catalog.version refl, deed.declares, means) refl in
-    executed_by m deed.sent d.execution (suited m.encs deed.sent) free refl (sym same ∙ deed.asks)
+    executed_by m deed.sent d.execution (checked_params m.encs deed.sent) free refl (sym same ∙ deed.asks)
 
-suited_step : (first : Result Atom SqlFault) (rest : Result (List Atom) SqlFault) (atoms : List Atom) (n : ℕ) → ((more : List Atom) → rest ≡ Ok more → length more ≡ n)
+checked_step : (first : Result Atom SqlFault) (rest : Result (List Atom) SqlFault) (atoms : List Atom) (n : ℕ) → ((more : List Atom) → rest ≡ Ok more → length more ≡ n)
     → (first >>= λ a. rest >>= λ more. Ok (a ∷ more)) ≡ Ok atoms → length atoms ≡ suc n
-suited_step (Err f) rest atoms n h k = absurd (cc)
-suited_step (Ok a) (Err f) atoms n h k = absurd (cc)
-suited_step (Ok a) (Ok more) atoms n h k = let same : a ∷ more ≡ atoms = cc in ap length (sym same) ∙ ap suc (h more refl)
+checked_step (Err f) rest atoms n h k = absurd (cc)
+checked_step (Ok a) (Err f) atoms n h k = absurd (cc)
+checked_step (Ok a) (Ok more) atoms n h k = let same : a ∷ more ≡ atoms = cc in ap length (sym same) ∙ ap suc (h more refl)
 
-suited_length : (encs : List Enc) (sent : List SentParam) (atoms : List Atom) → length encs ≡ length sent → suited encs sent ≡ Ok atoms → length atoms ≡ length sent
-suited_length [] [] atoms wide h = let same : [] ≡ atoms = cc in ap length (sym same)
-suited_length [] (p ∷ sent) atoms wide h = absurd (omega arith)
-suited_length (e ∷ encs) [] atoms wide h = absurd (omega arith)
-suited_length (e ∷ encs) (p ∷ sent) atoms wide h =
-    suited_step (suited_atom e p) (suited encs sent) atoms (length sent) (λ more q. suited_length encs sent more (omega arith) q) h
+checked_length : (encs : List Enc) (sent : List SentParam) (atoms : List Atom) → length encs ≡ length sent → checked_params encs sent ≡ Ok atoms → length atoms ≡ length sent
+checked_length [] [] atoms wide h = let same : [] ≡ atoms = cc in ap length (sym same)
+checked_length [] (p ∷ sent) atoms wide h = absurd (omega arith)
+checked_length (e ∷ encs) [] atoms wide h = absurd (omega arith)
+checked_length (e ∷ encs) (p ∷ sent) atoms wide h =
+    checked_step (checked_atom e p) (checked_params encs sent) atoms (length sent) (λ more q. checked_length encs sent more (omega arith) q) h
 
 -- ---- one deed
 
@@ -80,7 +80,7 @@ columns_wide columns def of = sym (length-map def.columns (λ column. column.nam
 read_deed : (catalog : Catalog) (table : List ℕ) (def : TableDef) (width : ℕ) (rows : List (List Atom)) (d : Deed) (r : IsReadWhole catalog table def) → length def.columns ≡ width
     → IsRead catalog table rows d → HasRead table width rows d
 read_deed catalog table def width rows d r wide h =
-    let e = executed catalog (reads_all table) d r.meant h.deed r.means (λ e. ap (λ s. ask_by s e) r.is) in
+    let e = executed catalog (reads_all table) d r.analysis h.deed r.means (λ e. ap (λ s. ask_by s e) r.is) in
     record {
       query = r.query;
       statement = ap (λ x. x.bound.statement) e.is ∙ r.is;
@@ -92,20 +92,20 @@ read_deed catalog table def width rows d r wide h =
 put_deed : (catalog : Catalog) (table : List ℕ) (def : TableDef) (columns : List SentColumn) (row : List Value) (d : Deed) (p : IsPut catalog table def columns row)
     → IsRowPut catalog table columns row d → HasPut table (length columns) d
 put_deed catalog table def columns row d p h =
-    let e = executed catalog (puts table columns row) d p.meant h.deed p.means (λ e. ap (λ s. ask_by s e) p.is) in
+    let e = executed catalog (puts table columns row) d p.analysis h.deed p.means (λ e. ap (λ s. ask_by s e) p.is) in
     let sent : length h.deed.sent ≡ length columns =
     sym (length-map h.deed.sent declaration_of) ∙ ap length (h.deed.declares ∙ are_declared 1 columns row h.wide) ∙ declared-length 1 columns in
     record {
       insert = p.insert;
       statement = ap (λ x. x.bound.statement) e.is ∙ p.is;
       row = p.put;
-      wide = ap (λ x. length x.params) e.is ∙ suited_length p.meant.encs h.deed.sent e.atoms (p.typed ∙ sym sent) e.suits ∙ sent;
+      wide = ap (λ x. length x.params) e.is ∙ checked_length p.analysis.encs h.deed.sent e.atoms (p.typed ∙ sym sent) e.suits ∙ sent;
       answer = h.answer;
     }
 
 swap_deed : (catalog : Catalog) (old new : List ℕ) (d : Deed) (r : IsReplaced catalog old new) → IsSwap catalog old new d → HasReplaced old new d
 swap_deed catalog old new d r h =
-    let e = executed catalog (replaces old new) d r.meant h.deed r.means (λ e. ap (λ s. ask_by s e) r.is) in
+    let e = executed catalog (replaces old new) d r.analysis h.deed r.means (λ e. ap (λ s. ask_by s e) r.is) in
     record { statement = ap (λ x. x.bound.statement) e.is ∙ r.is; answer = h.answer }
 
 -- ---- all of them
@@ -148,7 +148,7 @@ module _ (grammar : TreeIsTheGrammars) (catalog : Catalog) (old new : List ℕ) 
 -- ---- BEGIN, COMMIT, ROLLBACK
 
 controls : (catalog : Catalog) → AreControls catalog
-unfolding statement_in tree_of encode bind check_of rules inferred_encs clash_behind understood
+unfolding statement_in tree_of encode bind check_of rules inferred_encs clash_behind analyzed
 controls catalog =
     let now = eq-eqb catalog.version catalog.version refl in
     record { begun = rw now refl; committed = rw now refl; rolled_back = rw now refl }

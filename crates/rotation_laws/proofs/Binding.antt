@@ -52,17 +52,17 @@ use Rattle.enc_types.specs.Rules.{rules, item_rules}
 use Rattle.enc_types.specs.Least.{inferred_encs, clash_behind}
 use Rattle.semantic_checks.specs.Checks.{check_of, is_too_long}
 use Rattle.semantic_checks.specs.Clashes.{Types, clashes, item_clashes}
-use Rattle.semantic_checks.specs.Grouping.{ungrouped_places}
+use Rattle.semantic_checks.specs.Grouping.{ungrouped_offsets}
 use Rattle.expression_binding.specs.Scopes.{ScopeColumn, Source, bound_source, columns_under, sites_of}
 use Rattle.resolve.specs.Bind.{bind, bound_over, resolution}
 use Rattle.resolve.specs.Queries.{star_items}
-use Rattle.statement_analysis.specs.Describing.{understood, binding_of}
+use Rattle.statement_analysis.specs.Describing.{analyzed, binding_of}
 use Rattle.transactions.specs.Rotating.{AreColumns, whole_query, IsWholeQuery}
 use Rattle.rotation_laws.specs.Laws.{shown_column, star_query}
 
 -- ---- what passes the checks
 
-pub fine : (b : Bound) → clashes b ≡ [] → ungrouped_places b ≡ [] → is_too_long b ≡ false → check_of b ≡ Ok tt
+pub fine : (b : Bound) → clashes b ≡ [] → ungrouped_offsets b ≡ [] → is_too_long b ≡ false → check_of b ≡ Ok tt
 unfolding check_of
 fine b clash group long = rw (clash, group, long) refl
 
@@ -76,10 +76,10 @@ pub nothing_inferred : (b : Bound) → b.params ≡ [] → rules b ≡ [] → in
 unfolding inferred_encs clash_behind rules
 nothing_inferred b none free = rw (none, free) refl
 
-pub meant : (catalog : Catalog) (text : List ℕ) (declarations : List ParamDecl) (b : Bound) (encs : List Enc) → binding_of catalog text declarations ≡ Ok b → inferred_encs b ≡ Ok encs
-    → understood catalog text declarations ≡ Ok (record { bound = b; encs = encs })
-unfolding understood
-meant catalog text declarations b encs e h = rw (e, h) refl
+pub analysis : (catalog : Catalog) (text : List ℕ) (declarations : List ParamDecl) (b : Bound) (encs : List Enc) → binding_of catalog text declarations ≡ Ok b → inferred_encs b ≡ Ok encs
+    → analyzed catalog text declarations ≡ Ok (record { bound = b; encs = encs })
+unfolding analyzed
+analysis catalog text declarations b encs e h = rw (e, h) refl
 
 -- ---- SELECT * FROM
 

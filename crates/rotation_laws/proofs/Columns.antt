@@ -52,9 +52,9 @@ use Rattle.sql_tree.specs.Statements.{Operand}
 use Rattle.sql_tree.specs.Bound.{BoundOperand}
 use Rattle.expression_binding.specs.Declarations.{type_of}
 use Rattle.expression_binding.specs.Names.{bind_operand}
-use Rattle.expression_binding.specs.Scopes.{nothing_in_scope, param_place}
+use Rattle.expression_binding.specs.Scopes.{nothing_in_scope, param_ordinal}
 use Rattle.expression_binding.specs.Walks.{each_from}
-use Rattle.resolve.specs.Changes.{listed_place}
+use Rattle.resolve.specs.Changes.{listed_ordinal}
 use Rattle.transactions.specs.Rotating.{ArePut}
 use Rattle.column_rotate.specs.Texts.{param_name, params_from}
 use Rattle.rotation_laws.specs.Laws.{AreNamed}
@@ -72,25 +72,25 @@ upto-length i (x ∷ xs) = ap suc (upto-length (i + 1) xs)
 
 pub upto-map : {A B : Type 0} (f : A → B) (i : ℕ) (xs : List A) → upto i (map f xs) ≡ upto i xs
 upto-map f i [] = refl
-upto-map f i (x ∷ xs) = ap (λ places. i ∷ places) (upto-map f (i + 1) xs)
+upto-map f i (x ∷ xs) = ap (λ ordinals. i ∷ ordinals) (upto-map f (i + 1) xs)
 
--- the first that passes stands behind those that don't
-first_place : {A : Type 0} (p : A → Bool) (before : List A) (x : A) (after : List A) → list_any p before ≡ false → p x ≡ true → position_or_len p (before ++ x ∷ after) ≡ length before
-first_place p [] x after none e = rw e refl
-first_place p (b ∷ before) x after none e =
+-- the first that passes stands after those that don't
+first_ordinal : {A : Type 0} (p : A → Bool) (before : List A) (x : A) (after : List A) → list_any p before ≡ false → p x ≡ true → position_or_len p (before ++ x ∷ after) ≡ length before
+first_ordinal p [] x after none e = rw e refl
+first_ordinal p (b ∷ before) x after none e =
     let q = or_parts (p b) (list_any p before) none in
-    rw q.0 (ap (λ n. 1 + n) (first_place p before x after q.1 e) ∙ omega arith)
+    rw q.0 (ap (λ n. 1 + n) (first_ordinal p before x after q.1 e) ∙ omega arith)
 
 pub first_position : {A : Type 0} (p : A → Bool) (before : List A) (x : A) (after : List A) → list_any p before ≡ false → p x ≡ true → position p (before ++ x ∷ after) ≡ Some (length before)
 first_position p before x after none e =
-    rw (first_place p before x after none e, lt-ltb (length before) (length (before ++ x ∷ after)) (omega (arith, length-append before (x ∷ after)))) refl
+    rw (first_ordinal p before x after none e, lt-ltb (length before) (length (before ++ x ∷ after)) (omega (arith, length-append before (x ∷ after)))) refl
 
-place-map : {A B : Type 0} (f : A → B) (p : B → Bool) (xs : List A) → position_or_len (λ x. p (f x)) xs ≡ position_or_len p (map f xs)
-place-map f p [] = refl
-place-map f p (x ∷ xs) = ap (λ n. cond (not (p (f x))) (1 + n) 0) (place-map f p xs)
+ordinal-map : {A B : Type 0} (f : A → B) (p : B → Bool) (xs : List A) → position_or_len (λ x. p (f x)) xs ≡ position_or_len p (map f xs)
+ordinal-map f p [] = refl
+ordinal-map f p (x ∷ xs) = ap (λ n. cond (not (p (f x))) (1 + n) 0) (ordinal-map f p xs)
 
 position-map : {A B : Type 0} (f : A → B) (p : B → Bool) (xs : List A) → position (λ x. p (f x)) xs ≡ position p (map f xs)
-position-map f p xs = rw (place-map f p xs, length-map xs f) refl
+position-map f p xs = rw (ordinal-map f p xs, length-map xs f) refl
 
 -- ---- texts that differ
 
@@ -143,22 +143,22 @@ all_fresh names h = fresh [] names (outside_none names) h
 -- ---- the columns that are listed
 
 listed : (columns : List ColumnDef) (names before : List (List ℕ)) (n : List ℕ) (after : List (List ℕ)) → map (λ column. column.name) columns ≡ names → names ≡ before ++ n ∷ after
-    → list_any (bytes_eq n) before ≡ false → listed_place columns names (length before) n ≡ Ok (length before)
+    → list_any (bytes_eq n) before ≡ false → listed_ordinal columns names (length before) n ≡ Ok (length before)
 listed columns names before n after e f none =
     let there : position (λ column. bytes_eq column.name n) columns ≡ Some (length before) =
     position-map (λ column. column.name) (λ m. bytes_eq m n) columns ∙ ap (position (λ m. bytes_eq m n)) (e ∙ f)
     ∙ first_position (λ m. bytes_eq m n) before n after (swapped_any n before ∙ none) (same n) in
-    let front : list_any (bytes_eq n) (take (length before) names) ≡ false =
+    let prefix : list_any (bytes_eq n) (take (length before) names) ≡ false =
     ap (λ ns. list_any (bytes_eq n) (take (length before) ns)) f ∙ ap (list_any (bytes_eq n)) (take-append_seam before (n ∷ after)) ∙ none in
-    rw (there, front) refl
+    rw (there, prefix) refl
 
 pub all_listed : (columns : List ColumnDef) (names before after : List (List ℕ)) → map (λ column. column.name) columns ≡ names → names ≡ before ++ after → AreFresh before after
-    → each_from (listed_place columns names) (length before) after ≡ Ok (upto (length before) after)
+    → each_from (listed_ordinal columns names) (length before) after ≡ Ok (upto (length before) after)
 all_listed columns names before [] e f h = refl
 all_listed columns names before (n ∷ after) e f h =
     let one : length (before ++ n ∷ []) ≡ length before + 1 = length-append before (n ∷ []) in
-    let more : each_from (listed_place columns names) (length before + 1) after ≡ Ok (upto (length before + 1) after) =
-    ap (λ i. each_from (listed_place columns names) i after) (sym one) ∙ all_listed columns names (before ++ n ∷ []) after e (f ∙ sym (append_assoc before (n ∷ []) after)) h.1
+    let more : each_from (listed_ordinal columns names) (length before + 1) after ≡ Ok (upto (length before + 1) after) =
+    ap (λ i. each_from (listed_ordinal columns names) i after) (sym one) ∙ all_listed columns names (before ++ n ∷ []) after e (f ∙ sym (append_assoc before (n ∷ []) after)) h.1
     ∙ ap (λ i. Ok (upto i after)) one in
     rw (listed columns names before n after e f h.0, more) refl
 
@@ -195,7 +195,7 @@ no_earlier k m [] h small = refl
 no_earlier k m (c ∷ cs) h small = rw (other_name k m (omega arith) small, no_earlier (k + 1) m cs (omega arith) small) refl
 
 found : (before : List SentColumn) (c : SentColumn) (after : List SentColumn) → length before < 1000
-    → param_place (declared_from 1 (before ++ c ∷ after)) (param_name (1 + length before)) ≡ Ok (length before)
+    → param_ordinal (declared_from 1 (before ++ c ∷ after)) (param_name (1 + length before)) ≡ Ok (length before)
 found before c after few =
     let at : position (λ d. bytes_eq d.name (param_name (1 + length before))) (declared_from 1 (before ++ c ∷ after)) ≡ Some (length before) =
     ap (position (λ d. bytes_eq d.name (param_name (1 + length before)))) (declared-append 1 before (c ∷ after))
@@ -205,10 +205,10 @@ found before c after few =
     ∙ ap Some (declared-length 1 before) in
     rw at refl
 
-pub record ValuesBound (all : List SentColumn) (place : ℕ) (rest : List SentColumn) (values : List Operand) : Type 0 where
+pub record ValuesBound (all : List SentColumn) (ordinal : ℕ) (rest : List SentColumn) (values : List Operand) : Type 0 where
   pub bound : List BoundOperand
   pub is : each (bind_operand nothing_in_scope (declared_from 1 all)) values ≡ Ok bound
-  pub put : ArePut place (upto place rest) bound
+  pub put : ArePut ordinal (upto ordinal rest) bound
   pub wide : length bound ≡ length rest
 
 pub values_bound : (all before rest : List SentColumn) (values : List Operand) → all ≡ before ++ rest

@@ -60,7 +60,7 @@ use Rattle.enc_types.proofs.Interface.{enc_eq-Decides, has_typing-Decides, no_cl
 use Rattle.semantic_checks.specs.Checks.{check_of}
 use Rattle.semantic_checks.specs.Clashes.{Types, clashes, paired_clashes, column_kind, differ, kind_of, site_kind}
 use Rattle.expression_binding.specs.Walks.{each_from}
-use Rattle.resolve.specs.Changes.{listed_place}
+use Rattle.resolve.specs.Changes.{listed_ordinal}
 use Rattle.resolve.specs.Bind.{bind, bound_over, resolution}
 use Rattle.resolve.specs.Definitions.{table_sites}
 use Rattle.transactions.specs.Rotating.{ArePut, IsRowInsert}
@@ -71,7 +71,7 @@ use Rattle.rotation_laws.proofs.Columns.{upto, upto-length, upto-map, all_fresh,
 -- ---- the bound statement
 
 abbrev pub insert_of : List ℕ → List ℕ → ℕ → List BoundOperand → BoundInsert
-insert_of table named at values = record { table = table; named = named; rows = record { at = at; values = values } ∷ [] }
+insert_of table named at values = record { table = table; columns = named; rows = record { at = at; values = values } ∷ [] }
 
 abbrev pub put_of : List ℕ → TableDef → List SentColumn → ℕ → List BoundOperand → Bound
 put_of table def columns at values = bound_over (declared_from 1 columns) (table_sites def) (statement.Insert (insert_of table (upto 0 columns) at values))
@@ -102,28 +102,28 @@ one_kind defs i =
 one_type : (defs : List ColumnDef) (i : ℕ) → option_map (λ site. site.ty) (slice_get (map site_of defs) i) ≡ slice_get (map (λ column. column.ty) defs) i
 one_type defs i = ap (option_map (λ site. site.ty)) (slice_get-map site_of defs i) ∙ type_of_both (slice_get defs i) ∙ sym (slice_get-map (λ column. column.ty) defs i)
 
-paired_fine : (types : Types) → ((i : ℕ) → column_kind types i ≡ option_map kind_of (slice_get types.params i)) → (i : ℕ) (places : List ℕ) (values : List BoundOperand) → ArePut i places values
-    → paired_clashes types places values ≡ []
+paired_fine : (types : Types) → ((i : ℕ) → column_kind types i ≡ option_map kind_of (slice_get types.params i)) → (i : ℕ) (ordinals : List ℕ) (values : List BoundOperand) → ArePut i ordinals values
+    → paired_clashes types ordinals values ≡ []
 paired_fine types alike i [] [] h = refl
 paired_fine types alike i [] (v ∷ values) h = absurd h
-paired_fine types alike i (p ∷ places) [] h = absurd h
-paired_fine types alike i (p ∷ places) (v ∷ values) h =
+paired_fine types alike i (p ∷ ordinals) [] h = absurd h
+paired_fine types alike i (p ∷ ordinals) (v ∷ values) h =
     let kinds : differ (column_kind types i) (option_map kind_of (slice_get types.params i)) ≡ false = ap
     (λ k. differ k (option_map kind_of (slice_get types.params i))) (alike i) ∙ never_differ (slice_get types.params i) in
-    rw (h.0, h.1.1, kinds, paired_fine types alike (i + 1) places values h.2) refl
+    rw (h.0, h.1.1, kinds, paired_fine types alike (i + 1) ordinals values h.2) refl
 
 -- ---- rules
 
-rules_few : (i : ℕ) (places : List ℕ) (values : List BoundOperand) → ArePut i places values → length (value_rules places values) ≤ length places
+rules_few : (i : ℕ) (ordinals : List ℕ) (values : List BoundOperand) → ArePut i ordinals values → length (value_rules ordinals values) ≤ length ordinals
 rules_few i [] values h = omega arith
-rules_few i (p ∷ places) [] h = absurd h
-rules_few i (p ∷ places) (v ∷ values) h = rw (h.1.1) (omega (arith, rules_few (i + 1) places values h.2))
+rules_few i (p ∷ ordinals) [] h = absurd h
+rules_few i (p ∷ ordinals) (v ∷ values) h = rw (h.1.1) (omega (arith, rules_few (i + 1) ordinals values h.2))
 
 rules_all : (p : Rule → Bool) → ((i at : ℕ) → p (Same (Column i) (Param i) at) ≡ true)
-    → (i : ℕ) (places : List ℕ) (values : List BoundOperand) → ArePut i places values → list_all p (value_rules places values) ≡ true
+    → (i : ℕ) (ordinals : List ℕ) (values : List BoundOperand) → ArePut i ordinals values → list_all p (value_rules ordinals values) ≡ true
 rules_all p h i [] values put = refl
-rules_all p h i (n ∷ places) [] put = absurd put
-rules_all p h i (n ∷ places) (v ∷ values) put = rw (put.0, put.1.1, h i put.1.0) (rules_all p h (i + 1) places values put.2)
+rules_all p h i (n ∷ ordinals) [] put = absurd put
+rules_all p h i (n ∷ ordinals) (v ∷ values) put = rw (put.0, put.1.1, h i put.1.0) (rules_all p h (i + 1) ordinals values put.2)
 
 placed_length_by : (r next : Rule) (rs : List Rule) (b : Bool) → length (placed r rs) ≡ suc (length rs) → length (cond b (r ∷ next ∷ rs) (next ∷ placed r rs)) ≡ suc (suc (length rs))
 placed_length_by r next rs true h = refl
@@ -234,15 +234,15 @@ put_resolved : (catalog : Catalog) (table : List ℕ) (def : TableDef) (columns 
     → resolution catalog (insert_tree table columns at values) (declared_from 1 columns) ≡ Ok (put_of table def columns at vb.bound)
 put_resolved catalog table def columns at values there of apart vb =
     let titles = map title_of columns in
-    let named : each_from (listed_place def.columns titles) 0 titles ≡ Ok (upto 0 columns) =
+    let named : each_from (listed_ordinal def.columns titles) 0 titles ≡ Ok (upto 0 columns) =
     all_listed def.columns titles [] titles (sym of.titles) refl (all_fresh titles (ap all_differ of.titles ∙ apart)) ∙ ap Ok (upto-map title_of 0 columns) in
     rw (there, named, vb.is) refl
 
 -- ---- what is said of it
 
-encs_length : (typing : Typing) (place : ℕ) (tys : List Ty) → length (encs_from typing place tys) ≡ length tys
-encs_length typing place [] = refl
-encs_length typing place (ty ∷ tys) = ap suc (encs_length typing (suc place) tys)
+encs_length : (typing : Typing) (ordinal : ℕ) (tys : List Ty) → length (encs_from typing ordinal tys) ≡ length tys
+encs_length typing ordinal [] = refl
+encs_length typing ordinal (ty ∷ tys) = ap suc (encs_length typing (suc ordinal) tys)
 
 -- all rules hold in any order
 placed_parts_by : (p : Rule → Bool) (r next : Rule) (rs : List Rule) (b : Bool)
@@ -269,19 +269,19 @@ enc_there [] rest c = refl
 enc_there (b ∷ before) rest c = enc_there before rest c
 
 encs_each : (defs : List ColumnDef) (tys : List Ty) (typing : Typing) → Agrees (map site_of defs) typing
-    → (before rest : List ColumnDef) → defs ≡ before ++ rest → (places : List ℕ) (values : List BoundOperand) → ArePut (length before) places values
-    → length places ≡ length rest → (own : List Ty) → length own ≡ length rest
-    → list_all (holds tys (map site_of defs) typing) (value_rules places values) ≡ true → encs_from typing (length before) own ≡ map (λ column. column.enc) rest
-encs_each defs tys typing agrees before [] e places values put wide [] long h = refl
-encs_each defs tys typing agrees before [] e places values put wide (t ∷ own) long h = absurd (omega arith)
-encs_each defs tys typing agrees before (c ∷ rest) e places values put wide [] long h = absurd (omega arith)
+    → (before rest : List ColumnDef) → defs ≡ before ++ rest → (ordinals : List ℕ) (values : List BoundOperand) → ArePut (length before) ordinals values
+    → length ordinals ≡ length rest → (own : List Ty) → length own ≡ length rest
+    → list_all (holds tys (map site_of defs) typing) (value_rules ordinals values) ≡ true → encs_from typing (length before) own ≡ map (λ column. column.enc) rest
+encs_each defs tys typing agrees before [] e ordinals values put wide [] long h = refl
+encs_each defs tys typing agrees before [] e ordinals values put wide (t ∷ own) long h = absurd (omega arith)
+encs_each defs tys typing agrees before (c ∷ rest) e ordinals values put wide [] long h = absurd (omega arith)
 encs_each defs tys typing agrees before (c ∷ rest) e [] values put wide (t ∷ own) long h = absurd (omega arith)
-encs_each defs tys typing agrees before (c ∷ rest) e (p ∷ places) [] put wide (t ∷ own) long h = absurd put
-encs_each defs tys typing agrees before (c ∷ rest) e (p ∷ places) (v ∷ values) put wide (t ∷ own) long h =
+encs_each defs tys typing agrees before (c ∷ rest) e (p ∷ ordinals) [] put wide (t ∷ own) long h = absurd put
+encs_each defs tys typing agrees before (c ∷ rest) e (p ∷ ordinals) (v ∷ values) put wide (t ∷ own) long h =
     let i = length before in
     let rule : Rule = Same (Column i) (Param i) put.1.0 in
-    let first : value_rules (p ∷ places) (v ∷ values) ≡ rule ∷ value_rules places values = rw (put.0, put.1.1) refl in
-    let q = and_parts (holds tys (map site_of defs) typing rule) (list_all (holds tys (map site_of defs) typing) (value_rules places values))
+    let first : value_rules (p ∷ ordinals) (v ∷ values) ≡ rule ∷ value_rules ordinals values = rw (put.0, put.1.1) refl in
+    let q = and_parts (holds tys (map site_of defs) typing rule) (list_all (holds tys (map site_of defs) typing) (value_rules ordinals values))
     (ap (list_all (holds tys (map site_of defs) typing)) (sym first) ∙ h) in
     let same = and_parts (enc_eq (typing (Column i)) (typing (Param i))) _ q.0 in
     let column : typing (Column i) ≡ c.enc = agrees (Column i) (enc_at (map site_of defs) i) refl ∙ ap (λ ds. enc_at (map site_of ds) i) e ∙ enc_there before rest c in
@@ -292,7 +292,7 @@ encs_each defs tys typing agrees before (c ∷ rest) e (p ∷ places) (v ∷ val
     ∙ ap (λ es. c.enc ∷ es)
     (ap (λ n. encs_from typing n own) (sym far)
     ∙ encs_each defs tys typing agrees (before ++ c ∷ []) rest (e ∙ sym (append_assoc before (c ∷ []) rest))
-    places values (subst (λ n. ArePut n places values) (sym far_too) put.2) (omega arith) own (omega arith) q.1)
+    ordinals values (subst (λ n. ArePut n ordinals values) (sym far_too) put.2) (omega arith) own (omega arith) q.1)
 
 pub record PutBound (catalog : Catalog) (table : List ℕ) (def : TableDef) (columns : List SentColumn) (at : ℕ) (values : List Operand) : Type 0 where
   pub bound : Bound

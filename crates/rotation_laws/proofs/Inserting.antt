@@ -44,7 +44,7 @@ use Rattle.sql_tree.specs.declared.lexemes.Keyword.TheVariants as keyword
 use Rattle.sql_tree.specs.declared.lexemes.Symbol.TheVariants as symbol
 use Rattle.sql_tree.specs.declared.lexemes.Lexeme.{Lexeme}
 use Rattle.sql_tree.specs.declared.lexemes.Lexeme.TheVariants as lexeme
-use Rattle.sql_tree.specs.Tokens.{front, is_word_byte, is_name, named}
+use Rattle.sql_tree.specs.Tokens.{next_token, is_word_byte, is_name, named}
 use Rattle.column_rotate.specs.Texts.{in_brackets, insert_text, more_names, more_placeholders, names, param_name, placeholders}
 use Rattle.proper_value_laws.specs.Proper.{IsIdentifier}
 use Rattle.rotation_laws.specs.Laws.{AreIdentifiers}
@@ -199,13 +199,13 @@ decimal_word = decimal_by_steps (λ m ds. list_all is_word_byte ds ≡ true) (λ
 param_named : (n : ℕ) → n ≤ 100 → is_name (param_name n) ≡ true
 param_named n h = rw (lt-ltb 0 (length (param_name n)) (omega arith), le-leb (length (param_name n)) 128 (omega (arith, length-decimal-le_succ n (omega arith)))) refl
 
-param_front : (n : ℕ) (rest : List ℕ) → n ≤ 100 → IsWordEnd rest → front (param_bytes n rest) ≡ Some (lexeme.Param (param_name n), suc (length (param_name n)))
-param_front n rest h e =
+param_prefix : (n : ℕ) (rest : List ℕ) → n ≤ 100 → IsWordEnd rest → next_token (param_bytes n rest) ≡ Some (lexeme.Param (param_name n), suc (length (param_name n)))
+param_prefix n rest h e =
     let word : list_all is_word_byte (param_name n) ≡ true = decimal_word n (omega arith) in
     ap (named lexeme.Param 1) (taken (param_name n) rest word e) ∙ rw (param_named n h) (ap (λ k. Some (lexeme.Param (param_name n), k)) (omega arith))
 
 pub lexed_param : {rest : List ℕ} {ls : List Lexeme} (n : ℕ) → n ≤ 100 → IsWordEnd rest → Lexed rest ls → Lexed (param_bytes n rest) (lexeme.Param (param_name n) ∷ ls)
-lexed_param {rest = rest} n h e l = lexed_token (length (param_name n)) (param_front n rest h e) refl (drop-append_seam (param_name n) rest) l
+lexed_param {rest = rest} n h e l = lexed_token (length (param_name n)) (param_prefix n rest h e) refl (drop-append_seam (param_name n) rest) l
 
 params_end : (n : ℕ) (cs : List SentColumn) (rest : List ℕ) → IsWordEnd rest → IsWordEnd (more_param_bytes n cs rest)
 params_end n [] rest h = h

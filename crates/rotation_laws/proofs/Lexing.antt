@@ -47,33 +47,33 @@ use Rattle.ae_base.specs.Names.{IsName}
 use Rattle.sql_tree.specs.declared.lexemes.Lexeme.{Lexeme}
 use Rattle.sql_tree.specs.declared.lexemes.Lexeme.TheVariants as lexeme
 use Rattle.sql_tree.specs.declared.lexemes.Token.{Token}
-use Rattle.sql_tree.specs.Tokens.{front, passed_over, quoted, with_byte, tokens_from, is_name, bracketed_lexeme}
+use Rattle.sql_tree.specs.Tokens.{next_token, passed_over, quoted, with_byte, tokens_from, is_name, bracketed_lexeme}
 use Rattle.column_rotate.specs.Texts.{bracketed_char, in_brackets}
 
 -- ---- tokens by their lexemes
 
-abbrev pub place_before : ℕ → (ℕ → ℕ) → ℕ → ℕ
-place_before at places zero = at
-place_before at places (suc k) = places k
+abbrev pub ordinal_before : ℕ → (ℕ → ℕ) → ℕ → ℕ
+ordinal_before at ordinals zero = at
+ordinal_before at ordinals (suc k) = ordinals k
 
 -- some lexemes, each at its place
 abbrev pub tokens_with : (ℕ → ℕ) → List Lexeme → List Token
-tokens_with places [] = []
-tokens_with places (l ∷ ls) = record { at = places 0; lexeme = l } ∷ tokens_with (λ k. places (suc k)) ls
+tokens_with ordinals [] = []
+tokens_with ordinals (l ∷ ls) = record { at = ordinals 0; lexeme = l } ∷ tokens_with (λ k. ordinals (suc k)) ls
 
 pub record Placed (read : Option (List Token)) (ls : List Lexeme) : Type 0 where
-  pub places : ℕ → ℕ
-  pub tokens : read ≡ Some (tokens_with places ls)
+  pub ordinals : ℕ → ℕ
+  pub tokens : read ≡ Some (tokens_with ordinals ls)
 
 -- from every place on
 pub record Lexed (bytes : List ℕ) (ls : List Lexeme) : Type 0 where
   pub lexed : (at : ℕ) → Placed (tokens_from at 0 bytes) ls
 
 pub lexed_nil : Lexed [] []
-lexed_nil = record { lexed = λ at. record { places = λ k. k; tokens = refl } }
+lexed_nil = record { lexed = λ at. record { ordinals = λ k. k; tokens = refl } }
 
 pub lexed_blank : {bytes : List ℕ} {ls : List Lexeme} → Lexed bytes ls → Lexed (32 ∷ bytes) ls
-lexed_blank h = record { lexed = λ at. record { places = (h.lexed (at + 1)).places; tokens = (h.lexed (at + 1)).tokens } }
+lexed_blank h = record { lexed = λ at. record { ordinals = (h.lexed (at + 1)).ordinals; tokens = (h.lexed (at + 1)).tokens } }
 
 tokens_from-skip : (at skip : ℕ) (bytes : List ℕ) → tokens_from at skip bytes ≡ tokens_from (at + skip) 0 (drop skip bytes)
 tokens_from-skip at zero bytes = ap (λ n. tokens_from n 0 bytes) (sym (add-zero at))
@@ -81,14 +81,14 @@ tokens_from-skip at (suc skip) [] = refl
 tokens_from-skip at (suc skip) (b ∷ bytes) =
     tokens_from-skip (at + 1) skip bytes ∙ ap (λ n. tokens_from n 0 (drop skip bytes)) (omega arith)
 
-pub lexed_token : {b : ℕ} {bytes rest : List ℕ} {l : Lexeme} {ls : List Lexeme} (n : ℕ) → front (b ∷ bytes) ≡ Some (l, suc n) → passed_over (b ∷ bytes) ≡ 0
+pub lexed_token : {b : ℕ} {bytes rest : List ℕ} {l : Lexeme} {ls : List Lexeme} (n : ℕ) → next_token (b ∷ bytes) ≡ Some (l, suc n) → passed_over (b ∷ bytes) ≡ 0
     → drop n bytes ≡ rest → Lexed rest ls → Lexed (b ∷ bytes) (l ∷ ls)
 lexed_token {b = b} {bytes = bytes} {rest = rest} {l = l} {ls = ls} n e blank left h = record {
   lexed = λ at.
       let p = h.lexed (at + 1 + n) in
-      let more : tokens_from (at + 1) n bytes ≡ Some (tokens_with p.places ls) =
+      let more : tokens_from (at + 1) n bytes ≡ Some (tokens_with p.ordinals ls) =
       tokens_from-skip (at + 1) n bytes ∙ ap (tokens_from (at + 1 + n) 0) left ∙ p.tokens in
-      record { places = place_before at p.places; tokens = rw (blank, e, sub-one, more) refl };
+      record { ordinals = ordinal_before at p.ordinals; tokens = rw (blank, e, sub-one, more) refl };
 }
 
 -- ---- a name in brackets
@@ -187,16 +187,16 @@ name_test name h = rw (lt-ltb 0 (length name) (omega (arith, h.0)), le-leb (leng
 lexeme_of : (name : List ℕ) → IsName name → all_scalars name ≡ true → bracketed_lexeme (encode_utf8_all name) ≡ Some (lexeme.Ident name)
 lexeme_of name h scalar = rw (is_utf8-from_IsUtf8 (encode_utf8_all name) (name, (scalar, refl)), chars-encodes name scalar, name_test name h) refl
 
-pub name_front : (name rest : List ℕ) → IsName name → all_scalars name ≡ true → opens_closing rest ≡ false
-    → front (91 ∷ (between name ++ 93 ∷ rest)) ≡ Some (lexeme.Ident name, suc (length (between name) + 1))
-name_front name rest h scalar after = rw ((closed name rest after).read, lexeme_of name h scalar) (ap (λ n. Some (lexeme.Ident name, n)) (omega arith))
+pub name_prefix : (name rest : List ℕ) → IsName name → all_scalars name ≡ true → opens_closing rest ≡ false
+    → next_token (91 ∷ (between name ++ 93 ∷ rest)) ≡ Some (lexeme.Ident name, suc (length (between name) + 1))
+name_prefix name rest h scalar after = rw ((closed name rest after).read, lexeme_of name h scalar) (ap (λ n. Some (lexeme.Ident name, n)) (omega arith))
 
 left : (xs rest : List ℕ) → drop (length xs + 1) (xs ++ 93 ∷ rest) ≡ rest
 left xs rest = drop-append-add xs (93 ∷ rest) 1
 
 pub lexed_name : {rest : List ℕ} {ls : List Lexeme} (name : List ℕ) → IsName name → all_scalars name ≡ true → opens_closing rest ≡ false
     → Lexed rest ls → Lexed (91 ∷ (between name ++ 93 ∷ rest)) (lexeme.Ident name ∷ ls)
-lexed_name {rest = rest} name h scalar after l = lexed_token (length (between name) + 1) (name_front name rest h scalar after) refl (left (between name) rest) l
+lexed_name {rest = rest} name h scalar after l = lexed_token (length (between name) + 1) (name_prefix name rest h scalar after) refl (left (between name) rest) l
 
 -- ---- how long a name in brackets is
 

@@ -12,7 +12,7 @@ use Rattle.column_rotate.specs.Texts.{reads_all, replaces}
 use Rattle.proper_value_laws.specs.Proper.{IsIdentifier}
 use Rattle.rotation_laws.specs.Laws.{IsReplaced, ReadingIsWhole, ReplacingIsReplacement}
 use Rattle.rotation_laws.proofs.Parsing.{select_parsed, replace_parsed}
-use Rattle.rotation_laws.proofs.Binding.{meant, nothing_inferred, select_bound, select_rules, select_whole, select_shown, select_of, query_of, replace_bound, replace_rules, replace_of}
+use Rattle.rotation_laws.proofs.Binding.{analysis, nothing_inferred, select_bound, select_rules, select_whole, select_shown, select_of, query_of, replace_bound, replace_rules, replace_of}
 
 pub text_bound : (catalog : Catalog) (text : List ℕ) (declarations : List ParamDecl) (statement : Statement) (b : Bound)
     → statement_in (encode_utf8_all text) ≡ Ok statement → bind catalog statement declarations ≡ Ok b
@@ -25,8 +25,8 @@ read_whole catalog name def named there some few =
     record {
       at = p.0;
       parses = p.1;
-      meant = record { bound = select_of p.0 name def; encs = [] };
-      means = meant catalog (reads_all name).text [] _ []
+      analysis = record { bound = select_of p.0 name def; encs = [] };
+      means = analysis catalog (reads_all name).text [] _ []
           (text_bound catalog (reads_all name).text [] _ _ p.1 (select_bound catalog name def p.0 there some (omega arith)))
           (nothing_inferred (select_of p.0 name def) refl (select_rules name def p.0));
       query = query_of p.0 name def;
@@ -41,8 +41,8 @@ replaced_by catalog old new None other e f h k a b apart = absurd (cc)
 replaced_by catalog old new (Some def) None e f h k a b apart = absurd (cc)
 replaced_by catalog old new (Some def) (Some by) e f h k a b apart = record {
   parses = replace_parsed old new h k;
-  meant = record { bound = replace_of old new; encs = [] };
-  means = meant catalog (replaces old new).text [] _ []
+  analysis = record { bound = replace_of old new; encs = [] };
+  means = analysis catalog (replaces old new).text [] _ []
       (text_bound catalog (replaces old new).text [] _ _ (replace_parsed old new h k) (replace_bound catalog old new def by e f apart))
       (nothing_inferred (replace_of old new) refl (replace_rules old new));
   is = refl;

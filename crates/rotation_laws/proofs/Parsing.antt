@@ -16,7 +16,7 @@ use Rattle.rotation_laws.specs.Laws.{parsed, star_query}
 use Rattle.rotation_laws.proofs.Lexing.{Lexed, tokens_with, lexed_nil, lexed_blank, lexed_token, lexed_name, between, between_short, bracketed, bracketed_last}
 
 pub parsed_lexed : (bytes : List ℕ) (ls : List Lexeme) (tree : Statement) (h : Lexed bytes ls) → length bytes ≤ 65536
-    → parsed_tokens (Some (tokens_with (h.lexed 0).places ls)) ≡ Ok tree → statement_in bytes ≡ Ok tree
+    → parsed_tokens (Some (tokens_with (h.lexed 0).ordinals ls)) ≡ Ok tree → statement_in bytes ≡ Ok tree
 unfolding statement_in
 parsed_lexed bytes ls tree h short e = rw (le-ltb 65536 (length bytes) short, (h.lexed 0).tokens) e
 
@@ -34,9 +34,9 @@ select_lexed name h =
     lexed_token 5 refl refl refl (lexed_blank (lexed_token 0 refl refl refl (lexed_blank (lexed_token 3 refl refl refl (lexed_blank
     (lexed_name name h.named h.scalars refl lexed_nil))))))
 
-select_tree : (places : ℕ → ℕ) (name : List ℕ) → parsed_tokens (Some (tokens_with places (select_lexemes name))) ≡ Ok (tree.Select (star_query (places 1) name))
+select_tree : (ordinals : ℕ → ℕ) (name : List ℕ) → parsed_tokens (Some (tokens_with ordinals (select_lexemes name))) ≡ Ok (tree.Select (star_query (ordinals 1) name))
 unfolding tree_of
-select_tree places name = refl
+select_tree ordinals name = refl
 
 named_short : (name : List ℕ) → IsIdentifier name → length (between name ++ 93 ∷ []) ≤ 513
 named_short name h = omega (arith, length-append (between name) (93 ∷ []), between_short name, h.named.1)
@@ -44,7 +44,7 @@ named_short name h = omega (arith, length-append (between name) (93 ∷ []), bet
 pub select_parsed : (name : List ℕ) → IsIdentifier name → (at : ℕ) × (parsed (reads_all name) ≡ Ok (tree.Select (star_query at name)))
 select_parsed name h =
     let l = select_lexed name h in
-    ((l.lexed 0).places 1, ap statement_in (select_text name) ∙ parsed_lexed _ (select_lexemes name) _ l (omega (arith, named_short name h)) (select_tree (l.lexed 0).places name))
+    ((l.lexed 0).ordinals 1, ap statement_in (select_text name) ∙ parsed_lexed _ (select_lexemes name) _ l (omega (arith, named_short name h)) (select_tree (l.lexed 0).ordinals name))
 
 -- ---- ALTER TABLE .. REPLACE BY
 
@@ -67,13 +67,13 @@ replace_lexed old new h k =
     (lexed_name old h.named h.scalars refl (lexed_blank (lexed_token 6 refl refl refl (lexed_blank (lexed_token 1 refl refl refl (lexed_blank
     (lexed_name new k.named k.scalars refl lexed_nil))))))))))
 
-replace_tree : (places : ℕ → ℕ) (old new : List ℕ) → parsed_tokens (Some (tokens_with places (replace_lexemes old new))) ≡ Ok (tree.Definition (definition.ReplaceTable old new))
+replace_tree : (ordinals : ℕ → ℕ) (old new : List ℕ) → parsed_tokens (Some (tokens_with ordinals (replace_lexemes old new))) ≡ Ok (tree.Definition (definition.ReplaceTable old new))
 unfolding tree_of
-replace_tree places old new = refl
+replace_tree ordinals old new = refl
 
 pub replace_parsed : (old new : List ℕ) → IsIdentifier old → IsIdentifier new → parsed (replaces old new) ≡ Ok (tree.Definition (definition.ReplaceTable old new))
 replace_parsed old new h k =
     let l = replace_lexed old new h k in
     let long = length-append (between old) (93 ∷ (codes " REPLACE BY " ++ 91 ∷ (between new ++ 93 ∷ []))) in
     ap statement_in (replace_text old new)
-    ∙ parsed_lexed _ (replace_lexemes old new) _ l (omega (arith, long, between_short old, h.named.1, named_short new k)) (replace_tree (l.lexed 0).places old new)
+    ∙ parsed_lexed _ (replace_lexemes old new) _ l (omega (arith, long, between_short old, h.named.1, named_short new k)) (replace_tree (l.lexed 0).ordinals old new)

@@ -9,7 +9,7 @@ use Rattle.wire_messages.specs.declared.columns.SentColumn.{SentColumn}
 use Rattle.proper_value_laws.specs.Proper.{IsIdentifier}
 use Rattle.column_rotate.specs.Texts.{insert_text, puts}
 use Rattle.rotation_laws.specs.Laws.{AreIdentifiers, PuttingIsAnInsert, TextsParse, declared, insert_tree, parsed}
-use Rattle.rotation_laws.proofs.Binding.{meant}
+use Rattle.rotation_laws.proofs.Binding.{analysis}
 use Rattle.rotation_laws.proofs.Columns.{are_declared}
 use Rattle.rotation_laws.proofs.InsertBinding.{put_bound}
 use Rattle.rotation_laws.proofs.Inserting.{insert_encoded, insert_lexed, insert_lexemes, insert_short, insert_bytes}
@@ -21,7 +21,7 @@ pub put : TreeIsTheGrammars → PuttingIsAnInsert
 put grammar catalog table def [] row h ids there of apart some few long = absurd (omega arith)
 put grammar catalog table def (c ∷ cs) row h ids there of apart some few long =
     let l = insert_lexed table c cs h ids (omega arith) in
-    let s = insert_parsed grammar (l.lexed 0).places table c cs in
+    let s = insert_parsed grammar (l.lexed 0).ordinals table c cs in
     let tree = insert_tree table (c ∷ cs) s.0.at s.0.values in
     let parses : statement_in (encode_utf8_all (insert_text table (c ∷ cs))) ≡ Ok tree =
     ap statement_in (insert_encoded table c cs (omega arith)) ∙ parsed_lexed (insert_bytes table c cs) (insert_lexemes table c cs) tree l (insert_short table c cs h ids (omega arith)) s.1 in
@@ -33,8 +33,8 @@ put grammar catalog table def (c ∷ cs) row h ids there of apart some few long 
       values = s.0.values;
       named = s.0.named;
       parses = parses;
-      meant = record { bound = b.bound; encs = b.encs };
-      means = meant catalog (insert_text table (c ∷ cs)) (declared (puts table (c ∷ cs) row)) b.bound b.encs
+      analysis = record { bound = b.bound; encs = b.encs };
+      means = analysis catalog (insert_text table (c ∷ cs)) (declared (puts table (c ∷ cs) row)) b.bound b.encs
           (text_bound catalog (insert_text table (c ∷ cs)) (declared (puts table (c ∷ cs) row)) tree b.bound parses binds) b.infers;
       typed = b.typed;
       encs = b.encs_are;
@@ -48,7 +48,7 @@ pub put_parsed : TreeIsTheGrammars → (table : List ℕ) (columns : List SentCo
 put_parsed grammar table [] row h ids some few = absurd (omega arith)
 put_parsed grammar table (c ∷ cs) row h ids some few =
     let l = insert_lexed table c cs h ids (omega arith) in
-    let s = insert_parsed grammar (l.lexed 0).places table c cs in (
+    let s = insert_parsed grammar (l.lexed 0).ordinals table c cs in (
       s.0.at,
       s.0.values,
       ap statement_in (insert_encoded table c cs (omega arith))

@@ -20,7 +20,7 @@ use Rattle.sql_grammar.specs.Texts.{statement_in}
 use Rattle.catalog.specs.Catalogs.{Catalog, table_named}
 use Rattle.engine.specs.Columns.{result_column}
 use Rattle.engine.specs.declared.answers.ResultColumn.{ResultColumn}
-use Rattle.statement_analysis.specs.Describing.{Meant, understood}
+use Rattle.statement_analysis.specs.Describing.{Analysis, analyzed}
 use Rattle.transactions.specs.Rotating.{IsWholeQuery, IsRowInsert}
 use Rattle.proper_value_laws.specs.Proper.{IsIdentifier}
 use Rattle.column_rotate.specs.Texts.{begins, commits, rolls_back, param_name, puts, reads_all, replaces}
@@ -58,12 +58,12 @@ shown_column column = record { title = column.name; ty = column.ty; enc = column
 pub record IsReadWhole (catalog : Catalog) (name : List ℕ) (def : TableDef) : Type 0 where
   pub at : ℕ
   pub parses : parsed (reads_all name) ≡ Ok (tree.Select (star_query at name))
-  pub meant : Meant
-  pub means : understood catalog (reads_all name).text [] ≡ Ok meant
+  pub analysis : Analysis
+  pub means : analyzed catalog (reads_all name).text [] ≡ Ok analysis
   pub query : BoundQuery
-  pub is : meant.bound.statement ≡ bound.Select query
+  pub is : analysis.bound.statement ≡ bound.Select query
   pub whole : IsWholeQuery name (length def.columns) query
-  pub shows : map (result_column meant.bound.columns meant.bound.params meant.encs) query.items ≡ map shown_column def.columns
+  pub shows : map (result_column analysis.bound.columns analysis.bound.params analysis.encs) query.items ≡ map shown_column def.columns
 
 abbrev pub ReadingIsWhole : Type 0
 ReadingIsWhole = (catalog : Catalog) (name : List ℕ) (def : TableDef) → IsIdentifier name → table_named catalog name ≡ Some def → 1 ≤ length def.columns → length def.columns ≤ 64
@@ -74,9 +74,9 @@ ReadingIsWhole = (catalog : Catalog) (name : List ℕ) (def : TableDef) → IsId
 -- over a catalog that has both tables, it replaces one by the other
 pub record IsReplaced (catalog : Catalog) (old new : List ℕ) : Type 0 where
   pub parses : parsed (replaces old new) ≡ Ok (tree.Definition (definition.ReplaceTable old new))
-  pub meant : Meant
-  pub means : understood catalog (replaces old new).text [] ≡ Ok meant
-  pub is : meant.bound.statement ≡ bound.Definition (made.ReplaceTable old new)
+  pub analysis : Analysis
+  pub means : analyzed catalog (replaces old new).text [] ≡ Ok analysis
+  pub is : analysis.bound.statement ≡ bound.Definition (made.ReplaceTable old new)
 
 abbrev pub ReplacingIsReplacement : Type 0
 ReplacingIsReplacement = (catalog : Catalog) (old new : List ℕ) → IsIdentifier old → IsIdentifier new → IsSome (table_named catalog old) → IsSome (table_named catalog new) → old ≢ new
@@ -112,12 +112,12 @@ pub record IsPut (catalog : Catalog) (table : List ℕ) (def : TableDef) (column
   pub values : List Operand
   pub named : AreNamed 1 columns values
   pub parses : parsed (puts table columns row) ≡ Ok (insert_tree table columns at values)
-  pub meant : Meant
-  pub means : understood catalog (puts table columns row).text (declared (puts table columns row)) ≡ Ok meant
-  pub typed : length meant.encs ≡ length columns
-  pub encs : meant.encs ≡ map (λ column. column.enc) def.columns
+  pub analysis : Analysis
+  pub means : analyzed catalog (puts table columns row).text (declared (puts table columns row)) ≡ Ok analysis
+  pub typed : length analysis.encs ≡ length columns
+  pub encs : analysis.encs ≡ map (λ column. column.enc) def.columns
   pub insert : BoundInsert
-  pub is : meant.bound.statement ≡ bound.Insert insert
+  pub is : analysis.bound.statement ≡ bound.Insert insert
   pub put : IsRowInsert table (length columns) insert
 
 -- the columns are the table's in order, with names that differ

@@ -25,8 +25,8 @@ pub fn replacing_is_replacement()
     ensures { ReplacingIsReplacement }
 {}
 
-/// The text that puts a row, over a catalog whose table has these columns in order, means the
-/// insert of one row, each parameter into the column of its place.
+/// The text that inserts a row, over a catalog whose table has these columns in order, means the
+/// insert of one row, each parameter into the column of its ordinal.
 pub fn putting_is_an_insert()
     ensures { PuttingIsAnInsert }
 {
@@ -34,15 +34,15 @@ pub fn putting_is_an_insert()
 }
 
 /// Over every catalog the control texts ask to begin, commit or roll back. Over one that has both
-/// tables, with the same columns, whose names differ, what is executed for the other texts, where
-/// it is answered, is what a transaction has done that has rotated the tables.
+/// tables, with the same columns, whose names differ, the executions of the other texts, where they
+/// are answered, are those of a transaction that has rotated the tables.
 pub fn rotation_texts_mean()
     ensures { RotationTextsMean }
 {
     reads_the_grammar();
 }
 
-/// Whatever the catalog is, the texts that read a table, put a row and replace a table parse to
+/// Whatever the catalog is, the texts that read a table, insert a row and replace a table parse to
 /// these statements.
 pub fn texts_parse()
     ensures { TextsParse }

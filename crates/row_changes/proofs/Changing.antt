@@ -88,9 +88,9 @@ hits_more f rows i row whole hits hit lt e n w h =
 
 -- ---- the row with the values that SET gives
 
-pub replaced_width : (place : ℕ) (given : List (ℕ × Atom)) (row : List Atom) → length (replaced place given row) ≡ length row
-replaced_width place given [] = refl
-replaced_width place given (atom ∷ row) = ap suc (replaced_width (place + 1) given row)
+pub replaced_width : (ordinal : ℕ) (given : List (ℕ × Atom)) (row : List Atom) → length (replaced ordinal given row) ≡ length row
+replaced_width ordinal given [] = refl
+replaced_width ordinal given (atom ∷ row) = ap suc (replaced_width (ordinal + 1) given row)
 
 -- ---- how many
 
@@ -111,7 +111,7 @@ unhit_stay (row ∷ rows) [] n = absurd (omega arith)
 unhit_stay (row ∷ rows) (true ∷ hits) n = unhit_stay rows hits (omega arith)
 unhit_stay (row ∷ rows) (false ∷ hits) n = ap (λ l. row ∷ l) (unhit_stay rows hits (omega arith))
 
--- what is read of lent rows
+-- what is read of borrowed rows
 pub read_mapped : {A B : Type 0} (f : A → B) (xs : List A) (i : ℕ) (x : A) → i < length xs → x ≡ get_or xs i x → f x ≡ get_or (map f xs) i (f x)
 read_mapped f [] i x lt e = absurd (omega arith)
 read_mapped f (y ∷ xs) zero x lt e = ap f e

@@ -61,7 +61,7 @@ other_less p n e le = grind (arith, nat_tests)
 pub spread_long : (p n : ℕ) (cs : List Changed) → length (spread p n cs) ≡ n
 spread_long p zero cs = refl
 spread_long p (suc n) [] = ap suc (spread_long (p + 1) n [])
-spread_long p (suc n) (c ∷ cs) = by_test (c.place == p) (spread_long (p + 1) n cs) (spread_long (p + 1) n (c ∷ cs))
+spread_long p (suc n) (c ∷ cs) = by_test (c.position == p) (spread_long (p + 1) n cs) (spread_long (p + 1) n (c ∷ cs))
   where
     by_test : (b : Bool) → length (spread (p + 1) n cs) ≡ n → length (spread (p + 1) n (c ∷ cs)) ≡ n → length (cond b (Some c.row ∷ spread (p + 1) n cs) (None ∷ spread (p + 1) n (c ∷ cs))) ≡ suc n
     by_test true x y = ap suc x
@@ -69,44 +69,44 @@ spread_long p (suc n) (c ∷ cs) = by_test (c.place == p) (spread_long (p + 1) n
 
 -- ---- one row more
 
-rising_over : (p n : ℕ) (c : Changed) (cs : List Changed) → (c.place == p) ≡ true → AreRising p (p + suc n) (c ∷ cs) → AreRising (p + 1) (p + 1 + n) cs
+rising_over : (p n : ℕ) (c : Changed) (cs : List Changed) → (c.position == p) ≡ true → AreRising p (p + suc n) (c ∷ cs) → AreRising (p + 1) (p + 1 + n) cs
 rising_over p n c cs e r =
-    let same : c.place ≡ p = tested_same c.place p e in
+    let same : c.position ≡ p = tested_same c.position p e in
     let to : p + suc n ≡ p + 1 + n = omega arith in
-    subst (λ k. AreRising (k + 1) (p + 1 + n) cs) same (subst (λ k. AreRising (c.place + 1) k cs) to r.2)
+    subst (λ k. AreRising (k + 1) (p + 1 + n) cs) same (subst (λ k. AreRising (c.position + 1) k cs) to r.2)
 
-rising_later : (p n : ℕ) (c : Changed) (cs : List Changed) → (c.place == p) ≡ false → AreRising p (p + suc n) (c ∷ cs) → AreRising (p + 1) (p + 1 + n) (c ∷ cs)
+rising_later : (p n : ℕ) (c : Changed) (cs : List Changed) → (c.position == p) ≡ false → AreRising p (p + suc n) (c ∷ cs) → AreRising (p + 1) (p + 1 + n) (c ∷ cs)
 rising_later p n c cs e r =
     let to : p + suc n ≡ p + 1 + n = omega arith in
-    (other_less p c.place e r.0, omega (arith, r.1), subst (λ k. AreRising (c.place + 1) k cs) to r.2)
+    (other_less p c.position e r.0, omega (arith, r.1), subst (λ k. AreRising (c.position + 1) k cs) to r.2)
 
 pub spread_none : (p n : ℕ) (cs : List Changed) → AreRising p (p + n) cs → spread p (suc n) cs ≡ spread p n cs ++ None ∷ []
 spread_none p zero [] r = refl
 spread_none p zero (c ∷ cs) r = absurd (omega (arith, r.0, r.1))
 spread_none p (suc n) [] r = ap (λ l. None ∷ l) (spread_none (p + 1) n [] tt)
-spread_none p (suc n) (c ∷ cs) r = by_test (c.place == p) refl (λ h. spread_none (p + 1) n cs h) (λ h. spread_none (p + 1) n (c ∷ cs) h)
+spread_none p (suc n) (c ∷ cs) r = by_test (c.position == p) refl (λ h. spread_none (p + 1) n cs h) (λ h. spread_none (p + 1) n (c ∷ cs) h)
   where
-    by_test : (b : Bool) → (c.place == p) ≡ b → (AreRising (p + 1) (p + 1 + n) cs → spread (p + 1) (suc n) cs ≡ spread (p + 1) n cs ++ None ∷ [])
+    by_test : (b : Bool) → (c.position == p) ≡ b → (AreRising (p + 1) (p + 1 + n) cs → spread (p + 1) (suc n) cs ≡ spread (p + 1) n cs ++ None ∷ [])
         → (AreRising (p + 1) (p + 1 + n) (c ∷ cs) → spread (p + 1) (suc n) (c ∷ cs) ≡ spread (p + 1) n (c ∷ cs) ++ None ∷ [])
         → cond b (Some c.row ∷ spread (p + 1) (suc n) cs) (None ∷ spread (p + 1) (suc n) (c ∷ cs)) ≡ cond b (Some c.row ∷ spread (p + 1) n cs) (None ∷ spread (p + 1) n (c ∷ cs)) ++ None ∷ []
     by_test true e x y = ap (λ l. Some c.row ∷ l) (x (rising_over p n c cs e r))
     by_test false e x y = ap (λ l. None ∷ l) (y (rising_later p n c cs e r))
 
-pub spread_some : (p n : ℕ) (cs : List Changed) (new : Changed) → new.place ≡ p + n → AreRising p (p + n) cs → spread p (suc n) (cs ++ new ∷ []) ≡ spread p n cs ++ Some new.row ∷ []
+pub spread_some : (p n : ℕ) (cs : List Changed) (new : Changed) → new.position ≡ p + n → AreRising p (p + n) cs → spread p (suc n) (cs ++ new ∷ []) ≡ spread p n cs ++ Some new.row ∷ []
 spread_some p zero [] new e r =
-    let same : new.place ≡ p = omega (arith, e) in
-    let test : (new.place == p) ≡ true = ap (λ k. k == p) same ∙ same_test p in
+    let same : new.position ≡ p = omega (arith, e) in
+    let test : (new.position == p) ≡ true = ap (λ k. k == p) same ∙ same_test p in
     ap (λ b. cond b (Some new.row ∷ []) (None ∷ [])) test
 spread_some p zero (c ∷ cs) new e r = absurd (omega (arith, r.0, r.1))
 spread_some p (suc n) [] new e r =
-    let to : new.place ≡ p + 1 + n = omega (arith, e) in
-    let test : (new.place == p) ≡ false = grind (arith, nat_tests, e) in
+    let to : new.position ≡ p + 1 + n = omega (arith, e) in
+    let test : (new.position == p) ≡ false = grind (arith, nat_tests, e) in
     ap (λ b. cond b (Some new.row ∷ spread (p + 1) (suc n) []) (None ∷ spread (p + 1) (suc n) (new ∷ []))) test ∙ ap (λ l. None ∷ l) (spread_some (p + 1) n [] new to tt)
 spread_some p (suc n) (c ∷ cs) new e r =
-    let to : new.place ≡ p + 1 + n = omega (arith, e) in
-    by_test (c.place == p) refl (λ h. spread_some (p + 1) n cs new to h) (λ h. spread_some (p + 1) n (c ∷ cs) new to h)
+    let to : new.position ≡ p + 1 + n = omega (arith, e) in
+    by_test (c.position == p) refl (λ h. spread_some (p + 1) n cs new to h) (λ h. spread_some (p + 1) n (c ∷ cs) new to h)
   where
-    by_test : (b : Bool) → (c.place == p) ≡ b → (AreRising (p + 1) (p + 1 + n) cs → spread (p + 1) (suc n) (cs ++ new ∷ []) ≡ spread (p + 1) n cs ++ Some new.row ∷ [])
+    by_test : (b : Bool) → (c.position == p) ≡ b → (AreRising (p + 1) (p + 1 + n) cs → spread (p + 1) (suc n) (cs ++ new ∷ []) ≡ spread (p + 1) n cs ++ Some new.row ∷ [])
         → (AreRising (p + 1) (p + 1 + n) (c ∷ cs) → spread (p + 1) (suc n) (c ∷ cs ++ new ∷ []) ≡ spread (p + 1) n (c ∷ cs) ++ Some new.row ∷ [])
         → cond b (Some c.row ∷ spread (p + 1) (suc n) (cs ++ new ∷ [])) (None ∷ spread (p + 1) (suc n) (c ∷ cs ++ new ∷ []))
         ≡ cond b (Some c.row ∷ spread (p + 1) n cs) (None ∷ spread (p + 1) n (c ∷ cs)) ++ Some new.row ∷ []
@@ -115,11 +115,11 @@ spread_some p (suc n) (c ∷ cs) new e r =
 
 pub rising_more : (from to more : ℕ) (cs : List Changed) → to ≤ more → AreRising from to cs → AreRising from more cs
 rising_more from to more [] le r = tt
-rising_more from to more (c ∷ cs) le r = (r.0, omega (arith, r.1, le), rising_more (c.place + 1) to more cs le r.2)
+rising_more from to more (c ∷ cs) le r = (r.0, omega (arith, r.1, le), rising_more (c.position + 1) to more cs le r.2)
 
-pub rising_push : (from to : ℕ) (cs : List Changed) (new : Changed) → new.place ≡ to → from ≤ to → AreRising from to cs → AreRising from (to + 1) (cs ++ new ∷ [])
+pub rising_push : (from to : ℕ) (cs : List Changed) (new : Changed) → new.position ≡ to → from ≤ to → AreRising from to cs → AreRising from (to + 1) (cs ++ new ∷ [])
 rising_push from to [] new e le r = (omega (arith, e, le), omega (arith, e), tt)
-rising_push from to (c ∷ cs) new e le r = (r.0, omega (arith, r.1), rising_push (c.place + 1) to cs new e (omega (arith, r.1)) r.2)
+rising_push from to (c ∷ cs) new e le r = (r.0, omega (arith, r.1), rising_push (c.position + 1) to cs new e (omega (arith, r.1)) r.2)
 
 -- ---- the rows so far, with those that are left
 
@@ -139,11 +139,11 @@ module _ (f : List Atom → Result Tested SqlFault) (rows : List (List Atom)) (i
     rising = rising_more 0 i (i + 1) cs (omega arith) s.rising;
   }
 
-  pub changing_some : (new : Changed) → new.place ≡ i → f row ≡ Ok (tested_with row (Some new.row)) → AreChanging f rows (i + 1) (cs ++ new ∷ [])
+  pub changing_some : (new : Changed) → new.position ≡ i → f row ≡ Ok (tested_with row (Some new.row)) → AreChanging f rows (i + 1) (cs ++ new ∷ [])
   changing_some new e h =
       let one : i + 1 ≡ suc i = omega arith in
       let to : i ≡ 0 + i = omega arith in
-      let at : new.place ≡ 0 + i = omega (arith, e) in
+      let at : new.position ≡ 0 + i = omega (arith, e) in
       let some = ap (λ n. spread 0 n (cs ++ new ∷ [])) one ∙ spread_some 0 i cs new at (subst (λ n. AreRising 0 n cs) to s.rising) in
       record {
         so_far = changes_more f rows i row (each f rows) (spread 0 i cs) (Some new.row) lt is (spread_long 0 i cs)
@@ -153,7 +153,7 @@ module _ (f : List Atom → Result Tested SqlFault) (rows : List (List Atom)) (i
 
   pub changing_more : (new : Option (List Atom)) → f row ≡ Ok (tested_with row new) → AreChanging f rows (i + 1) (with_change cs i new)
   changing_more None h = changing_none h
-  changing_more (Some new) h = changing_some (record { place = i; row = new }) refl h
+  changing_more (Some new) h = changing_some (record { position = i; row = new }) refl h
 
 pub changing_done : (f : List Atom → Result Tested SqlFault) (rows : List (List Atom)) (i n : ℕ) (cs : List Changed)
     → AreChanging f rows i cs → i ≡ n → n ≡ length rows → each f rows ≡ Ok (all_changed rows (spread 0 n cs))
@@ -166,38 +166,38 @@ changing_done f rows i n cs s e l =
 
 -- ---- what is written
 
-set_behind : {A : Type 0} (front : List A) (x y : A) (xs : List A) (p : ℕ) → p ≡ length front → slice_set (front ++ x ∷ xs) p y ≡ (front ++ y ∷ []) ++ xs
+set_behind : {A : Type 0} (prefix : List A) (x y : A) (xs : List A) (p : ℕ) → p ≡ length prefix → slice_set (prefix ++ x ∷ xs) p y ≡ (prefix ++ y ∷ []) ++ xs
 set_behind [] x y xs p e = ap (λ n. slice_set (x ∷ xs) n y) e
-set_behind (f ∷ front) x y xs p e = ap (λ n. slice_set (f ∷ front ++ x ∷ xs) n y) e ∙ ap (λ l. f ∷ l) (set_behind front x y xs (length front) refl)
+set_behind (f ∷ prefix) x y xs p e = ap (λ n. slice_set (f ∷ prefix ++ x ∷ xs) n y) e ∙ ap (λ l. f ∷ l) (set_behind prefix x y xs (length prefix) refl)
 
-front_long : {A : Type 0} (front : List A) (x : A) → length (front ++ x ∷ []) ≡ suc (length front)
-front_long [] x = refl
-front_long (f ∷ front) x = ap suc (front_long front x)
+prefix_long : {A : Type 0} (prefix : List A) (x : A) → length (prefix ++ x ∷ []) ≡ suc (length prefix)
+prefix_long [] x = refl
+prefix_long (f ∷ prefix) x = ap suc (prefix_long prefix x)
 
-written_behind : (front rows : List (List Atom)) (p : ℕ) (cs : List Changed) → p ≡ length front
-    → AreRising p (p + length rows) cs → written (front ++ rows) cs ≡ front ++ standing rows (spread p (length rows) cs)
-written_behind front [] p [] e r = refl
-written_behind front [] p (c ∷ cs) e r = absurd (omega (arith, r.0, r.1))
-written_behind front (row ∷ rows) p [] e r =
-    let long : p + 1 ≡ length (front ++ row ∷ []) = omega (arith, e, front_long front row) in
-    sym (append_assoc front (row ∷ []) rows) ∙ written_behind (front ++ row ∷ []) rows (p + 1) [] long tt ∙ append_assoc front (row ∷ []) (standing rows (spread (p + 1) (length rows) []))
-written_behind front (row ∷ rows) p (c ∷ cs) e r =
-    let over : p + 1 ≡ length (front ++ c.row ∷ []) = omega (arith, e, front_long front c.row) in
-    let later : p + 1 ≡ length (front ++ row ∷ []) = omega (arith, e, front_long front row) in
-    by_test (c.place == p) refl (λ h. written_behind (front ++ c.row ∷ []) rows (p + 1) cs over h) (λ h. written_behind (front ++ row ∷ []) rows (p + 1) (c ∷ cs) later h)
+written_behind : (prefix rows : List (List Atom)) (p : ℕ) (cs : List Changed) → p ≡ length prefix
+    → AreRising p (p + length rows) cs → written (prefix ++ rows) cs ≡ prefix ++ standing rows (spread p (length rows) cs)
+written_behind prefix [] p [] e r = refl
+written_behind prefix [] p (c ∷ cs) e r = absurd (omega (arith, r.0, r.1))
+written_behind prefix (row ∷ rows) p [] e r =
+    let long : p + 1 ≡ length (prefix ++ row ∷ []) = omega (arith, e, prefix_long prefix row) in
+    sym (append_assoc prefix (row ∷ []) rows) ∙ written_behind (prefix ++ row ∷ []) rows (p + 1) [] long tt ∙ append_assoc prefix (row ∷ []) (standing rows (spread (p + 1) (length rows) []))
+written_behind prefix (row ∷ rows) p (c ∷ cs) e r =
+    let over : p + 1 ≡ length (prefix ++ c.row ∷ []) = omega (arith, e, prefix_long prefix c.row) in
+    let later : p + 1 ≡ length (prefix ++ row ∷ []) = omega (arith, e, prefix_long prefix row) in
+    by_test (c.position == p) refl (λ h. written_behind (prefix ++ c.row ∷ []) rows (p + 1) cs over h) (λ h. written_behind (prefix ++ row ∷ []) rows (p + 1) (c ∷ cs) later h)
   where
-    by_test : (b : Bool) → (c.place == p) ≡ b
-        → (AreRising (p + 1) (p + 1 + length rows) cs → written ((front ++ c.row ∷ []) ++ rows) cs ≡ (front ++ c.row ∷ []) ++ standing rows (spread (p + 1) (length rows) cs))
-        → (AreRising (p + 1) (p + 1 + length rows) (c ∷ cs) → written ((front ++ row ∷ []) ++ rows) (c ∷ cs) ≡ (front ++ row ∷ []) ++ standing rows (spread (p + 1) (length rows) (c ∷ cs)))
-        → written (slice_set (front ++ row ∷ rows) c.place c.row) cs ≡ front ++ standing (row ∷ rows)
+    by_test : (b : Bool) → (c.position == p) ≡ b
+        → (AreRising (p + 1) (p + 1 + length rows) cs → written ((prefix ++ c.row ∷ []) ++ rows) cs ≡ (prefix ++ c.row ∷ []) ++ standing rows (spread (p + 1) (length rows) cs))
+        → (AreRising (p + 1) (p + 1 + length rows) (c ∷ cs) → written ((prefix ++ row ∷ []) ++ rows) (c ∷ cs) ≡ (prefix ++ row ∷ []) ++ standing rows (spread (p + 1) (length rows) (c ∷ cs)))
+        → written (slice_set (prefix ++ row ∷ rows) c.position c.row) cs ≡ prefix ++ standing (row ∷ rows)
         (cond b (Some c.row ∷ spread (p + 1) (length rows) cs) (None ∷ spread (p + 1) (length rows) (c ∷ cs)))
     by_test true t x y =
-        let at : c.place ≡ length front = tested_same c.place p t ∙ e in
-        ap (λ rs. written rs cs) (set_behind front row c.row rows c.place at) ∙ x (rising_over p (length rows) c cs t r)
-        ∙ append_assoc front (c.row ∷ []) (standing rows (spread (p + 1) (length rows) cs))
+        let at : c.position ≡ length prefix = tested_same c.position p t ∙ e in
+        ap (λ rs. written rs cs) (set_behind prefix row c.row rows c.position at) ∙ x (rising_over p (length rows) c cs t r)
+        ∙ append_assoc prefix (c.row ∷ []) (standing rows (spread (p + 1) (length rows) cs))
     by_test false t x y =
-        ap (λ rs. written rs (c ∷ cs)) (sym (append_assoc front (row ∷ []) rows)) ∙ y (rising_later p (length rows) c cs t r)
-        ∙ append_assoc front (row ∷ []) (standing rows (spread (p + 1) (length rows) (c ∷ cs)))
+        ap (λ rs. written rs (c ∷ cs)) (sym (append_assoc prefix (row ∷ []) rows)) ∙ y (rising_later p (length rows) c cs t r)
+        ∙ append_assoc prefix (row ∷ []) (standing rows (spread (p + 1) (length rows) (c ∷ cs)))
 
 -- the rows with the changes written into them stand as they are to
 pub written_stand : (rows : List (List Atom)) (cs : List Changed) → AreRising 0 (length rows) cs → written rows cs ≡ standing rows (spread 0 (length rows) cs)
@@ -217,9 +217,9 @@ spread_count : (p n : ℕ) (cs : List Changed) → AreRising p (p + n) cs → co
 spread_count p zero [] r = refl
 spread_count p zero (c ∷ cs) r = absurd (omega (arith, r.0, r.1))
 spread_count p (suc n) [] r = no_hits p (suc n)
-spread_count p (suc n) (c ∷ cs) r = by_test (c.place == p) refl (λ h. spread_count (p + 1) n cs h) (λ h. spread_count (p + 1) n (c ∷ cs) h)
+spread_count p (suc n) (c ∷ cs) r = by_test (c.position == p) refl (λ h. spread_count (p + 1) n cs h) (λ h. spread_count (p + 1) n (c ∷ cs) h)
   where
-    by_test : (b : Bool) → (c.place == p) ≡ b → (AreRising (p + 1) (p + 1 + n) cs → count_by (λ (o : Option (List Atom)). is_some o) (spread (p + 1) n cs) ≡ length cs)
+    by_test : (b : Bool) → (c.position == p) ≡ b → (AreRising (p + 1) (p + 1 + n) cs → count_by (λ (o : Option (List Atom)). is_some o) (spread (p + 1) n cs) ≡ length cs)
         → (AreRising (p + 1) (p + 1 + n) (c ∷ cs) → count_by (λ (o : Option (List Atom)). is_some o) (spread (p + 1) n (c ∷ cs)) ≡ suc (length cs))
         → count_by (λ (c : Option (List Atom)). is_some c) (cond b (Some c.row ∷ spread (p + 1) n cs) (None ∷ spread (p + 1) n (c ∷ cs))) ≡ suc (length cs)
     by_test true t x y =

@@ -21,12 +21,12 @@ use Rattle.operators.proofs.Interface.{map_there}
 
 -- ---- one value
 
-module _ (columns : List ColumnDef) (row params : List Atom) (place : ℕ) (v : BoundOperand) where
-  value_is : (column : ColumnDef) (atom : Atom) → eval row params v ≡ Ok atom → column_at columns place ≡ column
-      → value_into columns row params place v ≡ (admitted column atom >>= λ kept. Ok (place, kept))
+module _ (columns : List ColumnDef) (row params : List Atom) (ordinal : ℕ) (v : BoundOperand) where
+  value_is : (column : ColumnDef) (atom : Atom) → eval row params v ≡ Ok atom → column_at columns ordinal ≡ column
+      → value_into columns row params ordinal v ≡ (admitted column atom >>= λ kept. Ok (ordinal, kept))
   value_is column atom e c =
-      ap (λ r. or_overflow r >>= λ atom. admitted (column_at columns place) atom >>= λ kept. Ok (place, kept)) e
-      ∙ ap (λ x. admitted x atom >>= λ kept. Ok (place, kept)) c
+      ap (λ r. or_overflow r >>= λ atom. admitted (column_at columns ordinal) atom >>= λ kept. Ok (ordinal, kept)) e
+      ∙ ap (λ x. admitted x atom >>= λ kept. Ok (ordinal, kept)) c
 
 -- ---- the values of one row
 
@@ -45,11 +45,11 @@ module _ (columns : List ColumnDef) (row params : List Atom) (named : List ℕ) 
 
 -- ---- in table order
 
-pub completed_width : (place : ℕ) (given : List (ℕ × Atom)) (columns : List ColumnDef) (row : List Atom) → completed place given columns ≡ Ok row → length row ≡ length columns
-completed_width place given [] row e = let f : [] ≡ row = cc in ap length (sym f)
-completed_width place given (column ∷ columns) row e =
-    let b = came_before (value_or_null column (value_at given place)) (completed (place + 1) given columns) row e in
-    ap length b.all ∙ ap suc (completed_width (place + 1) given columns b.others b.then)
+pub completed_width : (ordinal : ℕ) (given : List (ℕ × Atom)) (columns : List ColumnDef) (row : List Atom) → completed ordinal given columns ≡ Ok row → length row ≡ length columns
+completed_width ordinal given [] row e = let f : [] ≡ row = cc in ap length (sym f)
+completed_width ordinal given (column ∷ columns) row e =
+    let b = came_before (value_or_null column (value_at given ordinal)) (completed (ordinal + 1) given columns) row e in
+    ap length b.all ∙ ap suc (completed_width (ordinal + 1) given columns b.others b.then)
 
 -- ---- the rows
 

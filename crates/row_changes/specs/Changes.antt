@@ -22,7 +22,7 @@ selects params (Some condition) row = asks params condition row
 
 -- the values that SET gives, over the old row
 abbrev pub set_values : List ColumnDef → (row params : List Atom) → List BoundAssignment → Result (List (ℕ × Atom)) SqlFault
-set_values columns row params sets = values_into columns row params (map (λ a. a.place) sets) (map (λ a. a.value) sets)
+set_values columns row params sets = values_into columns row params (map (λ a. a.ordinal) sets) (map (λ a. a.value) sets)
 
 abbrev pub updated_row : List ColumnDef → BoundUpdate → List Atom → List Atom → Bool → Result Tested SqlFault
 updated_row columns u params row true = set_values columns row params u.assignments >>= λ given. Ok (record { hit = true; row = replaced 0 given row })
@@ -39,7 +39,7 @@ row_to_delete filter params row = selects params filter row >>= tested_row row
 
 -- each assignment sets one of so many columns, and reads a row of these and so many parameters
 abbrev pub ArePlacedSets : (columns params : ℕ) → List BoundAssignment → Type 0
-ArePlacedSets columns params sets = All (λ a. (a.place < columns) × IsPlaced columns params a.value) sets
+ArePlacedSets columns params sets = All (λ a. (a.ordinal < columns) × IsPlaced columns params a.value) sets
 
 -- a row with the new one that is to stand in its place, where the filter was true of it
 abbrev pub tested_with : List Atom → Option (List Atom) → Tested
@@ -53,22 +53,22 @@ all_changed rows changes = map (λ p. tested_with p.0 p.1) (zip rows changes)
 abbrev pub standing : List (List Atom) → List (Option (List Atom)) → List (List Atom)
 standing rows changes = map (λ t. t.row) (all_changed rows changes)
 
--- for each of so many rows, from a place on, the new one that is to stand there
-abbrev pub spread : (place count : ℕ) → List (Change (List Atom)) → List (Option (List Atom))
-spread place zero changes = []
-spread place (suc count) [] = None ∷ spread (place + 1) count []
-spread place (suc count) (change ∷ changes) =
-    if change.place == place then Some change.row ∷ spread (place + 1) count changes else None ∷ spread (place + 1) count (change ∷ changes)
+-- for each of so many rows, from a position on, the new one that is to stand there
+abbrev pub spread : (position count : ℕ) → List (Change (List Atom)) → List (Option (List Atom))
+spread position zero changes = []
+spread position (suc count) [] = None ∷ spread (position + 1) count []
+spread position (suc count) (change ∷ changes) =
+    if change.position == position then Some change.row ∷ spread (position + 1) count changes else None ∷ spread (position + 1) count (change ∷ changes)
 
 -- a change is noted where there is one
 abbrev pub with_change : List (Change (List Atom)) → ℕ → Option (List Atom) → List (Change (List Atom))
-with_change changes place None = changes
-with_change changes place (Some row) = changes ++ record { place = place; row = row } ∷ []
+with_change changes position None = changes
+with_change changes position (Some row) = changes ++ record { position = position; row = row } ∷ []
 
--- the places of changes rise, from one on, and stay below another
+-- the positions of changes rise, from one on, and stay below another
 abbrev pub AreRising : (from to : ℕ) → List (Change (List Atom)) → Type 0
 AreRising from to [] = Unit {0}
-AreRising from to (change ∷ changes) = (from ≤ change.place) × (change.place < to) × AreRising (change.place + 1) to changes
+AreRising from to (change ∷ changes) = (from ≤ change.position) × (change.position < to) × AreRising (change.position + 1) to changes
 
 -- each row, and whether the filter was true of it
 abbrev pub all_tested : List (List Atom) → List Bool → List Tested

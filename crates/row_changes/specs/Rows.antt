@@ -27,24 +27,24 @@ abbrev pub no_column : ColumnDef
 no_column = record { name = []; ty = ty.Int; enc = enc.Plain; not_null = false }
 
 abbrev pub column_at : List ColumnDef → ℕ → ColumnDef
-column_at columns place = unwrap_or (slice_get columns place) no_column
+column_at columns ordinal = unwrap_or (slice_get columns ordinal) no_column
 
 -- a value that is put into the column of a place: its overflow, or what the column says of it
 abbrev pub value_into : List ColumnDef → (row params : List Atom) → ℕ → BoundOperand → Result (ℕ × Atom) SqlFault
-value_into columns row params place v = or_overflow (eval row params v) >>= λ atom. admitted (column_at columns place) atom >>= λ kept. Ok (place, kept)
+value_into columns row params ordinal v = or_overflow (eval row params v) >>= λ atom. admitted (column_at columns ordinal) atom >>= λ kept. Ok (ordinal, kept)
 
--- the values that are put into the columns of these places, from left to right
+-- the values that are put into the columns of these ordinals, from left to right
 abbrev pub values_into : List ColumnDef → (row params : List Atom) → List ℕ → List BoundOperand → Result (List (ℕ × Atom)) SqlFault
 values_into columns row params [] values = Ok []
-values_into columns row params (place ∷ places) [] = Ok []
-values_into columns row params (place ∷ places) (v ∷ vs) =
-    value_into columns row params place v >>= λ given.
-    values_into columns row params places vs >>= λ rest.
+values_into columns row params (ordinal ∷ ordinals) [] = Ok []
+values_into columns row params (ordinal ∷ ordinals) (v ∷ vs) =
+    value_into columns row params ordinal v >>= λ given.
+    values_into columns row params ordinals vs >>= λ rest.
     Ok (given ∷ rest)
 
 -- the value that was given for the column of a place
 abbrev pub value_at : List (ℕ × Atom) → ℕ → Option Atom
-value_at given place = option_map (λ v. v.1) (find (λ v. v.0 == place) given)
+value_at given ordinal = option_map (λ v. v.1) (find (λ v. v.0 == ordinal) given)
 
 -- ---- INSERT
 
@@ -55,16 +55,16 @@ value_or_null column None = admitted column Null
 
 -- the row in table order, from a place on
 abbrev pub completed : ℕ → List (ℕ × Atom) → List ColumnDef → Result (List Atom) SqlFault
-completed place given [] = Ok []
-completed place given (column ∷ columns) =
-    value_or_null column (value_at given place) >>= λ atom.
-    completed (place + 1) given columns >>= λ rest.
+completed ordinal given [] = Ok []
+completed ordinal given (column ∷ columns) =
+    value_or_null column (value_at given ordinal) >>= λ atom.
+    completed (ordinal + 1) given columns >>= λ rest.
     Ok (atom ∷ rest)
 
 abbrev pub new_row : List ColumnDef → List ℕ → List Atom → List BoundOperand → Result (List Atom) SqlFault
 new_row columns named params values = values_into columns [] params named values >>= λ given. completed 0 given columns
 
--- row by row behind so many rows: TableFull where the table would have 1,000,001 rows, else the row or its fault
+-- row by row after so many rows: TableFull where the table would have 1,000,001 rows, else the row or its fault
 abbrev pub new_rows : List ColumnDef → List ℕ → List Atom → ℕ → List BoundRow → Result (List (List Atom)) SqlFault
 new_rows columns named params count [] = Ok []
 new_rows columns named params count (row ∷ rows) =
@@ -76,5 +76,5 @@ new_rows columns named params count (row ∷ rows) =
 
 -- the row with the values that were given in place of its own, from a place on
 abbrev pub replaced : ℕ → List (ℕ × Atom) → List Atom → List Atom
-replaced place given [] = []
-replaced place given (atom ∷ row) = unwrap_or (value_at given place) atom ∷ replaced (place + 1) given row
+replaced ordinal given [] = []
+replaced ordinal given (atom ∷ row) = unwrap_or (value_at given ordinal) atom ∷ replaced (ordinal + 1) given row

@@ -22,7 +22,7 @@ use scalar::rows::LentRow;
 use sql_tree::bound::{BoundOperand, BoundRow};
 use std::alloc::Global;
 
-/// The new rows of a table that has so many already, or the first fault.
+/// The new rows of a table that has `count` rows already, or the first fault.
 pub fn new_rows<K: Same>(
     alloc: Global,
     columns: &[ColumnDef],
@@ -31,7 +31,7 @@ pub fn new_rows<K: Same>(
     params: &[Atom<K>],
     count: usize,
 ) -> Result<Rows<K>, Refusal>
-    requires named { All (λ place. place < length columns.now) named.now }
+    requires named { All (λ ordinal. ordinal < length columns.now) named.now }
     requires rows { All (λ row. (length row.values ≡ length named.now)
         × All (IsPlaced 0 (length params.now)) row.values) (map row_of bound.now) }
     requires most { count ≤ most_table_rows }
@@ -56,7 +56,7 @@ fn new_row<K: Same>(
     values: &[BoundOperand],
     params: &[Atom<K>],
 ) -> Result<Row<K>, Refusal>
-    requires named { All (λ place. place < length columns.now) named.now }
+    requires named { All (λ ordinal. ordinal < length columns.now) named.now }
     requires count { length values.now ≡ length named.now }
     requires values { All (IsPlaced 0 (length params.now)) (map operand_of values.now) }
     ensures { Answers result
@@ -74,7 +74,8 @@ fn new_row<K: Same>(
     completed(alloc, columns, given.as_slice())
 }
 
-/// The values that are put into the columns of these places, or the first fault from left to right.
+/// The values that are written into the columns of these ordinals, or the first fault from left to
+/// right.
 fn values_into<'a, K: Same>(
     alloc: Global,
     columns: &[ColumnDef],
@@ -83,7 +84,7 @@ fn values_into<'a, K: Same>(
     named: &[usize],
     values: &'a [BoundOperand],
 ) -> Result<Seq<(usize, Atom<K>)>, Refusal>
-    requires named { All (λ place. place < length columns.now) named.now }
+    requires named { All (λ ordinal. ordinal < length columns.now) named.now }
     requires count { length values.now ≡ length named.now }
     requires values { All (IsPlaced (length row.now) (length params.now))
         (map operand_of values.now) }
@@ -97,21 +98,21 @@ fn values_into<'a, K: Same>(
     Ok(given)
 }
 
-/// A value that is put into the column of a place.
+/// A value that is written into the column of an ordinal.
 pub(crate) fn value_into<'a, K: Same>(
     columns: &[ColumnDef],
     row: &LentRow<'a, K>,
     params: &'a [Atom<K>],
-    place: usize,
+    ordinal: usize,
     value: &'a BoundOperand,
 ) -> Result<(usize, Atom<K>), Refusal>
-    requires place { place < length columns.now }
+    requires ordinal { ordinal < length columns.now }
     requires value { IsPlaced (length row.now) (length params.now) (operand_of value.now) }
     ensures { Answers result
-        (rows.value_into columns.now row.now params.now place (operand_of value.now)) }
+        (rows.value_into columns.now row.now params.now ordinal (operand_of value.now)) }
 {
     match eval(value, row, params) {
-        Ok(atom) => Ok((place, admitted(&columns[place], atom)?)),
+        Ok(atom) => Ok((ordinal, admitted(&columns[ordinal], atom)?)),
         Err(Refusal::Fault(_)) => Err(Refusal::Fault(SqlFault::Overflow)),
         Err(Refusal::OutOfMemory) => Err(Refusal::OutOfMemory),
     }
@@ -126,8 +127,8 @@ fn completed<K: Same>(
     ensures { Answers result (rows.completed 0 given.now columns.now) }
 {
     let mut row = Row::from_vec(Vec::with_capacity(alloc, columns.len())?);
-    for (place, column) in columns.iter().enumerate() {
-        row.push(value_or_null(column, value_at(given, place))?)?;
+    for (ordinal, column) in columns.iter().enumerate() {
+        row.push(value_or_null(column, value_at(given, ordinal))?)?;
     }
     Ok(row)
 }
@@ -143,12 +144,12 @@ fn value_or_null<K: Same>(column: &ColumnDef, given: Option<&Atom<K>>) -> Result
 }
 
 /// The value that was given for the column of a place.
-pub(crate) fn value_at<K: Same>(given: &[(usize, Atom<K>)], place: usize) -> Option<&Atom<K>>
-    ensures { option_copied result ≡ rows.value_at given.now place }
+pub(crate) fn value_at<K: Same>(given: &[(usize, Atom<K>)], ordinal: usize) -> Option<&Atom<K>>
+    ensures { option_copied result ≡ rows.value_at given.now ordinal }
 {
     given
         .iter()
-        .find(|value| value.0 == place)
+        .find(|value| value.0 == ordinal)
         .map(|value| &value.1)
 }
 

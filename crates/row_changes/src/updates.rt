@@ -23,7 +23,8 @@ use scalar::rows::LentRow;
 use sql_tree::bound::{BoundAssignment, BoundUpdate};
 use std::alloc::{AllocError, Global};
 
-/// The rows of a table that an UPDATE changes, with their places, which rise; or the first fault.
+/// The rows of a table that an UPDATE changes, with their positions, which rise; or the first
+/// fault.
 pub fn changes<K: Same>(
     alloc: Global,
     columns: &[ColumnDef],
@@ -44,30 +45,30 @@ pub fn changes<K: Same>(
     ensures rising { IfOk result (AreRising 0 (length rows.now)) }
 {
     let mut changes = Seq::new(alloc);
-    for (place, row) in rows.iter().enumerate() {
+    for (position, row) in rows.iter().enumerate() {
         match change(alloc, columns, row, update, params) {
-            Ok(new) => note(&mut changes, place, new)?,
+            Ok(new) => note(&mut changes, position, new)?,
             Err(refusal) => return Err(refusal),
         }
     }
     Ok(changes)
 }
 
-/// Notes the new row that is to stand at a place, if one is.
+/// Notes the new row for a position, if there is one.
 fn note<K: Same>(
     changes: &mut Seq<Change<Row<K>>>,
-    place: usize,
+    position: usize,
     new: Option<Row<K>>,
 ) -> Result<(), AllocError>
-    ensures { OnOk result (changes.new ≡ with_change changes.old place new) }
+    ensures { OnOk result (changes.new ≡ with_change changes.old position new) }
 {
     match new {
         None => Ok(()),
-        Some(row) => changes.push(Change { place, row }),
+        Some(row) => changes.push(Change { position, row }),
     }
 }
 
-/// The new row that is to stand in the place of one, or nothing where the filter isn't true of it.
+/// The new row that is to replace one, or nothing if the filter isn't true of it.
 fn change<K: Same>(
     alloc: Global,
     columns: &[ColumnDef],
@@ -99,7 +100,7 @@ fn assigned<'a, K: Same>(
     assignments: &'a [BoundAssignment],
     params: &'a [Atom<K>],
 ) -> Result<Seq<(usize, Atom<K>)>, Refusal>
-    requires { All (λ a. (a.place < length columns.now)
+    requires { All (λ a. (a.ordinal < length columns.now)
         × IsPlaced (length row.now) (length params.now) a.value)
         (map assignment_of assignments.now) }
     ensures { Answers result
@@ -107,7 +108,7 @@ fn assigned<'a, K: Same>(
 {
     let mut given = Seq::new(alloc);
     for assignment in assignments {
-        given.push(value_into(columns, row, params, assignment.place, &assignment.value)?)?;
+        given.push(value_into(columns, row, params, assignment.ordinal, &assignment.value)?)?;
     }
     Ok(given)
 }
@@ -121,8 +122,8 @@ fn replaced<K: Same>(
     ensures { IfOk result (λ new. new ≡ rows.replaced 0 given.now row.now) }
 {
     let mut new = Row::from_vec(Vec::with_capacity(alloc, row.len())?);
-    for (place, atom) in row.as_slice().iter().enumerate() {
-        new.push(value_at(given, place).unwrap_or(atom).copy()?)?;
+    for (ordinal, atom) in row.as_slice().iter().enumerate() {
+        new.push(value_at(given, ordinal).unwrap_or(atom).copy()?)?;
     }
     Ok(new)
 }

@@ -4,9 +4,9 @@ ghost use Rattle.std.specs.Prelude.{◌≡◌, ◌+◌, ◌<◌, [], ℕ, length
 ghost use Rattle.std.specs.List.{All};
 ghost use Rattle.lookups.specs.Lent.{lookup_made};
 ghost use Rattle.lookups.specs.Lookups.{IsLookedUp, is_found, rows_found};
-ghost use Rattle.row_lookups.specs.Finding.{places_where};
+ghost use Rattle.row_lookups.specs.Finding.{positions_where};
 
-use crate::places::places_found;
+use crate::positions::positions_found;
 use ae_base::atoms::{Atom, Row};
 use ae_base::sameness::Same;
 use counting::Steps;
@@ -32,12 +32,12 @@ pub fn found<'t, K: Same, L: Ledger>(
         ≡ rows_found params.now (lookup_made lookup.now) row.now table.now.rows) }
     ensures looked { IfOk result (λ found. looked.new ≡ looked.old + length found.items) }
 {
-    let places = places_in(alloc, table, lookup, row, params)?;
-    rows_at(alloc, table, places.as_slice(), looked)
+    let positions = positions_in(alloc, table, lookup, row, params)?;
+    rows_at(alloc, table, positions.as_slice(), looked)
 }
 
-/// The places of the rows of a table that a look-up finds for a row, in their order.
-pub fn places_in<K: Same>(
+/// The positions of the rows of a table that a look-up finds for a row, in their order.
+pub fn positions_in<K: Same>(
     alloc: Global,
     table: &Table<K>,
     lookup: &Lookup<'_>,
@@ -46,35 +46,35 @@ pub fn places_in<K: Same>(
 ) -> Result<Vec<usize>, AllocError>
     requires { (more : ℕ) × IsLookedUp table.now.keys (length params.now) (length row.now) more
         (lookup_made lookup.now) }
-    ensures { IfOk result (λ places. places.items
-        ≡ places_where (is_found params.now (lookup_made lookup.now) row.now) 0 table.now.rows) }
+    ensures { IfOk result (λ positions. positions.items
+        ≡ positions_where (is_found params.now (lookup_made lookup.now) row.now) 0 table.now.rows) }
 {
-    places_found(
+    positions_found(
         alloc,
         table,
-        lookup.places.as_slice(),
+        lookup.ordinals.as_slice(),
         lookup.keys.as_slice(),
         row,
         params,
     )
 }
 
-/// The rows at some places of a table.
+/// The rows at some positions of a table.
 fn rows_at<'t, K: Same, L: Ledger>(
     alloc: Global,
     table: &'t Table<K>,
-    places: &[usize],
+    positions: &[usize],
     looked: &mut Steps<L>,
 ) -> Result<Vec<&'t Row<K>>, AllocError>
-    requires { All (λ place. place < length table.now.rows) places.now }
+    requires { All (λ position. position < length table.now.rows) positions.now }
     ensures rows { IfOk result (λ found. map (λ row. row.now) found.items
-        ≡ map (λ place. get_or table.now.rows place []) places.now) }
+        ≡ map (λ position. get_or table.now.rows position []) positions.now) }
     ensures looked { IfOk result (λ found. looked.new ≡ looked.old + length found.items) }
 {
     let mut rows = Vec::new(alloc);
-    for place in places {
+    for position in positions {
         looked.tick();
-        rows.push(table.get(*place))?;
+        rows.push(table.get(*position))?;
     }
     Ok(rows)
 }

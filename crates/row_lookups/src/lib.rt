@@ -3,4 +3,4 @@
 
 pub mod found;
 mod keys;
-mod places;
+mod positions;

@@ -5,7 +5,7 @@ use Rattle.std.proofs.lemmas.Bool.{cases_lt}
 use Rattle.std.proofs.lemmas.List.Elements.{All-head, All-tail}
 use Rattle.row_store.specs.Numbers.{AreRising}
 use Rattle.row_store.specs.Paged.{IsPaged, IsDense, joined, sizes, rows_before}
-use Rattle.row_store.proofs.Rising.{rising_least, rising_front, rising_rest, rising_behind}
+use Rattle.row_store.proofs.Rising.{rising_least, rising_prefix, rising_rest, rising_behind}
 
 -- ---- a page has the number
 
@@ -46,13 +46,13 @@ filled (r ∷ page ∷ pages) (suc (suc q)) s d le lt =
 
 first_least : (from to : ℕ) (pages : List (List ℕ)) (q : ℕ) → AreRising from to (joined pages) → q < length pages → 0 < length (get_or pages q []) → from ≤ get_or (get_or pages q []) 0 0
 first_least from to [] q h lt some = absurd (omega (arith, lt))
-first_least from to (page ∷ pages) zero h lt some = rising_least from to page 0 0 (rising_front from to page (joined pages) h) some
+first_least from to (page ∷ pages) zero h lt some = rising_least from to page 0 0 (rising_prefix from to page (joined pages) h) some
 first_least from to (page ∷ pages) (suc q) h lt some = first_least from to pages q (rising_rest from to page (joined pages) h) (omega (arith, lt)) some
 
 all_least : (from to : ℕ) (pages : List (List ℕ)) (number p : ℕ) → AreRising from to (joined pages) → p < length pages → Contains (get_or pages p []) number → from ≤ number
 all_least from to [] number p h lt c = absurd (omega (arith, lt))
 all_least from to (page ∷ pages) number zero h lt c =
-    let least = rising_least from to page c.0 number (rising_front from to page (joined pages) h) c.1 in
+    let least = rising_least from to page c.0 number (rising_prefix from to page (joined pages) h) c.1 in
     omega (arith, least, c.2)
 all_least from to (page ∷ pages) number (suc p) h lt c = all_least from to pages number p (rising_rest from to page (joined pages) h) (omega (arith, lt)) c
 
@@ -84,7 +84,7 @@ page_there (p ∷ pages) (suc i) page lt e = page_there pages i page (omega (ari
 
 pub page_rising : (from to : ℕ) (pages : List (List ℕ)) (i : ℕ) (page : List ℕ) → AreRising from to (joined pages) → i < length pages → page ≡ get_or pages i page → AreRising from to page
 page_rising from to [] i page h lt e = absurd (omega (arith, lt))
-page_rising from to (p ∷ pages) zero page h lt e = subst (AreRising from to) (sym e) (rising_front from to p (joined pages) h)
+page_rising from to (p ∷ pages) zero page h lt e = subst (AreRising from to) (sym e) (rising_prefix from to p (joined pages) h)
 page_rising from to (p ∷ pages) (suc i) page h lt e = page_rising from to pages i page (rising_rest from to p (joined pages) h) (omega (arith, lt)) e
 
 -- ---- half of the pages at a time
@@ -154,7 +154,7 @@ before_less (suc n) (page ∷ pages) =
 
 -- ---- in one page
 
--- a number isn't there where those before a place are less, and those from it on are greater
+-- a number doesn't exist where those before a position are less, and those from it on are greater
 pub absent : (ns : List ℕ) (number i : ℕ) → ((k : ℕ) → k < i → get_or ns k 0 < number) → ((k : ℕ) → i ≤ k → k < length ns → number < get_or ns k 0) → Contains ns number → ⊥
 absent ns number i less more c =
     let is : get_or ns c.0 0 ≡ number = same ns c.0 c.1 ∙ c.2 in

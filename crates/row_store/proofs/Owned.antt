@@ -4,7 +4,7 @@ use Rattle.std.specs.Prelude.{OnOk, remove}
 use Rattle.std.specs.List.{All}
 use Rattle.std.proofs.lemmas.List.{take_all, take_more}
 use Rattle.std.proofs.lemmas.List.Elements.{All-head, All-tail, All-cons, All-nil}
-use Rattle.row_store.specs.Paged.{Owned, values, own_at, sizes, IsKept, IsPaged, IsPlace, IsWritable, IsRemovable}
+use Rattle.row_store.specs.Paged.{Owned, values, own_at, sizes, IsKept, IsPaged, IsPosition, IsWritable, IsRemovable}
 
 pub All_more : {A : Type 0} (P Q : A → Type 0) → ((x : A) → P x → Q x) → (xs : List A) → All P xs → All Q xs
 All_more P Q f [] h = All-nil Q
@@ -14,7 +14,7 @@ pub All_push : {A : Type 0} (P : A → Type 0) (xs : List A) (x : A) → All P x
 All_push P [] x h p = All-cons P x [] p (All-nil P)
 All_push P (y ∷ xs) x h p = All-cons P y (xs ++ x ∷ []) (All-head P y xs h) (All_push P xs x (All-tail P y xs h) p)
 
--- one place more
+-- one position more
 pub All_taken : {A : Type 0} (P : A → Type 0) (xs : List A) (i : ℕ) (d : A) → i < length xs → All P (take i xs) → P (get_or xs i d) → All P (take (i + 1) xs)
 All_taken P xs i d lt h p = subst (All P) (sym (take_more xs i d lt)) (All_push P (take i xs) (get_or xs i d) h p)
 
@@ -99,7 +99,7 @@ own_pushed [] (suc i) page e o = absurd (omega (arith, e))
 own_pushed (p ∷ pages) zero page e o = absurd (omega (arith, e))
 own_pushed (p ∷ pages) (suc i) page e o = own_pushed pages i page (omega (arith, e)) o
 
--- a page that changes but for whose it is
+-- a page that changes except for whose it is
 pub own_same : {A : Type 0} (pages : List (Owned A)) (i : ℕ) (page new : Owned A) → page ≡ get_or pages i page → new.own ≡ page.own → (k : ℕ) → own_at k (slice_set pages i new) ≡ own_at k pages
 own_same [] i page new e o k = refl
 own_same (p ∷ pages) zero page new e o zero = o ∙ ap (λ (q : Owned _). q.own) e
@@ -126,42 +126,42 @@ on_any (Err e) h = tt
 
 -- ---- where a row lies
 
-pub place_one : {T : Type 0} (pages : List (List T)) (i page at other place : ℕ) → IsPlace pages i page at → IsPlace pages i other place → page ≡ other
-place_one [] i page at other place h k = absurd h
-place_one (r ∷ pages) i zero at zero place h k = refl
-place_one (r ∷ pages) i zero at (suc other) place h k = absurd (omega (arith, h.0, h.1, k.1))
-place_one (r ∷ pages) i (suc page) at zero place h k = absurd (omega (arith, k.0, k.1, h.1))
-place_one (r ∷ pages) i (suc page) at (suc other) place h k =
+pub position_one : {T : Type 0} (pages : List (List T)) (i page at other position : ℕ) → IsPosition pages i page at → IsPosition pages i other position → page ≡ other
+position_one [] i page at other position h k = absurd h
+position_one (r ∷ pages) i zero at zero position h k = refl
+position_one (r ∷ pages) i zero at (suc other) position h k = absurd (omega (arith, h.0, h.1, k.1))
+position_one (r ∷ pages) i (suc page) at zero position h k = absurd (omega (arith, k.0, k.1, h.1))
+position_one (r ∷ pages) i (suc page) at (suc other) position h k =
     let e : k.0 ≡ h.0 = omega (arith, h.1, k.1) in
-    ap suc (place_one pages h.0 page at other place h.2 (subst (λ j. IsPlace pages j other place) e k.2))
+    ap suc (position_one pages h.0 page at other position h.2 (subst (λ j. IsPosition pages j other position) e k.2))
 
 -- pages that stay as long
-pub place_same : {T : Type 0} (pages new : List (List T)) (i page at : ℕ) → sizes new ≡ sizes pages → IsPlace new i page at → IsPlace pages i page at
-place_same pages [] i page at e h = absurd h
-place_same [] (n ∷ new) i page at e h = absurd cc
-place_same (r ∷ pages) (n ∷ new) i zero at e h =
+pub position_same : {T : Type 0} (pages new : List (List T)) (i page at : ℕ) → sizes new ≡ sizes pages → IsPosition new i page at → IsPosition pages i page at
+position_same pages [] i page at e h = absurd h
+position_same [] (n ∷ new) i page at e h = absurd cc
+position_same (r ∷ pages) (n ∷ new) i zero at e h =
     let first : length n ≡ length r = ap (λ l. get_or l 0 0) e in
     (h.0, omega (arith, h.1, first))
-place_same (r ∷ pages) (n ∷ new) i (suc page) at e h =
+position_same (r ∷ pages) (n ∷ new) i (suc page) at e h =
     let first : length n ≡ length r = ap (λ l. get_or l 0 0) e in
-    (h.0, omega (arith, h.1, first), place_same pages new h.0 page at (ap (drop 1) e) h.2)
+    (h.0, omega (arith, h.1, first), position_same pages new h.0 page at (ap (drop 1) e) h.2)
 
-pub writable_here : {T : Type 0} (pages : List (Owned (List T))) (i page at : ℕ) → IsPlace (values pages) i page at → own_at page pages ≡ true → IsWritable pages i
-writable_here pages i page at p own = λ other place q. subst (λ k. own_at k pages ≡ true) (place_one (values pages) i page at other place p q) own
+pub writable_here : {T : Type 0} (pages : List (Owned (List T))) (i page at : ℕ) → IsPosition (values pages) i page at → own_at page pages ≡ true → IsWritable pages i
+writable_here pages i page at p own = λ other position q. subst (λ k. own_at k pages ≡ true) (position_one (values pages) i page at other position p q) own
 
 pub writable_stays : {T : Type 0} (pages new : List (Owned (List T))) → values new ≡ values pages
     → ((page : ℕ) → own_at page pages ≡ true → own_at page new ≡ true) → (i : ℕ) → IsWritable pages i → IsWritable new i
-writable_stays pages new same kept i h = λ page at p. kept page (h page at (subst (λ vs. IsPlace vs i page at) same p))
+writable_stays pages new same kept i h = λ page at p. kept page (h page at (subst (λ vs. IsPosition vs i page at) same p))
 
-pub removable_here : {T : Type 0} (pages : List (Owned (List T))) (i page at : ℕ) → IsPlace (values pages) i page at
+pub removable_here : {T : Type 0} (pages : List (Owned (List T))) (i page at : ℕ) → IsPosition (values pages) i page at
     → own_at (page - 1) pages ≡ true → own_at page pages ≡ true → own_at (page + 1) pages ≡ true → IsRemovable pages i
-removable_here pages i page at p before own next = λ other place q.
-    subst (λ k. (own_at (k - 1) pages ≡ true) × (own_at k pages ≡ true) × (own_at (k + 1) pages ≡ true)) (place_one (values pages) i page at other place p q) (before, own, next)
+removable_here pages i page at p before own next = λ other position q.
+    subst (λ k. (own_at (k - 1) pages ≡ true) × (own_at k pages ≡ true) × (own_at (k + 1) pages ≡ true)) (position_one (values pages) i page at other position p q) (before, own, next)
 
 pub removable_stays : {T : Type 0} (pages new : List (Owned (List T))) → values new ≡ values pages
     → ((page : ℕ) → own_at page pages ≡ true → own_at page new ≡ true) → (i : ℕ) → IsRemovable pages i → IsRemovable new i
 removable_stays pages new same kept i h = λ page at p.
-    let o = h page at (subst (λ vs. IsPlace vs i page at) same p) in
+    let o = h page at (subst (λ vs. IsPosition vs i page at) same p) in
     (kept (page - 1) o.0, kept page o.1, kept (page + 1) o.2)
 
 -- ---- what a table keeps, where its pages hold what they held

@@ -113,7 +113,7 @@ last_grown pages i rows row n e lt p =
       room = omega (arith, old, new, lt);
     })
 
--- a new page behind a full one
+-- a new page after a full one
 dense_push : (ns : List ℕ) (k : ℕ) → last_room ns ≡ 0 → 1 ≤ k → IsDense ns → IsDense (ns ++ k ∷ [])
 dense_push [] k e le d = tt
 dense_push (n ∷ []) k e le d = (omega (arith, e, le), tt)
@@ -247,9 +247,9 @@ last_short pages i rows n e lt =
 pub last_room_is : {T : Type 0} (pages : List (List T)) (i : ℕ) (rows : List T) → i + 1 ≡ length pages → rows ≡ get_or pages i rows → 256 - length rows ≡ last_room (sizes pages)
 last_room_is pages i rows n e = sym (last_is (sizes pages) i (length rows) (n ∙ sym (map_length pages)) (lengths_read pages i rows (omega (arith, n)) e))
 
-pub all_front : {A : Type 0} (P : A → Type 0) (xs : List A) (x : A) → All P (xs ++ x ∷ []) → All P xs
-all_front P [] x h = All-nil P
-all_front P (y ∷ xs) x h = All-cons P y xs (All-head P y (xs ++ x ∷ []) h) (all_front P xs x (All-tail P y (xs ++ x ∷ []) h))
+pub all_prefix : {A : Type 0} (P : A → Type 0) (xs : List A) (x : A) → All P (xs ++ x ∷ []) → All P xs
+all_prefix P [] x h = All-nil P
+all_prefix P (y ∷ xs) x h = All-cons P y xs (All-head P y (xs ++ x ∷ []) h) (all_prefix P xs x (All-tail P y (xs ++ x ∷ []) h))
 
 pub all_last : {A : Type 0} (P : A → Type 0) (xs : List A) (x : A) → All P (xs ++ x ∷ []) → P x
 all_last P [] x h = All-head P x [] h

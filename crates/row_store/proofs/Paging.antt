@@ -3,7 +3,7 @@ use Rattle.std.proofs.Common.{◌≡◌, ℕ, zero, suc, ◌+◌, ◌-◌, ◌*�
 use Rattle.std.specs.List.{All}
 use Rattle.std.proofs.lemmas.List.{get_or_append_left, get_or-append-add}
 use Rattle.std.proofs.lemmas.List.Elements.{All-head, All-tail}
-use Rattle.row_store.specs.Paged.{joined, sizes, IsDense, IsPlace}
+use Rattle.row_store.specs.Paged.{joined, sizes, IsDense, IsPosition}
 
 -- ---- how many pages there are
 
@@ -38,23 +38,24 @@ drop_next (y ∷ xs) (suc i) x lt e =
     let one : suc i + 1 ≡ suc (i + 1) = omega arith in
     drop_next xs i x (omega arith) e ∙ ap (λ n. x ∷ drop n (y ∷ xs)) (sym one)
 
--- ---- the row at a place
+-- ---- the row at a position
 
-pub place_within : {T : Type 0} (pages : List (List T)) (i page at : ℕ) → IsPlace pages i page at → page < length pages
-place_within [] i page at h = absurd h
-place_within (rows ∷ pages) i zero at h = omega arith
-place_within (rows ∷ pages) i (suc page) at h = let lt = place_within pages h.0 page at h.2 in omega (arith, lt)
+pub position_within : {T : Type 0} (pages : List (List T)) (i page at : ℕ) → IsPosition pages i page at → page < length pages
+position_within [] i page at h = absurd h
+position_within (rows ∷ pages) i zero at h = omega arith
+position_within (rows ∷ pages) i (suc page) at h = let lt = position_within pages h.0 page at h.2 in omega (arith, lt)
 
-pub place_inside : {T : Type 0} (pages : List (List T)) (i page at : ℕ) (rows : List T) → IsPlace pages i page at → rows ≡ get_or pages page rows → at < length rows
-place_inside [] i page at rows h e = absurd h
-place_inside (r ∷ pages) i zero at rows h e = subst (λ x. at < length x) (sym e) h.1
-place_inside (r ∷ pages) i (suc page) at rows h e = place_inside pages h.0 page at rows h.2 e
+pub position_inside : {T : Type 0} (pages : List (List T)) (i page at : ℕ) (rows : List T) → IsPosition pages i page at → rows ≡ get_or pages page rows → at < length rows
+position_inside [] i page at rows h e = absurd h
+position_inside (r ∷ pages) i zero at rows h e = subst (λ x. at < length x) (sym e) h.1
+position_inside (r ∷ pages) i (suc page) at rows h e = position_inside pages h.0 page at rows h.2 e
 
-pub place_read : {T : Type 0} (pages : List (List T)) (i page at : ℕ) (rows : List T) (d : T) → IsPlace pages i page at → rows ≡ get_or pages page rows → get_or rows at d ≡ get_or (joined pages) i d
-place_read [] i page at rows d h e = absurd h
-place_read (r ∷ pages) i zero at rows d h e = ap (λ x. get_or x at d) e ∙ sym (get_or_append_left r (joined pages) d at h.1) ∙ ap (λ n. get_or (r ++ joined pages) n d) (sym h.0)
-place_read (r ∷ pages) i (suc page) at rows d h e =
-    place_read pages h.0 page at rows d h.2 e ∙ sym (get_or-append-add r (joined pages) h.0 d) ∙ ap (λ n. get_or (r ++ joined pages) n d) (sym h.1)
+pub position_read : {T : Type 0} (pages : List (List T)) (i page at : ℕ) (rows : List T) (d : T) → IsPosition pages i page at → rows ≡ get_or pages page rows
+    → get_or rows at d ≡ get_or (joined pages) i d
+position_read [] i page at rows d h e = absurd h
+position_read (r ∷ pages) i zero at rows d h e = ap (λ x. get_or x at d) e ∙ sym (get_or_append_left r (joined pages) d at h.1) ∙ ap (λ n. get_or (r ++ joined pages) n d) (sym h.0)
+position_read (r ∷ pages) i (suc page) at rows d h e =
+    position_read pages h.0 page at rows d h.2 e ∙ sym (get_or-append-add r (joined pages) h.0 d) ∙ ap (λ n. get_or (r ++ joined pages) n d) (sym h.1)
 
 set_left : {A : Type 0} (xs ys : List A) (i : ℕ) (y : A) → i < length xs → slice_set (xs ++ ys) i y ≡ slice_set xs i y ++ ys
 set_left [] ys i y lt = absurd (omega arith)
@@ -65,12 +66,12 @@ set_right : {A : Type 0} (xs ys : List A) (j : ℕ) (y : A) → slice_set (xs ++
 set_right [] ys j y = let e : 0 + j ≡ j = omega arith in ap (λ n. slice_set ys n y) e
 set_right (x ∷ xs) ys j y = let e : length (x ∷ xs) + j ≡ suc (length xs + j) = omega arith in ap (λ n. slice_set (x ∷ xs ++ ys) n y) e ∙ ap (λ l. x ∷ l) (set_right xs ys j y)
 
-pub place_set : {T : Type 0} (pages : List (List T)) (i page at : ℕ) (rows : List T) (row : T) → IsPlace pages i page at
+pub position_set : {T : Type 0} (pages : List (List T)) (i page at : ℕ) (rows : List T) (row : T) → IsPosition pages i page at
     → rows ≡ get_or pages page rows → joined (slice_set pages page (slice_set rows at row)) ≡ slice_set (joined pages) i row
-place_set [] i page at rows row h e = absurd h
-place_set (r ∷ pages) i zero at rows row h e = ap (λ x. slice_set x at row ++ joined pages) e ∙ sym (set_left r (joined pages) at row h.1) ∙ ap (λ n. slice_set (r ++ joined pages) n row) (sym h.0)
-place_set (r ∷ pages) i (suc page) at rows row h e =
-    ap (λ l. r ++ l) (place_set pages h.0 page at rows row h.2 e) ∙ sym (set_right r (joined pages) h.0 row) ∙ ap (λ n. slice_set (r ++ joined pages) n row) (sym h.1)
+position_set [] i page at rows row h e = absurd h
+position_set (r ∷ pages) i zero at rows row h e = ap (λ x. slice_set x at row ++ joined pages) e ∙ sym (set_left r (joined pages) at row h.1) ∙ ap (λ n. slice_set (r ++ joined pages) n row) (sym h.0)
+position_set (r ∷ pages) i (suc page) at rows row h e =
+    ap (λ l. r ++ l) (position_set pages h.0 page at rows row h.2 e) ∙ sym (set_right r (joined pages) h.0 row) ∙ ap (λ n. slice_set (r ++ joined pages) n row) (sym h.1)
 
 pub length_set : {A : Type 0} (xs : List A) (i : ℕ) (y : A) → length (slice_set xs i y) ≡ length xs
 length_set [] i y = refl

@@ -8,7 +8,7 @@ use Rattle.row_store.specs.Changes.{unhit, marked, is_inside, IsPast}
 use Rattle.row_store.specs.Paged.{Owned, values, own_at, lengths, flat, rows_before, can_merge, AreReady, IsDense, IsRemovable}
 use Rattle.row_store.proofs.Marking.{first_left, inside, drop_drop, outside_unhit}
 use Rattle.row_store.proofs.Owned.{All_get, own_here, own_same, value_at, values_length, values_set}
-use Rattle.row_store.proofs.Seeking.{start_next, start_place}
+use Rattle.row_store.proofs.Seeking.{start_next, start_position}
 use Rattle.row_store.proofs.Thinning.{AreLeft, left_start, left_more, left_within}
 
 -- ---- two pages in one
@@ -95,69 +95,69 @@ size_read (p ∷ pages) zero page lt e = ap (λ (q : Owned (List _)). length q.v
 size_read (p ∷ pages) (suc i) page lt e = size_read pages i page (omega (arith, lt)) e
 
 -- the pages so far have lost their rows, and the rest is as it was
-pub record AreThinned {T : Type 0} (old now : List (Owned (List T))) (places : List ℕ) (i before used : ℕ) : Type 0 where
-  pub left : AreLeft (values old) (values now) places i before used
+pub record AreThinned {T : Type 0} (old now : List (Owned (List T))) (positions : List ℕ) (i before used : ℕ) : Type 0 where
+  pub left : AreLeft (values old) (values now) positions i before used
   pub start : before ≡ rows_before i (values old)
   pub rest : drop i now ≡ drop i old
   pub owns : (page : ℕ) → own_at page now ≡ own_at page old
   pub moved : (page : ℕ) → (size_at page now ≡ size_at page old) ⊎ IsNear old page
 
-pub thinned_start : {T : Type 0} (old : List (Owned (List T))) (places : List ℕ) → All (λ n. n ≤ 256) (lengths old) → AreThinned old old places 0 0 0
-thinned_start old places small = record { left = left_start (values old) places small; start = refl; rest = refl; owns = λ page. refl; moved = λ page. inl refl }
+pub thinned_start : {T : Type 0} (old : List (Owned (List T))) (positions : List ℕ) → All (λ n. n ≤ 256) (lengths old) → AreThinned old old positions 0 0 0
+thinned_start old positions small = record { left = left_start (values old) positions small; start = refl; rest = refl; owns = λ page. refl; moved = λ page. inl refl }
 
-pub thinned_long : {T : Type 0} (old now : List (Owned (List T))) (places : List ℕ) (i before used : ℕ) → AreThinned old now places i before used → length now ≡ length old
-thinned_long old now places i before used s = sym (values_length now) ∙ s.left.thinning.count ∙ values_length old
+pub thinned_long : {T : Type 0} (old now : List (Owned (List T))) (positions : List ℕ) (i before used : ℕ) → AreThinned old now positions i before used → length now ≡ length old
+thinned_long old now positions i before used s = sym (values_length now) ∙ s.left.thinning.count ∙ values_length old
 
-module _ {T : Type 0} (old now : List (Owned (List T))) (places : List ℕ) (i before used : ℕ) (page : Owned (List T))
-    (lt : i < length now) (is : page ≡ get_or now i page) (s : AreThinned old now places i before used) where
+module _ {T : Type 0} (old now : List (Owned (List T))) (positions : List ℕ) (i before used : ℕ) (page : Owned (List T))
+    (lt : i < length now) (is : page ≡ get_or now i page) (s : AreThinned old now positions i before used) where
   here : page ≡ get_or old i page
   here = is ∙ first_left now i page ∙ ap (λ ps. get_or ps 0 page) s.rest ∙ sym (first_left old i page)
 
   within : i < length old
-  within = omega (arith, lt, thinned_long old now places i before used s)
+  within = omega (arith, lt, thinned_long old now positions i before used s)
 
   within_values : i < length (values now)
   within_values = omega (arith, lt, values_length now)
 
   pub thinned_within : before + length page.value ≤ length (flat old)
-  thinned_within = left_within (values old) (values now) places i before used page.value page.value within_values (value_at now i page is) s.left
+  thinned_within = left_within (values old) (values now) positions i before used page.value page.value within_values (value_at now i page is) s.left
 
-  near : All (IsRemovable old) places → is_inside before (before + length page.value) (drop used places) ≡ true → IsNear old i
+  near : All (IsRemovable old) positions → is_inside before (before + length page.value) (drop used positions) ≡ true → IsNear old i
   near all e =
-      let f = inside before (before + length page.value) (drop used places) e in
-      let p = get_or (drop used places) 0 0 in
-      let some : used < length places = omega (arith, f.some, length-drop used places) in
-      let same : get_or places used 0 ≡ p = first_left places used 0 in
+      let f = inside before (before + length page.value) (drop used positions) e in
+      let p = get_or (drop used positions) 0 0 in
+      let some : used < length positions = omega (arith, f.some, length-drop used positions) in
+      let same : get_or positions used 0 ≡ p = first_left positions used 0 in
       let start : p ≡ rows_before i (values old) + (p - before) = omega (arith, f.above, s.start) in
       let inner : p - before < length page.value = omega (arith, f.above, f.below) in
-      let lies = start_place (values old) p i (p - before) page.value (omega (arith, within, values_length old)) (value_at old i page here) start inner in
-      let removable : IsRemovable old p = subst (IsRemovable old) same (All_get (IsRemovable old) places used 0 some all) in
+      let lies = start_position (values old) p i (p - before) page.value (omega (arith, within, values_length old)) (value_at old i page here) start inner in
+      let removable : IsRemovable old p = subst (IsRemovable old) same (All_get (IsRemovable old) positions used 0 some all) in
       let o = removable i (p - before) lies in
       record { before = o.0; own = o.1; next = o.2 }
 
-  pub thinned_own : All (IsRemovable old) places → is_inside before (before + length page.value) (drop used places) ≡ true → page.own ≡ true
+  pub thinned_own : All (IsRemovable old) positions → is_inside before (before + length page.value) (drop used positions) ≡ true → page.own ≡ true
   thinned_own all e = own_here now i page lt is (s.owns i ∙ (near all e).own)
 
-  pub thinned_more : (new : Owned (List T)) (more : ℕ) → All (IsRemovable old) places → length page.value ≤ 256
-      → more ≤ length (drop used places) → new.value ≡ unhit page.value (marked before (length page.value) (drop used places)) → new.own ≡ page.own
-      → IsPast before (length page.value) (drop used places) more → AreThinned old (slice_set now i new) places (i + 1) (before + length page.value) (used + more)
+  pub thinned_more : (new : Owned (List T)) (more : ℕ) → All (IsRemovable old) positions → length page.value ≤ 256
+      → more ≤ length (drop used positions) → new.value ≡ unhit page.value (marked before (length page.value) (drop used positions)) → new.own ≡ page.own
+      → IsPast before (length page.value) (drop used positions) more → AreThinned old (slice_set now i new) positions (i + 1) (before + length page.value) (used + more)
   thinned_more new more all small fit w o past =
-      let left = left_more (values old) (values now) places i before used page.value new.value within_values (value_at now i page is) s.left more small fit w past in
+      let left = left_more (values old) (values now) positions i before used page.value new.value within_values (value_at now i page is) s.left more small fit w past in
       let next = start_next (values old) i page.value (omega (arith, within, values_length old)) (value_at old i page here) in
       record {
-        left = subst (λ vs. AreLeft (values old) vs places (i + 1) (before + length page.value) (used + more)) (sym (values_set now i new)) left;
+        left = subst (λ vs. AreLeft (values old) vs positions (i + 1) (before + length page.value) (used + more)) (sym (values_set now i new)) left;
         start = omega (arith, s.start, next);
         rest = drop-set-lt (i + 1) now i new (omega arith) ∙ sym (drop_drop 1 i now) ∙ ap (drop 1) s.rest ∙ drop_drop 1 i old;
         owns = λ k. own_same now i page new is o k ∙ s.owns k;
         moved = λ k. elim (size_other now i k new) [
-          | inl e ↦ subst (λ n. (size_at n (slice_set now i new) ≡ size_at n old) ⊎ IsNear old n) (sym e) (by_test (is_inside before (before + length page.value) (drop used places)) refl)
+          | inl e ↦ subst (λ n. (size_at n (slice_set now i new) ≡ size_at n old) ⊎ IsNear old n) (sym e) (by_test (is_inside before (before + length page.value) (drop used positions)) refl)
           | inr e ↦ elim (s.moved k) [ inl f ↦ inl (e ∙ f) | inr n ↦ inr n ]
         ];
       }
     where
-      by_test : (b : Bool) → is_inside before (before + length page.value) (drop used places) ≡ b → (size_at i (slice_set now i new) ≡ size_at i old) ⊎ IsNear old i
+      by_test : (b : Bool) → is_inside before (before + length page.value) (drop used positions) ≡ b → (size_at i (slice_set now i new) ≡ size_at i old) ⊎ IsNear old i
       by_test true e = inr (near all e)
-      by_test false e = inl (size_there now i new lt ∙ ap length (w ∙ outside_unhit page.value before (drop used places) e) ∙ size_read old i page within here)
+      by_test false e = inl (size_there now i new lt ∙ ap length (w ∙ outside_unhit page.value before (drop used positions) e) ∙ size_read old i page within here)
 
 near_tail : {A : Type 0} (p : Owned A) (pages : List (Owned A)) (page : ℕ) → IsNear (p ∷ pages) (suc page) → IsNear pages page
 near_tail p pages zero h = record { before = h.own; own = h.own; next = h.next }
@@ -189,5 +189,5 @@ ready_of (o ∷ r ∷ old) (p ∷ q ∷ now) n w m d = (pair (m zero) (m (suc ze
     behind k (inl e) = inl e
     behind k (inr near) = inr (near_tail o (r ∷ old) k near)
 
-pub thinned_ready : {T : Type 0} (old now : List (Owned (List T))) (places : List ℕ) (i before used : ℕ) → IsDense (lengths old) → AreThinned old now places i before used → AreReady now
-thinned_ready old now places i before used d s = ready_of old now (thinned_long old now places i before used s) s.owns s.moved d
+pub thinned_ready : {T : Type 0} (old now : List (Owned (List T))) (positions : List ℕ) (i before used : ℕ) → IsDense (lengths old) → AreThinned old now positions i before used → AreReady now
+thinned_ready old now positions i before used d s = ready_of old now (thinned_long old now positions i before used s) s.owns s.moved d

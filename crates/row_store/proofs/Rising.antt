@@ -63,11 +63,11 @@ rising_le : (from to : ℕ) (ns : List ℕ) → AreRising from to ns → from �
 rising_le from to [] h = h
 rising_le from to (n ∷ ns) h = omega (arith, h.0, h.1)
 
-pub rising_front : (from to : ℕ) (xs ys : List ℕ) → AreRising from to (xs ++ ys) → AreRising from to xs
-rising_front from to [] ys h = rising_le from to ys h
-rising_front from to (x ∷ xs) ys h = (h.0, h.1, rising_front (x + 1) to xs ys h.2)
+pub rising_prefix : (from to : ℕ) (xs ys : List ℕ) → AreRising from to (xs ++ ys) → AreRising from to xs
+rising_prefix from to [] ys h = rising_le from to ys h
+rising_prefix from to (x ∷ xs) ys h = (h.0, h.1, rising_prefix (x + 1) to xs ys h.2)
 
--- what stands behind a number
+-- what stands after a number
 pub rising_behind : (from to : ℕ) (xs ys : List ℕ) (i d : ℕ) → AreRising from to (xs ++ ys) → i < length xs → AreRising (get_or xs i d + 1) to ys
 rising_behind from to [] ys i d h lt = absurd (omega (arith, lt))
 rising_behind from to (x ∷ xs) ys zero d h lt = rising_rest (x + 1) to xs ys h.2

@@ -3,19 +3,19 @@ use Rattle.std.proofs.Common.{◌≡◌, ℕ, zero, suc, ◌+◌, ◌<◌, ◌�
 use Rattle.std.specs.List.{All}
 use Rattle.std.proofs.lemmas.List.{take_all, length-map}
 use Rattle.std.proofs.lemmas.List.Elements.{All-head, All-tail}
-use Rattle.row_store.specs.Paged.{joined, sizes, IsPlace, rows_before}
+use Rattle.row_store.specs.Paged.{joined, sizes, IsPosition, rows_before}
 use Rattle.row_store.specs.Changes.{written}
 use Rattle.row_store.specs.declared.changes.Change.{Change}
 
--- ---- where a row lies behind the pages before it
+-- ---- where a row lies after the pages before it
 
-pub start_place : {T : Type 0} (pages : List (List T)) (i page at : ℕ) (rows : List T) → page < length pages
-    → rows ≡ get_or pages page rows → i ≡ rows_before page pages + at → at < length rows → IsPlace pages i page at
-start_place [] i page at rows lt e is h = absurd (omega arith)
-start_place (r ∷ pages) i zero at rows lt e is h = (omega (arith, is), subst (λ x. at < length x) e h)
-start_place (r ∷ pages) i (suc page) at rows lt e is h =
+pub start_position : {T : Type 0} (pages : List (List T)) (i page at : ℕ) (rows : List T) → page < length pages
+    → rows ≡ get_or pages page rows → i ≡ rows_before page pages + at → at < length rows → IsPosition pages i page at
+start_position [] i page at rows lt e is h = absurd (omega arith)
+start_position (r ∷ pages) i zero at rows lt e is h = (omega (arith, is), subst (λ x. at < length x) e h)
+start_position (r ∷ pages) i (suc page) at rows lt e is h =
     let whole : rows_before (suc page) (r ∷ pages) ≡ length r + rows_before page pages = length-append r (joined (take page pages)) in
-    (rows_before page pages + at, omega (arith, is, whole), start_place pages (rows_before page pages + at) page at rows (omega (arith, lt)) e refl h)
+    (rows_before page pages + at, omega (arith, is, whole), start_position pages (rows_before page pages + at) page at rows (omega (arith, lt)) e refl h)
 
 pub start_next : {T : Type 0} (pages : List (List T)) (page : ℕ) (rows : List T) → page < length pages
     → rows ≡ get_or pages page rows → rows_before page pages + length rows ≡ rows_before (page + 1) pages
@@ -57,30 +57,30 @@ flat_same (r ∷ pages) (n ∷ new) e =
 pub record AreWriting {T : Type 0} (old now : List (List T)) (changes left : List (Change T)) (page before : ℕ) : Type 0 where
   pub so_far : written (joined old) changes ≡ written (joined now) left
   pub lengths_same : sizes now ≡ sizes old
-  pub placed : All (λ change. change.place < length (joined old)) left
+  pub placed : All (λ change. change.position < length (joined old)) left
   pub start : before ≡ rows_before page now
 
 pub writing_start : {T : Type 0} (old : List (List T)) (changes left : List (Change T)) (page before : ℕ)
-    → All (λ change. change.place < length (joined old)) changes → left ≡ changes → page ≡ 0 → before ≡ 0 → AreWriting old old changes left page before
+    → All (λ change. change.position < length (joined old)) changes → left ≡ changes → page ≡ 0 → before ≡ 0 → AreWriting old old changes left page before
 writing_start old changes left page before h e p b = record {
   so_far = ap (written (joined old)) (sym e);
   lengths_same = refl;
-  placed = subst (All (λ change. change.place < length (joined old))) (sym e) h;
+  placed = subst (All (λ change. change.position < length (joined old))) (sym e) h;
   start = b ∙ ap (λ n. rows_before n old) (sym p);
 }
 
 module _ {T : Type 0} (old now new : List (List T)) (changes left rest : List (Change T)) (change : Change T)
     (page before : ℕ) (is : left ≡ change ∷ rest) (s : AreWriting old now changes left page before) where
-  pub placed_here : change.place < length (joined now)
+  pub placed_here : change.position < length (joined now)
   placed_here =
-      let lt : change.place < length (joined old) = All-head (λ c. c.place < length (joined old)) change rest (subst (All (λ c. c.place < length (joined old))) is s.placed) in
+      let lt : change.position < length (joined old) = All-head (λ c. c.position < length (joined old)) change rest (subst (All (λ c. c.position < length (joined old))) is s.placed) in
       omega (arith, lt, flat_same old now s.lengths_same)
 
-  pub writing_more : (at start : ℕ) → joined new ≡ slice_set (joined now) change.place change.row → sizes new ≡ sizes now → start ≡ rows_before at now → AreWriting old new changes rest at start
+  pub writing_more : (at start : ℕ) → joined new ≡ slice_set (joined now) change.position change.row → sizes new ≡ sizes now → start ≡ rows_before at now → AreWriting old new changes rest at start
   writing_more at start w l b = record {
     so_far = s.so_far ∙ ap (written (joined now)) is ∙ ap (λ rows. written rows rest) (sym w);
     lengths_same = l ∙ s.lengths_same;
-    placed = All-tail (λ c. c.place < length (joined old)) change rest (subst (All (λ c. c.place < length (joined old))) is s.placed);
+    placed = All-tail (λ c. c.position < length (joined old)) change rest (subst (All (λ c. c.position < length (joined old))) is s.placed);
     start = b ∙ sym (start_same at now new l);
   }
 

@@ -38,54 +38,54 @@ use Rattle.std.proofs.lemmas.List.{append-nil, take_all, drop_all, take_more, dr
 use Rattle.std.proofs.lemmas.List.Elements.{All-head, All-tail}
 use Rattle.row_store.specs.Paged.{joined, sizes, IsDense, IsPaged, merged_next, merged_at, compaction}
 use Rattle.row_store.specs.Changes.{unhit, marked, IsPast}
-use Rattle.row_store.proofs.Marking.{drop_drop, marked_front, marked_long}
+use Rattle.row_store.proofs.Marking.{drop_drop, marked_prefix, marked_long}
 use Rattle.row_store.proofs.Packing.{next_flat, next_dense, next_small, lengths_of_set, small_set}
 
 -- ---- the rows of one page: those that stay so far stand in front, and the rest is as it was
 
-item_of : {T : Type 0} (rows : List T) (place : ℕ) → place < length rows → T
-item_of [] place lt = absurd (omega arith)
-item_of (row ∷ rows) place lt = row
+item_of : {T : Type 0} (rows : List T) (position : ℕ) → position < length rows → T
+item_of [] position lt = absurd (omega arith)
+item_of (row ∷ rows) position lt = row
 
-pub dropped_hit : {T : Type 0} (rows whole : List T) (hits : List Bool) (kept place : ℕ) → place < length rows
-    → place < length hits → get_or hits place false ≡ true → whole ≡ take kept rows ++ unhit (drop place rows) (drop place hits)
-    → whole ≡ take kept rows ++ unhit (drop (place + 1) rows) (drop (place + 1) hits)
-dropped_hit rows whole hits kept place lt lh t w =
-    let d = item_of rows place lt in
-    w ∙ ap (λ rs. take kept rows ++ unhit rs (drop place hits)) (drop_more rows place d lt)
-    ∙ ap (λ hs. take kept rows ++ unhit (get_or rows place d ∷ drop (place + 1) rows) hs) (drop_more hits place false lh ∙ ap (λ h. h ∷ drop (place + 1) hits) t)
+pub dropped_hit : {T : Type 0} (rows whole : List T) (hits : List Bool) (kept position : ℕ) → position < length rows
+    → position < length hits → get_or hits position false ≡ true → whole ≡ take kept rows ++ unhit (drop position rows) (drop position hits)
+    → whole ≡ take kept rows ++ unhit (drop (position + 1) rows) (drop (position + 1) hits)
+dropped_hit rows whole hits kept position lt lh t w =
+    let d = item_of rows position lt in
+    w ∙ ap (λ rs. take kept rows ++ unhit rs (drop position hits)) (drop_more rows position d lt)
+    ∙ ap (λ hs. take kept rows ++ unhit (get_or rows position d ∷ drop (position + 1) rows) hs) (drop_more hits position false lh ∙ ap (λ h. h ∷ drop (position + 1) hits) t)
 
-swapped_front : {T : Type 0} (rows moved : List T) (kept place : ℕ) (d : T) → place < length rows → kept ≤ place
-    → SwappedAt rows moved kept place → take (kept + 1) moved ≡ take kept rows ++ get_or rows place d ∷ []
-swapped_front rows moved kept place d lt le s =
-    let u = get_or rows place d in
+swapped_prefix : {T : Type 0} (rows moved : List T) (kept position : ℕ) (d : T) → position < length rows → kept ≤ position
+    → SwappedAt rows moved kept position → take (kept + 1) moved ≡ take kept rows ++ get_or rows position d ∷ []
+swapped_prefix rows moved kept position d lt le s =
+    let u = get_or rows position d in
     let v = get_or rows kept d in
     ap (take (kept + 1)) (s.3 d)
-    ∙ elim (cases_lt kept place) [
-      | inl less ↦ take-set-le (kept + 1) (slice_set rows kept u) place v (omega arith) ∙ take_more_set rows kept u (omega arith)
+    ∙ elim (cases_lt kept position) [
+      | inl less ↦ take-set-le (kept + 1) (slice_set rows kept u) position v (omega arith) ∙ take_more_set rows kept u (omega arith)
       | inr more ↦
-          let same : place ≡ kept = omega arith in
+          let same : position ≡ kept = omega arith in
           ap (λ p. take (kept + 1) (slice_set (slice_set rows kept u) p v)) same
-          ∙ take_more_set (slice_set rows kept u) kept v (omega (arith, length-set rows kept u)) ∙ ap (λ front. front ++ v ∷ []) (take-set rows kept u)
+          ∙ take_more_set (slice_set rows kept u) kept v (omega (arith, length-set rows kept u)) ∙ ap (λ prefix. prefix ++ v ∷ []) (take-set rows kept u)
           ∙ ap (λ p. take kept rows ++ get_or rows p d ∷ []) (sym same)
     ]
 
-pub dropped_kept : {T : Type 0} (rows moved whole : List T) (hits : List Bool) (kept place : ℕ) → place < length rows
-    → place < length hits → kept ≤ place → get_or hits place false ≡ false → SwappedAt rows moved kept place
-    → whole ≡ take kept rows ++ unhit (drop place rows) (drop place hits) → whole ≡ take (kept + 1) moved ++ unhit (drop (place + 1) moved) (drop (place + 1) hits)
-dropped_kept rows moved whole hits kept place lt lh le t s w =
-    let d = item_of rows place lt in
-    let u = get_or rows place d in
-    w ∙ ap (λ rs. take kept rows ++ unhit rs (drop place hits)) (drop_more rows place d lt)
-    ∙ ap (λ hs. take kept rows ++ unhit (u ∷ drop (place + 1) rows) hs) (drop_more hits place false lh ∙ ap (λ h. h ∷ drop (place + 1) hits) t)
-    ∙ sym (append_assoc (take kept rows) (u ∷ []) (unhit (drop (place + 1) rows) (drop (place + 1) hits)))
-    ∙ ap (λ front. front ++ unhit (drop (place + 1) rows) (drop (place + 1) hits)) (sym (swapped_front rows moved kept place d lt le s))
-    ∙ ap (λ rs. take (kept + 1) moved ++ unhit rs (drop (place + 1) hits))
-    (sym (ap (drop (place + 1)) (s.3 d) ∙ drop-set-lt (place + 1) (slice_set rows kept u) place (get_or rows kept d) (omega arith) ∙ drop-set-lt (place + 1) rows kept u (omega arith)))
+pub dropped_kept : {T : Type 0} (rows moved whole : List T) (hits : List Bool) (kept position : ℕ) → position < length rows
+    → position < length hits → kept ≤ position → get_or hits position false ≡ false → SwappedAt rows moved kept position
+    → whole ≡ take kept rows ++ unhit (drop position rows) (drop position hits) → whole ≡ take (kept + 1) moved ++ unhit (drop (position + 1) moved) (drop (position + 1) hits)
+dropped_kept rows moved whole hits kept position lt lh le t s w =
+    let d = item_of rows position lt in
+    let u = get_or rows position d in
+    w ∙ ap (λ rs. take kept rows ++ unhit rs (drop position hits)) (drop_more rows position d lt)
+    ∙ ap (λ hs. take kept rows ++ unhit (u ∷ drop (position + 1) rows) hs) (drop_more hits position false lh ∙ ap (λ h. h ∷ drop (position + 1) hits) t)
+    ∙ sym (append_assoc (take kept rows) (u ∷ []) (unhit (drop (position + 1) rows) (drop (position + 1) hits)))
+    ∙ ap (λ prefix. prefix ++ unhit (drop (position + 1) rows) (drop (position + 1) hits)) (sym (swapped_prefix rows moved kept position d lt le s))
+    ∙ ap (λ rs. take (kept + 1) moved ++ unhit rs (drop (position + 1) hits))
+    (sym (ap (drop (position + 1)) (s.3 d) ∙ drop-set-lt (position + 1) (slice_set rows kept u) position (get_or rows kept d) (omega arith) ∙ drop-set-lt (position + 1) rows kept u (omega arith)))
 
-pub dropped_all : {T : Type 0} (rows whole : List T) (hits : List Bool) (kept place : ℕ) → length rows ≤ place
-    → whole ≡ take kept rows ++ unhit (drop place rows) (drop place hits) → whole ≡ take kept rows
-dropped_all rows whole hits kept place le w = w ∙ ap (λ rs. take kept rows ++ unhit rs (drop place hits)) (drop_all place rows le) ∙ append-nil (take kept rows)
+pub dropped_all : {T : Type 0} (rows whole : List T) (hits : List Bool) (kept position : ℕ) → length rows ≤ position
+    → whole ≡ take kept rows ++ unhit (drop position rows) (drop position hits) → whole ≡ take kept rows
+dropped_all rows whole hits kept position le w = w ∙ ap (λ rs. take kept rows ++ unhit rs (drop position hits)) (drop_all position rows le) ∙ append-nil (take kept rows)
 
 -- ---- how many stay
 
@@ -147,47 +147,47 @@ module _ {T : Type 0} (old now : List (List T)) (hits : List Bool) (i before : �
       flat_behind [] page = append-nil page
       flat_behind (p ∷ pages) page = ap (λ l. p ++ l) (flat_behind pages page) ∙ sym (append_assoc p (joined pages) page)
 
--- ---- the places that are left
+-- ---- the positions that are left
 
--- behind so many rows the places that are left mark the rest
-pub record AreLeft {T : Type 0} (old now : List (List T)) (places : List ℕ) (i before used : ℕ) : Type 0 where
-  pub thinning : AreThinning old now (marked 0 (length (joined old)) places) i before
-  pub left : drop before (marked 0 (length (joined old)) places) ≡ marked before (length (joined (drop i now))) (drop used places)
-  pub few : used ≤ length places
+-- after so many rows the positions that are left mark the rest
+pub record AreLeft {T : Type 0} (old now : List (List T)) (positions : List ℕ) (i before used : ℕ) : Type 0 where
+  pub thinning : AreThinning old now (marked 0 (length (joined old)) positions) i before
+  pub left : drop before (marked 0 (length (joined old)) positions) ≡ marked before (length (joined (drop i now))) (drop used positions)
+  pub few : used ≤ length positions
 
-pub left_start : {T : Type 0} (old : List (List T)) (places : List ℕ) → All (λ n. n ≤ 256) (sizes old) → AreLeft old old places 0 0 0
-left_start old places small = record {
-  thinning = thinning_start old (marked 0 (length (joined old)) places) (marked_long 0 (length (joined old)) places) small;
+pub left_start : {T : Type 0} (old : List (List T)) (positions : List ℕ) → All (λ n. n ≤ 256) (sizes old) → AreLeft old old positions 0 0 0
+left_start old positions small = record {
+  thinning = thinning_start old (marked 0 (length (joined old)) positions) (marked_long 0 (length (joined old)) positions) small;
   left = refl;
   few = omega arith;
 }
 
-module _ {T : Type 0} (old now : List (List T)) (places : List ℕ) (i before used : ℕ) (rows new : List T)
-    (lt : i < length now) (is : rows ≡ get_or now i rows) (s : AreLeft old now places i before used) where
+module _ {T : Type 0} (old now : List (List T)) (positions : List ℕ) (i before used : ℕ) (rows new : List T)
+    (lt : i < length now) (is : rows ≡ get_or now i rows) (s : AreLeft old now positions i before used) where
   abbrev hits : List Bool
-  hits = marked 0 (length (joined old)) places
+  hits = marked 0 (length (joined old)) positions
 
   abbrev rest : ℕ
   rest = length (joined (drop (i + 1) now))
 
-  all_left : drop before hits ≡ marked before (length rows + rest) (drop used places)
-  all_left = s.left ∙ ap (λ n. marked before n (drop used places)) (left_here old now hits i before rows new lt is s.thinning)
+  all_left : drop before hits ≡ marked before (length rows + rest) (drop used positions)
+  all_left = s.left ∙ ap (λ n. marked before n (drop used positions)) (left_here old now hits i before rows new lt is s.thinning)
 
   pub left_within : before + length rows ≤ length (joined old)
-  left_within = omega (arith, thin_within old now hits i before rows new lt is s.thinning, marked_long 0 (length (joined old)) places)
+  left_within = omega (arith, thin_within old now hits i before rows new lt is s.thinning, marked_long 0 (length (joined old)) positions)
 
-  pub left_more : (more : ℕ) → length rows ≤ 256 → more ≤ length (drop used places)
-      → new ≡ unhit rows (marked before (length rows) (drop used places)) → IsPast before (length rows) (drop used places) more
-      → AreLeft old (slice_set now i new) places (i + 1) (before + length rows) (used + more)
+  pub left_more : (more : ℕ) → length rows ≤ 256 → more ≤ length (drop used positions)
+      → new ≡ unhit rows (marked before (length rows) (drop used positions)) → IsPast before (length rows) (drop used positions) more
+      → AreLeft old (slice_set now i new) positions (i + 1) (before + length rows) (used + more)
   left_more more small few w past =
-      let front : take (length rows) (drop before hits) ≡ marked before (length rows) (drop used places) = ap
-      (take (length rows)) all_left ∙ marked_front before (length rows) rest (drop used places) in
+      let prefix : take (length rows) (drop before hits) ≡ marked before (length rows) (drop used positions) = ap
+      (take (length rows)) all_left ∙ marked_prefix before (length rows) rest (drop used positions) in
       let same : drop (i + 1) (slice_set now i new) ≡ drop (i + 1) now = drop-set-lt (i + 1) now i new (omega arith) in
       record {
-        thinning = thinning_more old now hits i before rows new lt is s.thinning small (w ∙ ap (unhit rows) (sym front));
-        left = sym (drop_drop (length rows) before hits) ∙ ap (drop (length rows)) all_left ∙ past rest ∙ ap (marked (before + length rows) rest) (drop_drop more used places)
-            ∙ ap (λ ps. marked (before + length rows) (length (joined ps)) (drop (used + more) places)) (sym same);
-        few = omega (arith, few, s.few, length-drop used places);
+        thinning = thinning_more old now hits i before rows new lt is s.thinning small (w ∙ ap (unhit rows) (sym prefix));
+        left = sym (drop_drop (length rows) before hits) ∙ ap (drop (length rows)) all_left ∙ past rest ∙ ap (marked (before + length rows) rest) (drop_drop more used positions)
+            ∙ ap (λ ps. marked (before + length rows) (length (joined ps)) (drop (used + more) positions)) (sym same);
+        few = omega (arith, few, s.few, length-drop used positions);
       }
 
 pub thinned : {T : Type 0} (old now : List (List T)) (hits : List Bool) (i before : ℕ) → length now ≤ i → AreThinning old now hits i before → joined now ≡ unhit (joined old) hits
@@ -227,17 +227,17 @@ packed_length (rows ∷ pages) = let a = next_length rows (compaction pages) in 
 pub pack_start : {T : Type 0} (old : List (List T)) (page : ℕ) → length old ≤ page → old ≡ take page old ++ compaction (drop page old)
 pack_start old page le = sym (ap (λ ps. take page old ++ compaction ps) (drop_all page old le) ∙ append-nil (take page old) ∙ take_all page old le)
 
-merged_behind : {T : Type 0} (front : List (List T)) (rows : List T) (pages : List (List T)) → merged_at (length front) (front ++ rows ∷ pages) ≡ front ++ merged_next rows pages
+merged_behind : {T : Type 0} (prefix : List (List T)) (rows : List T) (pages : List (List T)) → merged_at (length prefix) (prefix ++ rows ∷ pages) ≡ prefix ++ merged_next rows pages
 merged_behind [] rows pages = refl
-merged_behind (f ∷ front) rows pages = ap (λ l. f ∷ l) (merged_behind front rows pages)
+merged_behind (f ∷ prefix) rows pages = ap (λ l. f ∷ l) (merged_behind prefix rows pages)
 
 -- the page before those that share one already
 pub pack_more : {T : Type 0} (old now new : List (List T)) (bound page : ℕ) → page + 1 ≡ bound → bound ≤ length old
     → now ≡ take bound old ++ compaction (drop bound old) → new ≡ merged_at page now → new ≡ take page old ++ compaction (drop page old)
-pack_more old now new bound page e le w m = by_front (get_or old page []) (take_more old page [] (omega (arith, e, le))) (drop_more old page [] (omega (arith, e, le)))
+pack_more old now new bound page e le w m = by_prefix (get_or old page []) (take_more old page [] (omega (arith, e, le))) (drop_more old page [] (omega (arith, e, le)))
   where
-    by_front : (rows : List _) → take (page + 1) old ≡ take page old ++ rows ∷ [] → drop page old ≡ rows ∷ drop (page + 1) old → new ≡ take page old ++ compaction (drop page old)
-    by_front rows t d =
+    by_prefix : (rows : List _) → take (page + 1) old ≡ take page old ++ rows ∷ [] → drop page old ≡ rows ∷ drop (page + 1) old → new ≡ take page old ++ compaction (drop page old)
+    by_prefix rows t d =
         let n : page ≡ length (take page old) = omega (arith, length-take page old, e, le) in
         m ∙ ap (merged_at page)
         (w ∙ ap (λ k. take k old ++ compaction (drop k old)) (sym e) ∙ ap (λ f. f ++ compaction (drop (page + 1) old))
@@ -249,7 +249,7 @@ pack_more old now new bound page e le w m = by_front (get_or old page []) (take_
 pub pack_within : {T : Type 0} (old now : List (List T)) (bound page : ℕ) → page + 1 ≡ bound → bound ≤ length old → now ≡ take bound old ++ compaction (drop bound old) → page < length now
 pack_within old now bound page e le w = omega (arith, e, le, ap length w, length-append (take bound old) (compaction (drop bound old)), length-take bound old)
 
--- what is read of a place is there, whatever stands for what isn't
+-- what is read of a position is there, whatever stands for what isn't
 pub same_there : {A : Type 0} (xs : List A) (i : ℕ) (x y : A) → i < length xs → get_or xs i x ≡ get_or xs i y
 same_there [] i x y lt = absurd (omega arith)
 same_there (a ∷ xs) zero x y lt = refl

@@ -5,7 +5,7 @@ use Rattle.row_store.specs.declared.changes.Change.{Change}
 -- rows are put in the places of others, one after another
 abbrev pub written : {T : Type 0} → List T → List (Change T) → List T
 written rows [] = rows
-written rows (change ∷ changes) = written (slice_set rows change.place change.row) changes
+written rows (change ∷ changes) = written (slice_set rows change.position change.row) changes
 
 -- the rows that aren't hit
 abbrev pub unhit : {T : Type 0} → List T → List Bool → List T
@@ -21,25 +21,25 @@ hit (row ∷ rows) [] = []
 hit (row ∷ rows) (true ∷ hits) = row ∷ hit rows hits
 hit (row ∷ rows) (false ∷ hits) = hit rows hits
 
--- the next of some places is this one
+-- the next of some positions is this one
 abbrev pub is_at : ℕ → List ℕ → Bool
-is_at place [] = false
-is_at place (p ∷ places) = p == place
+is_at position [] = false
+is_at position (p ∷ positions) = p == position
 
--- the places that are left behind it
+-- the positions that are left after it
 abbrev pub passed : ℕ → List ℕ → List ℕ
-passed place places = if is_at place places then drop 1 places else places
+passed position positions = if is_at position positions then drop 1 positions else positions
 
--- for each of so many rows, from a place on, whether it lies at one of some places, which rise
-abbrev pub marked : (place count : ℕ) → List ℕ → List Bool
-marked place zero places = []
-marked place (suc count) places = is_at place places ∷ marked (place + 1) count (passed place places)
+-- for each of so many rows, from a position on, whether it lies at one of some positions, which rise
+abbrev pub marked : (position count : ℕ) → List ℕ → List Bool
+marked position zero positions = []
+marked position (suc count) positions = is_at position positions ∷ marked (position + 1) count (passed position positions)
 
--- behind so many rows, from a place on, so many of the places are used
-abbrev pub IsPast : (place count : ℕ) → List ℕ → ℕ → Type 0
-IsPast place count places used = (more : ℕ) → drop count (marked place (count + more) places) ≡ marked (place + count) more (drop used places)
+-- after so many rows, from a position on, so many of the positions are used
+abbrev pub IsPast : (position count : ℕ) → List ℕ → ℕ → Type 0
+IsPast position count positions used = (more : ℕ) → drop count (marked position (count + more) positions) ≡ marked (position + count) more (drop used positions)
 
--- the first of some places is one of the rows from a place on to another
+-- the first of some positions is one of the rows from a position on to another
 abbrev pub is_inside : (first end : ℕ) → List ℕ → Bool
 is_inside first end [] = false
-is_inside first end (p ∷ places) = nat_le first p && nat_lt p end
+is_inside first end (p ∷ positions) = nat_le first p && nat_lt p end

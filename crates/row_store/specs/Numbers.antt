@@ -1,4 +1,4 @@
--- Numbers of rows, which rise in the order of the rows and stay while a row is there.
+-- Numbers of rows, which rise in the order of the rows and stay as long as a row exists.
 use Rattle.std.specs.Prelude.{ℕ, zero, suc, ◌+◌, ◌<◌, ◌≤◌, List, [], ◌∷◌}
 use Rattle.row_store.specs.Paged.{Owned}
 

@@ -11,7 +11,7 @@ pub record Owned (A : Type 0) : Type 0 where
 abbrev pub values : {A : Type 0} → List (Owned A) → List A
 values pages = map (λ page. page.value) pages
 
--- whether the one at a place is one's own; where there is none, nothing isn't
+-- whether the one at a position is one's own; where there is none, nothing isn't
 abbrev pub own_at : {A : Type 0} → ℕ → List (Owned A) → Bool
 own_at page [] = true
 own_at zero (p ∷ pages) = p.own
@@ -54,11 +54,11 @@ last_room [] = 0
 last_room (n ∷ []) = 256 - n
 last_room (n ∷ m ∷ ns) = last_room (m ∷ ns)
 
--- the row at a place i of all rows is the one at a place of a page
-abbrev pub IsPlace : {T : Type 0} → List (List T) → ℕ → ℕ → ℕ → Type 0
-IsPlace [] i page at = ⊥
-IsPlace (rows ∷ pages) i zero at = (i ≡ at) × (at < length rows)
-IsPlace (rows ∷ pages) i (suc page) at = (j : ℕ) × (i ≡ length rows + j) × IsPlace pages j page at
+-- the row at a position i of all rows is the one at a position of a page
+abbrev pub IsPosition : {T : Type 0} → List (List T) → ℕ → ℕ → ℕ → Type 0
+IsPosition [] i page at = ⊥
+IsPosition (rows ∷ pages) i zero at = (i ≡ at) × (at < length rows)
+IsPosition (rows ∷ pages) i (suc page) at = (j : ℕ) × (i ≡ length rows + j) × IsPosition pages j page at
 
 -- how many rows lie before a page
 abbrev pub rows_before : {T : Type 0} → ℕ → List (List T) → ℕ
@@ -89,13 +89,13 @@ compaction (rows ∷ pages) = merged_next rows (compaction pages)
 
 -- ---- changes that take no memory
 
--- the row at a place can be replaced: its page is the table's own
+-- the row at a position can be replaced: its page is the table's own
 abbrev pub IsWritable : {T : Type 0} → List (Owned (List T)) → ℕ → Type 0
-IsWritable pages i = (page at : ℕ) → IsPlace (values pages) i page at → own_at page pages ≡ true
+IsWritable pages i = (page at : ℕ) → IsPosition (values pages) i page at → own_at page pages ≡ true
 
 -- it can be taken out: so are the pages beside it, which may take the rows that are left
 abbrev pub IsRemovable : {T : Type 0} → List (Owned (List T)) → ℕ → Type 0
-IsRemovable pages i = (page at : ℕ) → IsPlace (values pages) i page at
+IsRemovable pages i = (page at : ℕ) → IsPosition (values pages) i page at
     → (own_at (page - 1) pages ≡ true) × (own_at page pages ≡ true) × (own_at (page + 1) pages ≡ true)
 
 -- two neighbours that fit into one page are both the table's own

@@ -1,8 +1,8 @@
-//! Rows that take the places of others.
+//! Rows that take the positions of others.
 
-/// A row that is to stand in the place of another.
+/// A row that is to replace another.
 #[derive(Drop)]
 pub struct Change<T> {
-    pub place: usize,
+    pub position: usize,
     pub row: T,
 }

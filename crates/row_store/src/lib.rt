@@ -6,5 +6,5 @@ pub mod numbered;
 mod numbers;
 mod owning;
 pub mod pages;
-mod places;
+mod positions;
 pub mod tables;

@@ -13,8 +13,8 @@ use ae_base::lists::{Duplicate, Seq};
 use std::alloc::{AllocError, Global};
 use std::marker::Model;
 
-/// Rows in pages. Each has a number, which stays while the row is there; a later row has a greater
-/// one.
+/// Rows in pages. Each has a number, which stays as long as the row exists; a later row has a
+/// greater one.
 pub struct Numbered<T> {
     rows: Paged<T>,
     numbers: Paged<usize>,
@@ -92,24 +92,24 @@ impl<T: Drop> Numbered<T> {
         self.rows.rows()
     }
 
-    /// The row at a place, from 0.
-    pub fn get(&self, place: usize) -> &T
-        requires { place < length self.now.rows }
-        ensures { (default : T) → result.now ≡ slice_index_or self.now.rows place default }
+    /// The row at a position, from 0.
+    pub fn get(&self, position: usize) -> &T
+        requires { position < length self.now.rows }
+        ensures { (default : T) → result.now ≡ slice_index_or self.now.rows position default }
     {
-        self.rows.get(place)
+        self.rows.get(position)
     }
 
-    /// The place of the row with a number.
-    pub fn place_of(&self, number: usize) -> usize
+    /// The position of the row with a number.
+    pub fn position_of(&self, number: usize) -> usize
         requires { Contains self.now.numbers number }
         ensures within { result < length self.now.rows }
         ensures number { slice_index_or self.now.numbers result 0 ≡ number }
     {
-        self.numbers.place_of(number)
+        self.numbers.position_of(number)
     }
 
-    /// Puts a row at the end. It takes no memory.
+    /// Appends a row. It takes no memory.
     pub fn append(&mut self, row: T)
         requires { 0 < self.old.spare }
         ensures rows { self.new.rows ≡ self.old.rows ++ row ∷ [] }
@@ -126,53 +126,53 @@ impl<T: Drop> Numbered<T> {
     /// Puts rows in the places of others, one after another; their numbers stay. It takes no
     /// memory, and where their places rise it goes over the pages once.
     pub fn replace_all(&mut self, changes: Seq<Change<T>>)
-        requires placed { All (λ change. change.place < length self.old.rows) changes }
-        requires own { All (IsWritable self.old.pages) (map (λ change. change.place) changes) }
+        requires placed { All (λ change. change.position < length self.old.rows) changes }
+        requires own { All (IsWritable self.old.pages) (map (λ change. change.position) changes) }
         ensures rows { self.new.rows ≡ written self.old.rows changes }
         ensures numbers { (self.new.numbers ≡ self.old.numbers) × (self.new.next ≡ self.old.next) }
     {
         self.rows.replace_all(changes);
     }
 
-    /// Drops the rows at some places, which rise; those behind them move up, and keep their
+    /// Drops the rows at some positions, which rise; the rows after them move up, and keep their
     /// numbers. It takes no memory, and goes over the rows of those pages alone.
-    pub fn drop_at(&mut self, places: &[usize])
-        requires rising { AreRising 0 (length self.old.rows) places.now }
-        requires own { All (IsRemovable self.old.pages) places.now }
-        requires own_numbers { All (IsRemovable self.old.number_pages) places.now }
+    pub fn drop_at(&mut self, positions: &[usize])
+        requires rising { AreRising 0 (length self.old.rows) positions.now }
+        requires own { All (IsRemovable self.old.pages) positions.now }
+        requires own_numbers { All (IsRemovable self.old.number_pages) positions.now }
         ensures rows { self.new.rows
-            ≡ unhit self.old.rows (marked 0 (length self.old.rows) places.now) }
+            ≡ unhit self.old.rows (marked 0 (length self.old.rows) positions.now) }
         ensures numbers { self.new.numbers
-            ≡ unhit self.old.numbers (marked 0 (length self.old.rows) places.now) }
+            ≡ unhit self.old.numbers (marked 0 (length self.old.rows) positions.now) }
         ensures next { self.new.next ≡ self.old.next }
     {
         self.spare = 0;
-        self.rows.drop_at(places);
-        self.numbers.drop_at(places);
+        self.rows.drop_at(positions);
+        self.numbers.drop_at(positions);
     }
 
-    /// The rows at some places, which rise, lent. It goes over the pages once.
-    pub fn rows_at(&self, alloc: Global, places: &[usize]) -> Result<Vec<&T>, AllocError>
-        requires { AreRising 0 (length self.now.rows) places.now }
+    /// The rows at some positions, which rise, borrowed. It goes over the pages once.
+    pub fn rows_at(&self, alloc: Global, positions: &[usize]) -> Result<Vec<&T>, AllocError>
+        requires { AreRising 0 (length self.now.rows) positions.now }
         ensures rows { IfOk result (λ rows. map (λ row. row.now) rows.items
-            ≡ hit self.now.rows (marked 0 (length self.now.rows) places.now)) }
+            ≡ hit self.now.rows (marked 0 (length self.now.rows) positions.now)) }
         ensures each { length self.now.numbers ≡ length self.now.rows }
         ensures rising { AreRising 0 self.now.next self.now.numbers }
     {
-        self.rows.rows_at(alloc, places)
+        self.rows.rows_at(alloc, positions)
     }
 
-    /// The numbers of the rows at some places, which rise. It goes over the pages once.
-    pub fn numbers_at(&self, alloc: Global, places: &[usize]) -> Result<Vec<usize>, AllocError>
-        requires { AreRising 0 (length self.now.rows) places.now }
+    /// The numbers of the rows at some positions, which rise. It goes over the pages once.
+    pub fn numbers_at(&self, alloc: Global, positions: &[usize]) -> Result<Vec<usize>, AllocError>
+        requires { AreRising 0 (length self.now.rows) positions.now }
         ensures { IfOk result (λ numbers. numbers.items
-            ≡ hit self.now.numbers (marked 0 (length self.now.rows) places.now)) }
+            ≡ hit self.now.numbers (marked 0 (length self.now.rows) positions.now)) }
     {
-        let lent = self.numbers.rows_at(alloc, places)?;
+        let lent = self.numbers.rows_at(alloc, positions)?;
         copied(alloc, lent.as_slice())
     }
 
-    /// The numbers that so many more rows will have.
+    /// The numbers that the next `count` rows will have.
     pub fn next_numbers(&self, alloc: Global, count: usize) -> Result<Vec<usize>, AllocError>
         requires { count ≤ self.now.spare }
         ensures numbers { IfOk result (λ numbers. numbers.items ≡ counted self.now.next count) }
@@ -189,7 +189,7 @@ impl<T: Drop> Numbered<T> {
 }
 
 impl<T: Duplicate> Numbered<T> {
-    /// Makes room for so many more rows, if there is memory for it; the rows stay.
+    /// Makes room for `n` more rows, if there is memory for it; the rows stay.
     pub fn reserve(&mut self, alloc: Global, n: usize) -> Result<(), AllocError>
         ensures rows { self.new.rows ≡ self.old.rows }
         ensures numbers { (self.new.numbers ≡ self.old.numbers) × (self.new.next ≡ self.old.next) }
@@ -205,30 +205,30 @@ impl<T: Duplicate> Numbered<T> {
         Ok(())
     }
 
-    /// Has the pages of some places to itself, so that rows can be put there; or without memory
-    /// some of them. The rows stay.
-    pub fn make_writable(&mut self, alloc: Global, places: &[usize]) -> Result<(), AllocError>
-        requires { AreRising 0 (length self.old.rows) places.now }
+    /// Makes the pages of some positions its own, so that rows can be replaced there; or out of
+    /// memory some of them. The rows stay.
+    pub fn make_writable(&mut self, alloc: Global, positions: &[usize]) -> Result<(), AllocError>
+        requires { AreRising 0 (length self.old.rows) positions.now }
         ensures rows { self.new.rows ≡ self.old.rows }
         ensures numbers { (self.new.numbers ≡ self.old.numbers) × (self.new.next ≡ self.old.next) }
         ensures spare { self.new.spare ≡ self.old.spare }
-        ensures own { OnOk result (All (IsWritable self.new.pages) places.now) }
+        ensures own { OnOk result (All (IsWritable self.new.pages) positions.now) }
     {
-        self.rows.make_writable(alloc, places)
+        self.rows.make_writable(alloc, positions)
     }
 
-    /// Has the pages of some places to itself and those beside them, so that the rows there can be
-    /// dropped; or without memory some of them. The rows stay.
-    pub fn make_removable(&mut self, alloc: Global, places: &[usize]) -> Result<(), AllocError>
-        requires { AreRising 0 (length self.old.rows) places.now }
+    /// Makes the pages of some positions its own and those beside them, so that the rows there can
+    /// be dropped; or out of memory some of them. The rows stay.
+    pub fn make_removable(&mut self, alloc: Global, positions: &[usize]) -> Result<(), AllocError>
+        requires { AreRising 0 (length self.old.rows) positions.now }
         ensures rows { self.new.rows ≡ self.old.rows }
         ensures numbers { (self.new.numbers ≡ self.old.numbers) × (self.new.next ≡ self.old.next) }
         ensures spare { self.new.spare ≡ self.old.spare }
-        ensures own { OnOk result (All (IsRemovable self.new.pages) places.now) }
-        ensures own_numbers { OnOk result (All (IsRemovable self.new.number_pages) places.now) }
+        ensures own { OnOk result (All (IsRemovable self.new.pages) positions.now) }
+        ensures own_numbers { OnOk result (All (IsRemovable self.new.number_pages) positions.now) }
     {
-        self.rows.make_removable(alloc, places)?;
-        self.numbers.make_removable(alloc, places)
+        self.rows.make_removable(alloc, positions)?;
+        self.numbers.make_removable(alloc, positions)
     }
 
     /// Lets others have the pages as well, if there is memory for it: from then on a copy copies

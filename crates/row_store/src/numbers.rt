@@ -7,8 +7,8 @@ ghost use Rattle.row_store.specs.Paged.{IsPaged, flat, lengths, values, rows_bef
 
 use crate::pages::Page;
 
-/// The place of a number that is one of some pages of rising numbers.
-pub(crate) fn place_of(pages: &[Page<usize>], number: usize) -> usize
+/// The position of a number that is one of some pages of rising numbers.
+pub(crate) fn position_of(pages: &[Page<usize>], number: usize) -> usize
     requires few { length (flat pages.now) < 2 ^ 64 }
     requires paged { IsPaged (lengths pages.now) }
     requires rising { (to : ℕ) × AreRising 0 to (flat pages.now) }
@@ -17,7 +17,7 @@ pub(crate) fn place_of(pages: &[Page<usize>], number: usize) -> usize
     ensures number { slice_index_or (flat pages.now) result 0 ≡ number }
 {
     let page = page_of(pages, number);
-    rows_before(pages, page) + place_in(pages[page].rows(), number)
+    rows_before(pages, page) + position_in(pages[page].rows(), number)
 }
 
 /// The page of a number that is one of some pages of rising numbers.
@@ -62,15 +62,15 @@ fn rows_before(pages: &[Page<usize>], page: usize) -> usize
     before
 }
 
-/// The place of a number that is one of some rising numbers.
-fn place_in(numbers: &[usize], number: usize) -> usize
+/// The position of a number that is one of some rising numbers.
+fn position_in(numbers: &[usize], number: usize) -> usize
     requires rising { (to : ℕ) × AreRising 0 to numbers.now }
     requires there { Contains numbers.now number }
     ensures within { result < length numbers.now }
     ensures number { slice_index_or numbers.now result 0 ≡ number }
 {
     match numbers.binary_search(&number) {
-        Ok(place) => place,
+        Ok(position) => position,
         Err(_) => unreachable!(),
     }
 }

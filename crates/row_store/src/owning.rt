@@ -6,48 +6,48 @@ ghost use Rattle.std.specs.Vec.{vec_capacity};
 ghost use Rattle.row_store.specs.Paged.{IsRemovable, IsWritable, flat, values, own_at};
 
 use crate::pages::Page;
-use crate::places::{Start, seek};
+use crate::positions::{Start, seek};
 use ae_base::lists::Duplicate;
 use std::alloc::{AllocError, Global};
 
-/// Has the pages of some places to itself, or without memory some of them. Where the places rise,
+/// Makes the pages of some positions its own, or out of memory some of them. If the positions rise,
 /// it goes over the pages once.
 pub(crate) fn own_at<T: Duplicate>(
     alloc: Global,
     pages: &mut Vec<Page<T>>,
-    places: &[usize],
+    positions: &[usize],
 ) -> Result<(), AllocError>
-    requires { All (λ place. place < length (flat pages.old.items)) places.now }
+    requires { All (λ position. position < length (flat pages.old.items)) positions.now }
     ensures values { values pages.new.items ≡ values pages.old.items }
     ensures kept { (page : ℕ) → own_at page pages.old.items ≡ true
         → own_at page pages.new.items ≡ true }
     ensures capacity { vec_capacity pages.new ≡ vec_capacity pages.old }
-    ensures own { OnOk result (All (IsWritable pages.new.items) places.now) }
+    ensures own { OnOk result (All (IsWritable pages.new.items) positions.now) }
 {
     let mut near = Start::first();
-    for place in places {
-        near = seek(pages.as_slice(), near, *place);
+    for position in positions {
+        near = seek(pages.as_slice(), near, *position);
         own_one(alloc, pages, near.page)?;
     }
     Ok(())
 }
 
-/// Has the pages of some places to itself and those beside them, or without memory some of them.
+/// Makes the pages of some positions its own and those beside them, or out of memory some of them.
 pub(crate) fn own_around<T: Duplicate>(
     alloc: Global,
     pages: &mut Vec<Page<T>>,
-    places: &[usize],
+    positions: &[usize],
 ) -> Result<(), AllocError>
-    requires { All (λ place. place < length (flat pages.old.items)) places.now }
+    requires { All (λ position. position < length (flat pages.old.items)) positions.now }
     ensures values { values pages.new.items ≡ values pages.old.items }
     ensures kept { (page : ℕ) → own_at page pages.old.items ≡ true
         → own_at page pages.new.items ≡ true }
     ensures capacity { vec_capacity pages.new ≡ vec_capacity pages.old }
-    ensures own { OnOk result (All (IsRemovable pages.new.items) places.now) }
+    ensures own { OnOk result (All (IsRemovable pages.new.items) positions.now) }
 {
     let mut near = Start::first();
-    for place in places {
-        near = seek(pages.as_slice(), near, *place);
+    for position in positions {
+        near = seek(pages.as_slice(), near, *position);
         own_near(alloc, pages, near.page)?;
     }
     Ok(())
@@ -91,7 +91,7 @@ fn own_near<T: Duplicate>(
     own_one(alloc, pages, page + 1)
 }
 
-/// Has a page to itself, if it is there.
+/// Makes a page its own, if it exists.
 fn own_one<T: Duplicate>(
     alloc: Global,
     pages: &mut Vec<Page<T>>,

@@ -12,7 +12,7 @@ use std::marker::Model;
 use std::mem::replace;
 use std::rc::Rc;
 
-/// Rows with one owner, or with several, of which none changes them.
+/// Rows with one owner, or with several, none of which changes them.
 enum Holding<T> {
     Alone(Vec<T>),
     Among(Rc<Vec<T>>),
@@ -77,7 +77,7 @@ impl<T: Drop> Page<T> {
         self.holding.rows()
     }
 
-    /// The row at a place, from 0.
+    /// The row at a position, from 0.
     pub(crate) fn get(&self, i: usize) -> &T
         requires { i < length self.now.value }
         ensures { (default : T) → result.now ≡ slice_index_or self.now.value i default }
@@ -85,7 +85,7 @@ impl<T: Drop> Page<T> {
         &self.holding.rows()[i]
     }
 
-    /// Puts a row at the end. It takes no memory.
+    /// Appends a row. It takes no memory.
     pub(crate) fn push(&mut self, row: T)
         requires room { length self.old.value < 256 }
         requires own { self.old.own ≡ true }
@@ -111,25 +111,25 @@ impl<T: Drop> Page<T> {
         }
     }
 
-    /// Drops the rows at some places, counted on from the page's first; the others move up. It
-    /// answers how many of the places it came to, and takes no memory.
-    pub(crate) fn drop_at(&mut self, first: usize, places: &[usize]) -> usize
+    /// Drops the rows at some positions, counted on from the page's first; the others move up. It
+    /// answers how many of the positions it came to, and takes no memory.
+    pub(crate) fn drop_at(&mut self, first: usize, positions: &[usize]) -> usize
         requires fits { first + length self.old.value < 2 ^ 64 }
-        requires own { is_inside first (first + length self.old.value) places.now ≡ true
+        requires own { is_inside first (first + length self.old.value) positions.now ≡ true
             → self.old.own ≡ true }
         ensures rows { self.new.value
-            ≡ unhit self.old.value (marked first (length self.old.value) places.now) }
+            ≡ unhit self.old.value (marked first (length self.old.value) positions.now) }
         ensures own { self.new.own ≡ self.old.own }
-        ensures used { IsPast first (length self.old.value) places.now result }
-        ensures few { result ≤ length places.now }
+        ensures used { IsPast first (length self.old.value) positions.now result }
+        ensures few { result ≤ length positions.now }
     {
-        if !is_inside(places, first, first + self.holding.rows().len()) {
+        if !is_inside(positions, first, first + self.holding.rows().len()) {
             return 0;
         }
-        self.holding.drop_at(first, places)
+        self.holding.drop_at(first, positions)
     }
 
-    /// Puts the rows of another page at the end. It takes no memory.
+    /// Appends the rows of another page. It takes no memory.
     pub(crate) fn take_all(&mut self, other: Page<T>)
         requires fits { length self.old.value + length other.value ≤ 256 }
         requires own { self.old.own ≡ true }
@@ -209,25 +209,25 @@ impl<T: Drop> Holding<T> {
         }
     }
 
-    /// Drops the rows at some places, as a page does.
-    fn drop_at(&mut self, first: usize, places: &[usize]) -> usize
+    /// Drops the rows at some positions, as a page does.
+    fn drop_at(&mut self, first: usize, positions: &[usize]) -> usize
         requires fits { first + length (owned_of self.old).value < 2 ^ 64 }
         requires own { (owned_of self.old).own ≡ true }
         ensures rows { (owned_of self.new).value
             ≡ unhit (owned_of self.old).value
-            (marked first (length (owned_of self.old).value) places.now) }
+            (marked first (length (owned_of self.old).value) positions.now) }
         ensures own { (owned_of self.new).own ≡ true }
         ensures capacity { capacity_of self.new ≡ capacity_of self.old }
-        ensures used { IsPast first (length (owned_of self.old).value) places.now result }
-        ensures few { result ≤ length places.now }
+        ensures used { IsPast first (length (owned_of self.old).value) positions.now result }
+        ensures few { result ≤ length positions.now }
     {
         match self {
-            Holding::Alone(rows) => drop_rows(rows, first, places),
+            Holding::Alone(rows) => drop_rows(rows, first, positions),
             Holding::Among(_) => 0,
         }
     }
 
-    /// Puts the rows at the end of others. It takes no memory.
+    /// Appends the rows to others. It takes no memory.
     fn move_to(self, rows: &mut Vec<T>)
         requires own { (owned_of self).own ≡ true }
         requires fits { length rows.old.items + length
@@ -245,7 +245,7 @@ impl<T: Drop> Holding<T> {
 }
 
 impl<T: Duplicate> Holding<T> {
-    /// The rows for one owner, or without memory as they were held.
+    /// The rows for one owner, or out of memory as they were held.
     fn alone(self, alloc: Global) -> Result<Vec<T>, Holding<T>>
         requires few { length (owned_of self).value ≤ 256 }
         requires room { 256 ≤ capacity_of self }
@@ -279,20 +279,20 @@ fn copied<T: Duplicate>(alloc: Global, rows: &[T]) -> Result<Vec<T>, AllocError>
     Ok(copy)
 }
 
-/// Drops the rows at some places, counted on from the first; the others move up. It answers how
-/// many of the places it came to.
-fn drop_rows<T: Drop>(rows: &mut Vec<T>, first: usize, places: &[usize]) -> usize
+/// Drops the rows at some positions, counted on from the first; the others move up. It answers how
+/// many of the positions it came to.
+fn drop_rows<T: Drop>(rows: &mut Vec<T>, first: usize, positions: &[usize]) -> usize
     requires { first + length rows.old.items < 2 ^ 64 }
     ensures rows { rows.new.items
-        ≡ unhit rows.old.items (marked first (length rows.old.items) places.now) }
-    ensures used { IsPast first (length rows.old.items) places.now result }
-    ensures few { result ≤ length places.now }
+        ≡ unhit rows.old.items (marked first (length rows.old.items) positions.now) }
+    ensures used { IsPast first (length rows.old.items) positions.now result }
+    ensures few { result ≤ length positions.now }
     ensures capacity { vec_capacity rows.new ≡ vec_capacity rows.old }
 {
     let mut kept = 0;
     let mut used = 0;
     for at in 0..rows.len() {
-        if is_at(places, used, first + at) {
+        if is_at(positions, used, first + at) {
             used += 1;
         } else {
             rows.swap(kept, at);
@@ -303,17 +303,17 @@ fn drop_rows<T: Drop>(rows: &mut Vec<T>, first: usize, places: &[usize]) -> usiz
     used
 }
 
-/// Whether the next of some places is this one.
-fn is_at(places: &[usize], next: usize, place: usize) -> bool
-    ensures at { result ≡ is_at place (drop next places.now) }
-    ensures there { result ≡ true → next < length places.now }
+/// Whether the next of some positions is this one.
+fn is_at(positions: &[usize], next: usize, position: usize) -> bool
+    ensures at { result ≡ is_at position (drop next positions.now) }
+    ensures there { result ≡ true → next < length positions.now }
 {
-    next < places.len() && places[next] == place
+    next < positions.len() && positions[next] == position
 }
 
-/// Whether the first of some places is one of the rows from a place on to another.
-fn is_inside(places: &[usize], first: usize, end: usize) -> bool
-    ensures { result ≡ is_inside first end places.now }
+/// Whether the first of some positions is one of the rows from a position on to another.
+fn is_inside(positions: &[usize], first: usize, end: usize) -> bool
+    ensures { result ≡ is_inside first end positions.now }
 {
-    !places.is_empty() && first <= places[0] && places[0] < end
+    !positions.is_empty() && first <= positions[0] && positions[0] < end
 }

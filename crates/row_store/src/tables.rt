@@ -8,10 +8,10 @@ ghost use Rattle.std.specs.Vec.{vec_capacity};
 ghost use Rattle.row_store.specs.Paged.{AreReady, IsKept, IsPaged, IsRemovable, IsWritable, flat, lengths, values, own_at, last_room, compaction, merged_at, can_merge};
 
 use crate::changes::Change;
-use crate::numbers::place_of;
+use crate::numbers::position_of;
 use crate::owning::{own_around, own_at, own_last};
 use crate::pages::Page;
-use crate::places::{Start, find, seek};
+use crate::positions::{Start, find, seek};
 use ae_base::atoms::Row;
 use ae_base::lists::{Duplicate, Seq};
 use std::alloc::{AllocError, Global};
@@ -20,8 +20,8 @@ use std::marker::Model;
 /// The rows of one table.
 pub type Table<K> = Paged<Row<K>>;
 
-/// Rows in pages of at most 256, of which two neighbours always have more than 256 together.
-/// Several tables may have the same pages; before one changes a page, it has it to itself.
+/// Rows in pages of at most 256; two neighbours always have more than 256 together. Several tables
+/// may share pages; a page that a table changes is its own.
 pub struct Paged<T> {
     pages: Vec<Page<T>>,
     ready: Vec<Page<T>>,
@@ -97,27 +97,27 @@ impl<T: Drop> Paged<T> {
         self.pages.len()
     }
 
-    /// The row at a place, from 0.
+    /// The row at a position, from 0.
     pub fn get(&self, i: usize) -> &T
         requires { i < length self.now.rows }
         ensures { (default : T) → result.now ≡ slice_index_or self.now.rows i default }
     {
-        let place = find(self.pages.as_slice(), i);
-        self.pages[place.page].get(place.at)
+        let position = find(self.pages.as_slice(), i);
+        self.pages[position.page].get(position.at)
     }
 
     /// Puts rows in the places of others, one after another. It takes no memory, and where their
-    /// places rise it goes over the pages once.
+    /// positions rise it goes over the pages once.
     pub fn replace_all(&mut self, changes: Seq<Change<T>>)
-        requires placed { All (λ change. change.place < length self.old.rows) changes }
-        requires own { All (IsWritable self.old.pages) (map (λ change. change.place) changes) }
+        requires placed { All (λ change. change.position < length self.old.rows) changes }
+        requires own { All (IsWritable self.old.pages) (map (λ change. change.position) changes) }
         ensures rows { self.new.rows ≡ written self.old.rows changes }
         ensures spare { self.new.spare ≡ self.old.spare }
     {
         replace_each(&mut self.pages, changes);
     }
 
-    /// Puts a row at the end. It takes no memory.
+    /// Appends a row. It takes no memory.
     pub fn append(&mut self, row: T)
         requires { 0 < self.old.spare }
         ensures rows { self.new.rows ≡ self.old.rows ++ row ∷ [] }
@@ -128,27 +128,27 @@ impl<T: Drop> Paged<T> {
         self.spare -= 1;
     }
 
-    /// Drops the rows at some places, which rise; those behind them move up. It takes no memory,
-    /// and goes over the rows of those pages alone.
-    pub fn drop_at(&mut self, places: &[usize])
-        requires rising { AreRising 0 (length self.old.rows) places.now }
-        requires own { All (IsRemovable self.old.pages) places.now }
+    /// Drops the rows at some positions, which rise; the rows after them move up. It takes no
+    /// memory, and goes over the rows of those pages alone.
+    pub fn drop_at(&mut self, positions: &[usize])
+        requires rising { AreRising 0 (length self.old.rows) positions.now }
+        requires own { All (IsRemovable self.old.pages) positions.now }
         ensures { self.new.rows
-            ≡ unhit self.old.rows (marked 0 (length self.old.rows) places.now) }
+            ≡ unhit self.old.rows (marked 0 (length self.old.rows) positions.now) }
     {
-        thin(&mut self.pages, places);
+        thin(&mut self.pages, positions);
         pack(&mut self.pages);
-        self.count -= places.len();
+        self.count -= positions.len();
         self.spare = 0;
     }
 
-    /// The rows at some places, which rise, lent. It goes over the pages once.
-    pub fn rows_at(&self, alloc: Global, places: &[usize]) -> Result<Vec<&T>, AllocError>
-        requires { AreRising 0 (length self.now.rows) places.now }
+    /// The rows at some positions, which rise, borrowed. It goes over the pages once.
+    pub fn rows_at(&self, alloc: Global, positions: &[usize]) -> Result<Vec<&T>, AllocError>
+        requires { AreRising 0 (length self.now.rows) positions.now }
         ensures { IfOk result (λ rows. map (λ row. row.now) rows.items
-            ≡ hit self.now.rows (marked 0 (length self.now.rows) places.now)) }
+            ≡ hit self.now.rows (marked 0 (length self.now.rows) positions.now)) }
     {
-        lent_at(alloc, self.pages.as_slice(), places)
+        lent_at(alloc, self.pages.as_slice(), positions)
     }
 
     /// Lets others have the pages as well, if there is memory for it: from then on a copy copies
@@ -162,7 +162,7 @@ impl<T: Drop> Paged<T> {
 }
 
 impl<T: Duplicate> Paged<T> {
-    /// Makes room for so many more rows, if there is memory for it; the rows stay.
+    /// Makes room for `n` more rows, if there is memory for it; the rows stay.
     pub fn reserve(&mut self, alloc: Global, n: usize) -> Result<(), AllocError>
         ensures rows { self.new.rows ≡ self.old.rows }
         ensures spare { OnOk result (n ≤ self.new.spare) }
@@ -185,26 +185,26 @@ impl<T: Duplicate> Paged<T> {
         Ok(())
     }
 
-    /// Has the pages of some places to itself, so that rows can be put there; or without memory
-    /// some of them. The rows stay.
-    pub fn make_writable(&mut self, alloc: Global, places: &[usize]) -> Result<(), AllocError>
-        requires { AreRising 0 (length self.old.rows) places.now }
+    /// Makes the pages of some positions its own, so that rows can be replaced there; or out of
+    /// memory some of them. The rows stay.
+    pub fn make_writable(&mut self, alloc: Global, positions: &[usize]) -> Result<(), AllocError>
+        requires { AreRising 0 (length self.old.rows) positions.now }
         ensures rows { self.new.rows ≡ self.old.rows }
         ensures spare { self.new.spare ≡ self.old.spare }
-        ensures own { OnOk result (All (IsWritable self.new.pages) places.now) }
+        ensures own { OnOk result (All (IsWritable self.new.pages) positions.now) }
     {
-        own_at(alloc, &mut self.pages, places)
+        own_at(alloc, &mut self.pages, positions)
     }
 
-    /// Has the pages of some places to itself and those beside them, so that the rows there can be
-    /// dropped; or without memory some of them. The rows stay.
-    pub fn make_removable(&mut self, alloc: Global, places: &[usize]) -> Result<(), AllocError>
-        requires { AreRising 0 (length self.old.rows) places.now }
+    /// Makes the pages of some positions its own and those beside them, so that the rows there can
+    /// be dropped; or out of memory some of them. The rows stay.
+    pub fn make_removable(&mut self, alloc: Global, positions: &[usize]) -> Result<(), AllocError>
+        requires { AreRising 0 (length self.old.rows) positions.now }
         ensures rows { self.new.rows ≡ self.old.rows }
         ensures spare { self.new.spare ≡ self.old.spare }
-        ensures own { OnOk result (All (IsRemovable self.new.pages) places.now) }
+        ensures own { OnOk result (All (IsRemovable self.new.pages) positions.now) }
     {
-        own_around(alloc, &mut self.pages, places)
+        own_around(alloc, &mut self.pages, positions)
     }
 
     /// A table with the same rows. It copies no page that others have as well.
@@ -222,14 +222,14 @@ impl<T: Duplicate> Paged<T> {
 }
 
 impl Paged<usize> {
-    /// The place of a number that is one of these, where they rise.
-    pub(crate) fn place_of(&self, number: usize) -> usize
+    /// The position of a number that is one of these, where they rise.
+    pub(crate) fn position_of(&self, number: usize) -> usize
         requires rising { (to : ℕ) × AreRising 0 to self.now.rows }
         requires there { Contains self.now.rows number }
         ensures within { result < length self.now.rows }
         ensures number { slice_index_or self.now.rows result 0 ≡ number }
     {
-        place_of(self.pages.as_slice(), number)
+        position_of(self.pages.as_slice(), number)
     }
 }
 
@@ -255,21 +255,21 @@ fn seal_each<T: Drop>(alloc: Global, pages: &mut Vec<Page<T>>)
     }
 }
 
-/// The rows at some places, which rise, lent.
+/// The rows at some positions, which rise, borrowed.
 fn lent_at<'a, T: Drop>(
     alloc: Global,
     pages: &'a [Page<T>],
-    places: &[usize],
+    positions: &[usize],
 ) -> Result<Vec<&'a T>, AllocError>
-    requires { AreRising 0 (length (flat pages.now)) places.now }
+    requires { AreRising 0 (length (flat pages.now)) positions.now }
     ensures { IfOk result (λ rows. map (λ row. row.now) rows.items
-        ≡ hit (flat pages.now) (marked 0 (length (flat pages.now)) places.now)) }
+        ≡ hit (flat pages.now) (marked 0 (length (flat pages.now)) positions.now)) }
 {
     let mut rows = Vec::new(alloc);
     let mut near = Start::first();
-    for place in places {
-        near = seek(pages, near, *place);
-        rows.push(pages[near.page].get(*place - near.before))?;
+    for position in positions {
+        near = seek(pages, near, *position);
+        rows.push(pages[near.page].get(*position - near.before))?;
     }
     Ok(rows)
 }
@@ -379,8 +379,8 @@ fn last_room<T: Drop>(pages: &[Page<T>]) -> usize
 
 /// Puts rows in the places of others, one after another.
 fn replace_each<T: Drop>(pages: &mut Vec<Page<T>>, changes: Seq<Change<T>>)
-    requires placed { All (λ change. change.place < length (flat pages.old.items)) changes }
-    requires own { All (λ change. IsWritable pages.old.items change.place) changes }
+    requires placed { All (λ change. change.position < length (flat pages.old.items)) changes }
+    requires own { All (λ change. IsWritable pages.old.items change.position) changes }
     ensures rows { flat pages.new.items ≡ written (flat pages.old.items) changes }
     ensures lengths { lengths pages.new.items ≡ lengths pages.old.items }
     ensures own { (page : ℕ) → own_at page pages.old.items ≡ true
@@ -389,19 +389,19 @@ fn replace_each<T: Drop>(pages: &mut Vec<Page<T>>, changes: Seq<Change<T>>)
 {
     let mut near = Start::first();
     for change in changes.into_vec() {
-        let Change { place, row } = change;
-        near = seek(pages.as_slice(), near, place);
-        pages[near.page].set(place - near.before, row);
+        let Change { position, row } = change;
+        near = seek(pages.as_slice(), near, position);
+        pages[near.page].set(position - near.before, row);
     }
 }
 
-/// Drops the rows at some places from their pages.
-fn thin<T: Drop>(pages: &mut Vec<Page<T>>, places: &[usize])
+/// Drops the rows at some positions from their pages.
+fn thin<T: Drop>(pages: &mut Vec<Page<T>>, positions: &[usize])
     requires few { length (flat pages.old.items) < 2 ^ 64 }
     requires paged { IsPaged (lengths pages.old.items) }
-    requires own { All (IsRemovable pages.old.items) places.now }
+    requires own { All (IsRemovable pages.old.items) positions.now }
     ensures rows { flat pages.new.items
-        ≡ unhit (flat pages.old.items) (marked 0 (length (flat pages.old.items)) places.now) }
+        ≡ unhit (flat pages.old.items) (marked 0 (length (flat pages.old.items)) positions.now) }
     ensures small { All (λ n. n ≤ 256) (lengths pages.new.items) }
     ensures ready { AreReady pages.new.items }
     ensures length { length pages.new.items ≡ length pages.old.items }
@@ -411,7 +411,7 @@ fn thin<T: Drop>(pages: &mut Vec<Page<T>>, places: &[usize])
     let mut used = 0;
     for page in 0..pages.len() {
         let rows = pages[page].len();
-        used += pages[page].drop_at(before, &places[used..]);
+        used += pages[page].drop_at(before, &positions[used..]);
         before += rows;
     }
 }

@@ -5,11 +5,11 @@ use Rattle.std.proofs.lemmas.Grind.{flat_map-append}
 use Rattle.ae_base.specs.declared.frames.FrameVersion.{FrameVersion}
 use Rattle.ae_edge.specs.Devices.{Adds, AddsPrefix, IsPrefix, Rose}
 use Rattle.ae_edge.specs.Vaults.{KeyMap}
-use Rattle.ae_edge.proofs.Interface.{adds_front_then}
+use Rattle.ae_edge.proofs.Interface.{adds_prefix_then}
 use Rattle.wire_messages.specs.declared.replies.Reply.{Reply}
 use Rattle.conversation.specs.Drive.{BadReply, Done, Driven, End, drive, end_at, ended, replies_in, requests_in}
 use Rattle.conversation.specs.Laws.{PathIsDriven, behind}
-use Rattle.conversation.specs.Paths.{Event, Asked, Took, Strayed, Drew, Opened, Printed, Follows, Waits, OpensAll, LastsTo, drawn_in, outcome_in, replies_to, request_in, taken_in}
+use Rattle.conversation.specs.Paths.{Event, Asked, Took, GotUnexpected, Drew, Opened, Printed, Follows, Waits, OpensAll, LastsTo, drawn_in, outcome_in, replies_to, request_in, taken_in}
 use Rattle.conversation.specs.Sessions.{nobody}
 use Rattle.conversation.specs.Talk.{Talk, Ends, Stops, Asks, Hears, Notes, Draws, Opens, Prints}
 use Rattle.conversation.proofs.Interface.{follows_then, opens_then}
@@ -18,18 +18,18 @@ use Rattle.outcome_text.specs.Printing.{print, printed_outcome}
 use Rattle.outcome_text.specs.declared.tallies.Tally.{Tally}
 use Rattle.script_run.specs.Events.{stop_events}
 use Rattle.script_run.specs.Shares.{Comes, Counts, Outside, Queue, Stream, Wire, all_stay, exchanges_of, messages_of, queue_of, text_of}
-use Rattle.script_run.specs.Ways.{Breaks, GoesOn, IsAtFrame, IsStuck, Proceeds, ProceedsBy, unwritten}
+use Rattle.script_run.specs.Progress.{Breaks, GoesOn, IsAtFrame, IsStuck, Proceeds, ProceedsBy, unwritten}
 use Rattle.script_run.specs.declared.stops.Stop.{Stop}
 use Rattle.script_run.specs.declared.stops.Stop.TheVariants as stop
 use Rattle.script_run.proofs.Interface.{HasLeft, stops_left, stuck_queue, waits_from}
 use Rattle.script_lang.specs.declared.steps.Step.{Step}
-use Rattle.script_run.specs.declared.runs.Ran.{Ran}
-use Rattle.script_run.specs.declared.runs.Ran.TheVariants as ran
+use Rattle.script_run.specs.declared.runs.RunEnding.{RunEnding}
+use Rattle.script_run.specs.declared.runs.RunEnding.TheVariants as ran
 use Rattle.script_run.proofs.Interface.{one_script, text_is}
 use Rattle.script_source.specs.Scripts.{IsScript}
 use Rattle.script_talk.specs.Steps.{talk}
 use Rattle.run_command.specs.Driven.{DrivesPrefix, DrivesOver, DrivesWhole, IsBad, driven}
-use Rattle.run_command.specs.Ends.{CameTo, RunDevices, RunsScript, outside}
+use Rattle.run_command.specs.Ends.{EndedIn, RunDevices, RunsScript, outside}
 use Rattle.run_command.specs.Events.{run_exchanges}
 use Rattle.run_command.specs.Transcript.{IsDone}
 use Rattle.run_command.specs.declared.runs.Count.{Count}
@@ -41,7 +41,7 @@ asked_are : (events : List Event) → requests_in (flat_map exchanges_of events)
 asked_are [] = refl
 asked_are (Asked request replies ∷ events) = ap (λ w. request ∷ w) (asked_are events)
 asked_are (Took reply ∷ events) = asked_are events
-asked_are (Strayed next ∷ events) = asked_are events
+asked_are (GotUnexpected next ∷ events) = asked_are events
 asked_are (Drew bytes ∷ events) = asked_are events
 asked_are (Opened meta key ∷ events) = asked_are events
 asked_are (Printed comes ∷ events) = asked_are events
@@ -50,7 +50,7 @@ came_are : (events : List Event) → replies_in (flat_map exchanges_of events) �
 came_are [] = refl
 came_are (Asked request replies ∷ events) = ap (λ w. replies ++ w) (came_are events)
 came_are (Took reply ∷ events) = came_are events
-came_are (Strayed next ∷ events) = came_are events
+came_are (GotUnexpected next ∷ events) = came_are events
 came_are (Drew bytes ∷ events) = came_are events
 came_are (Opened meta key ∷ events) = came_are events
 came_are (Printed comes ∷ events) = came_are events
@@ -58,8 +58,8 @@ came_are (Printed comes ∷ events) = came_are events
 -- none comes later
 none_later : (events : List Event) → LastsTo events []
 none_later [] = tt
-none_later (Strayed None ∷ events) = refl
-none_later (Strayed (Some reply) ∷ events) = none_later events
+none_later (GotUnexpected None ∷ events) = refl
+none_later (GotUnexpected (Some reply) ∷ events) = none_later events
 none_later (Asked request replies ∷ events) = none_later events
 none_later (Took reply ∷ events) = none_later events
 none_later (Drew bytes ∷ events) = none_later events
@@ -70,7 +70,7 @@ waits_then : (xs ys : List Event) (old mid new : List Reply) → Waits xs old mi
 waits_then [] ys old mid new p q = subst (λ w. Waits ys w new) p q
 waits_then (Asked request replies ∷ xs) ys old mid new p q = waits_then xs ys (old ++ replies) mid new p q
 waits_then (Took reply ∷ xs) ys old mid new p q = (p.0, p.1, waits_then xs ys p.0 mid new p.2 q)
-waits_then (Strayed next ∷ xs) ys old mid new p q = (p.0, waits_then xs ys old mid new p.1 q)
+waits_then (GotUnexpected next ∷ xs) ys old mid new p q = (p.0, waits_then xs ys old mid new p.1 q)
 waits_then (Drew bytes ∷ xs) ys old mid new p q = waits_then xs ys old mid new p q
 waits_then (Opened meta key ∷ xs) ys old mid new p q = waits_then xs ys old mid new p q
 waits_then (Printed comes ∷ xs) ys old mid new p q = waits_then xs ys old mid new p q
@@ -130,7 +130,7 @@ module _ (law : PathIsDriven) (keys : KeyMap) (t : Talk) where
     last_on v (Asked request replies ∷ []) one g p = loud_on v (Asked request replies ∷ []) g (left ++ replies) refl p
     last_on v (Printed comes ∷ []) one g p = loud_on v (Printed comes ∷ []) g left refl p
     last_on v (Took reply ∷ []) one g p = silent_on (Took reply ∷ []) refl refl refl
-    last_on v (Strayed next ∷ []) one g p = silent_on (Strayed next ∷ []) refl refl refl
+    last_on v (GotUnexpected next ∷ []) one g p = silent_on (GotUnexpected next ∷ []) refl refl refl
     last_on v (Drew bytes ∷ []) one g p = silent_on (Drew bytes ∷ []) refl refl refl
     last_on v (Opened meta key ∷ []) one g p = silent_on (Opened meta key ∷ []) refl refl refl
     last_on v (e ∷ d ∷ es) one g p = absurd (omega arith)
@@ -161,11 +161,11 @@ stuck_ends keys (Prints comes t) left h n more = absurd h
 
 -- ---- a run of some steps
 
-module _ (law : PathIsDriven) (keys : KeyMap) (steps : List Step) (old new : RunDevices) (told : old.vault.content ≡ Some keys) where
+module _ (law : PathIsDriven) (keys : KeyMap) (steps : List Step) (old new : RunDevices) (exposed : old.vault.content ≡ Some keys) where
   abbrev whole_talk : Talk
   whole_talk = talk steps [] nobody
 
-  module _ (result : Result (Unit {0}) Stop) (tally : Tally) (c : CameTo result tally steps old new) where
+  module _ (result : Result (Unit {0}) Stop) (tally : Tally) (c : EndedIn result tally steps old new) where
     abbrev first : Outside
     first = outside c.names nothing [] 0 0 old
 
@@ -173,7 +173,7 @@ module _ (law : PathIsDriven) (keys : KeyMap) (steps : List Step) (old new : Run
     last = outside c.names_after tally c.waiting c.behind c.taken new
 
     opens_so : (C : Counts) (u : Talk) (now : Outside) (g : ProceedsBy C whole_talk u first now) → OpensAll g.events keys
-    opens_so C u now g = subst (λ x. IfSome x (OpensAll g.events)) told g.put.client.opened
+    opens_so C u now g = subst (λ x. IfSome x (OpensAll g.events)) exposed g.put.client.opened
 
     goes_drive : (C : Counts) (u : Talk) (now : Outside) (g : ProceedsBy C whole_talk u first now) → DrivesOn law keys whole_talk g.events
     goes_drive C u now g = path_on law keys whole_talk u g.events g.follows (messages_of now.wire.waiting) (waits_from C whole_talk u first now refl refl g) (opens_so C u now g)
@@ -185,9 +185,9 @@ module _ (law : PathIsDriven) (keys : KeyMap) (steps : List Step) (old new : Run
         last_on law keys whole_talk b.between g.events g.follows (messages_of b.mid.wire.waiting) (waits_from all_stay whole_talk b.between first b.mid refl refl g)
         (opens_so all_stay b.between b.mid g)
         b.rest b.last b.one (follows_so b.between b.rest b.last b.mid.wire none b.follows)
-        (subst (λ x. IfSome x (OpensAll b.last)) (g.put.client.vault.content ∙ told) b.put.client.opened)
+        (subst (λ x. IfSome x (OpensAll b.last)) (g.put.client.vault.content ∙ exposed) b.put.client.opened)
 
-    -- to the end, or to where a reply isn't awaited
+    -- to the end, or to where a reply isn't expected
     wholly : (IsEnd : End → Type 0) (u : Talk) (g : Proceeds whole_talk u first last) (end : ℕ → End)
         → ((n : ℕ) (more : List ℕ) → drive keys u n more (messages_of c.waiting) ≡ ended [] more (end n)) → ((n : ℕ) → IsEnd (end n))
         → DrivesWhole old.version IsEnd keys steps (flat_map exchanges_of g.events) old new
@@ -210,64 +210,64 @@ module _ (law : PathIsDriven) (keys : KeyMap) (steps : List Step) (old new : Run
               );
         }
 
-    fronts : (events : List Event) → DrivesOn law keys whole_talk events → HasLeft events first last → DrivesPrefix old.version keys steps (flat_map exchanges_of events) old new
-    fronts events d left = record {
+    prefixes : (events : List Event) → DrivesOn law keys whole_talk events → HasLeft events first last → DrivesPrefix old.version keys steps (flat_map exchanges_of events) old new
+    prefixes events d left = record {
       drawn = flat_map drawn_in events;
       share = left.drawn;
       tap = subst (λ xs. AddsPrefix xs old.tap.content new.tap.content) (frames_are old.version events) left.tap;
-      front = λ more.
+      prefix = λ more.
           let r = d.rest more in
           let text : IsPrefix (flat_map text_of events) (print (flat_map outcome_in events ++ r.outcomes)) =
           record { rest = print r.outcomes; is = flat_map-append printed_outcome (flat_map outcome_in events) r.outcomes ∙ ap (λ w. w ++ print r.outcomes) (sym (text_is events)) } in
           subst (λ (d : Driven). IsPrefix (requests_in (flat_map exchanges_of events)) d.requests × AddsPrefix (print d.outcomes) old.out.content new.out.content) (sym (d.is more)) (
             record { rest = r.requests; is = ap (λ w. w ++ r.requests) (sym (asked_are events)) },
-            adds_front_then (flat_map text_of events) (print (flat_map outcome_in events ++ r.outcomes)) old.out.content new.out.content left.text text,
+            adds_prefix_then (flat_map text_of events) (print (flat_map outcome_in events ++ r.outcomes)) old.out.content new.out.content left.text text,
           );
     }
 
-  ends_drive : (tally : Tally) (c : CameTo (Ok tt) tally steps old new) → DrivesWhole old.version IsDone keys steps (flat_map exchanges_of c.leads.events) old new
+  ends_drive : (tally : Tally) (c : EndedIn (Ok tt) tally steps old new) → DrivesWhole old.version IsDone keys steps (flat_map exchanges_of c.leads.events) old new
   ends_drive tally c =
       wholly (Ok tt) tally c IsDone (Ends c.sessions) c.leads (λ n. Done c.sessions) (λ n more. ap (λ w. ended [] more (end_at c.sessions n (messages_of w))) c.read) (λ n. tt)
 
-  stops_drive : (why : Stop) (tally : Tally) (c : CameTo (Err why) tally steps old new)
+  stops_drive : (why : Stop) (tally : Tally) (c : EndedIn (Err why) tally steps old new)
       → DrivesOver old.version (ran.Stopped why) keys steps (flat_map exchanges_of (stop_events why whole_talk (first (Err why) tally c) (last (Err why) tally c) c.leads)) old new
-  stops_drive (stop.BadReply place) tally c =
-      let r = stop.BadReply place in
+  stops_drive (stop.BadReply offset) tally c =
+      let r = stop.BadReply offset in
       let h = c.leads in
       let from = first (Err r) tally c in
       let to = last (Err r) tally c in
-      wholly (Err r) tally c IsBad h.rest h.goes (λ n. BadReply n) (stuck_ends keys h.rest (messages_of c.waiting) (stuck_queue all_stay whole_talk h.rest from to refl h.goes h.place.0)) (λ n. tt)
+      wholly (Err r) tally c IsBad h.rest h.goes (λ n. BadReply n) (stuck_ends keys h.rest (messages_of c.waiting) (stuck_queue all_stay whole_talk h.rest from to refl h.goes h.point.0)) (λ n. tt)
   stops_drive stop.ReadFault tally c = c.leads.1
   stops_drive stop.TooLong tally c = c.leads.1
   stops_drive stop.EntropyFault tally c =
       let r = stop.EntropyFault in
       let h = c.leads in
-      fronts (Err r) tally c h.goes.events (goes_drive (Err r) tally c (record all_stay { entropy = Rose }) h.rest (last (Err r) tally c) h.goes) (stops_left r whole_talk _ _ c.leads)
+      prefixes (Err r) tally c h.goes.events (goes_drive (Err r) tally c (record all_stay { entropy = Rose }) h.rest (last (Err r) tally c) h.goes) (stops_left r whole_talk _ _ c.leads)
   stops_drive stop.VaultFault tally c =
       let r = stop.VaultFault in
       let h = c.leads in
-      fronts (Err r) tally c h.goes.events (goes_drive (Err r) tally c (record all_stay { vault = Rose }) h.rest (last (Err r) tally c) h.goes) (stops_left r whole_talk _ _ c.leads)
+      prefixes (Err r) tally c h.goes.events (goes_drive (Err r) tally c (record all_stay { vault = Rose }) h.rest (last (Err r) tally c) h.goes) (stops_left r whole_talk _ _ c.leads)
   stops_drive stop.WriteFault tally c =
       let r = stop.WriteFault in
       let b = c.leads.1 in
-      fronts (Err r) tally c (b.goes.events ++ b.last) (breaks_drive (Err r) tally c (unwritten c.leads.0) b) (stops_left r whole_talk _ _ c.leads)
+      prefixes (Err r) tally c (b.goes.events ++ b.last) (breaks_drive (Err r) tally c (unwritten c.leads.0) b) (stops_left r whole_talk _ _ c.leads)
   stops_drive stop.OutOfMemory tally c =
       let r = stop.OutOfMemory in
       let b = c.leads in
-      fronts (Err r) tally c (b.goes.events ++ b.last) (breaks_drive (Err r) tally c all_stay b) (stops_left r whole_talk _ _ c.leads)
+      prefixes (Err r) tally c (b.goes.events ++ b.last) (breaks_drive (Err r) tally c all_stay b) (stops_left r whole_talk _ _ c.leads)
 
 -- ---- a run of a script
 
-module _ (law : PathIsDriven) (count : Count) (keys : KeyMap) (bytes : List ℕ) (steps : List Step) (old new : RunDevices) (told : old.vault.content ≡ Some keys) (s : IsScript bytes steps) where
-  abbrev Drives : (r : Ran) → RunsScript r count bytes old new → List Step → Type 0
+module _ (law : PathIsDriven) (count : Count) (keys : KeyMap) (bytes : List ℕ) (steps : List Step) (old new : RunDevices) (exposed : old.vault.content ≡ Some keys) (s : IsScript bytes steps) where
+  abbrev Drives : (r : RunEnding) → RunsScript r count bytes old new → List Step → Type 0
   Drives r h ss = DrivesOver old.version r keys ss (run_exchanges r count bytes old new h) old new
 
-  drives : (r : Ran) (h : RunsScript r count bytes old new) → Drives r h steps
-  drives ran.Done h = subst (Drives ran.Done h) (one_script bytes steps h.steps s h.script.script) (ends_drive law keys h.steps old new told count.tally h.runs.0)
-  drives ran.Refusals h = subst (Drives ran.Refusals h) (one_script bytes steps h.steps s h.script.script) (ends_drive law keys h.steps old new told count.tally h.runs.0)
-  drives (ran.Stopped why) h = subst (Drives (ran.Stopped why) h) (one_script bytes steps h.steps s h.script.script) (stops_drive law keys h.steps old new told why count.tally h.runs)
+  drives : (r : RunEnding) (h : RunsScript r count bytes old new) → Drives r h steps
+  drives ran.Done h = subst (Drives ran.Done h) (one_script bytes steps h.steps s h.script.script) (ends_drive law keys h.steps old new exposed count.tally h.runs.0)
+  drives ran.Refusals h = subst (Drives ran.Refusals h) (one_script bytes steps h.steps s h.script.script) (ends_drive law keys h.steps old new exposed count.tally h.runs.0)
+  drives (ran.Stopped why) h = subst (Drives (ran.Stopped why) h) (one_script bytes steps h.steps s h.script.script) (stops_drive law keys h.steps old new exposed why count.tally h.runs)
   drives (ran.Unread why) h = h.1
 
-pub runs_drive : (law : PathIsDriven) (r : Ran) (count : Count) (keys : KeyMap) (bytes : List ℕ) (steps : List Step) (old new : RunDevices) → old.vault.content ≡ Some keys → IsScript bytes steps
+pub runs_drive : (law : PathIsDriven) (r : RunEnding) (count : Count) (keys : KeyMap) (bytes : List ℕ) (steps : List Step) (old new : RunDevices) → old.vault.content ≡ Some keys → IsScript bytes steps
     → (h : RunsScript r count bytes old new) → DrivesOver old.version r keys steps (run_exchanges r count bytes old new h) old new
-runs_drive law r count keys bytes steps old new told s h = drives law count keys bytes steps old new told s r h
+runs_drive law r count keys bytes steps old new exposed s h = drives law count keys bytes steps old new exposed s r h

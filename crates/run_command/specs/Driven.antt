@@ -1,4 +1,4 @@
--- What a run is over any peer: its driver, driven over the replies that came.
+-- A run over any peer: its driver, driven over the replies that were received.
 use Rattle.std.specs.Prelude.{◌≡◌, ℕ, List, [], ◌++◌, flat_map}
 use Rattle.ae_base.specs.declared.frames.FrameVersion.{FrameVersion}
 use Rattle.ae_edge.specs.Devices.{Adds, AddsPrefix, IsPrefix}
@@ -10,8 +10,8 @@ use Rattle.outcome_text.specs.Printing.{print}
 use Rattle.script_run.specs.declared.stops.Stop.TheVariants as stop
 use Rattle.script_lang.specs.declared.steps.Step.{Step}
 use Rattle.script_run.specs.Draws.{Drew}
-use Rattle.script_run.specs.declared.runs.Ran.{Ran}
-use Rattle.script_run.specs.declared.runs.Ran.TheVariants as ran
+use Rattle.script_run.specs.declared.runs.RunEnding.{RunEnding}
+use Rattle.script_run.specs.declared.runs.RunEnding.TheVariants as ran
 use Rattle.script_talk.specs.Steps.{talk}
 use Rattle.run_command.specs.Ends.{RunDevices}
 use Rattle.run_command.specs.Transcript.{IsDone, exchange_frames}
@@ -20,7 +20,7 @@ use Rattle.run_command.specs.Transcript.{IsDone, exchange_frames}
 abbrev pub driven : KeyMap → List Step → List ℕ → List Exchange → Driven
 driven keys steps entropy came = drive keys (talk steps [] nobody) 0 entropy (replies_in came)
 
--- a reply isn't awaited, or none came, or one is left
+-- a reply isn't expected, or none came, or one is left
 abbrev pub IsBad : End → Type 0
 IsBad (BadReply taken) = Unit {0}
 IsBad (Done sessions) = ⊥
@@ -35,19 +35,19 @@ pub record DrivesWhole (version : FrameVersion) (IsEnd : End → Type 0) (keys :
   pub whole : (more : List ℕ) → let d = driven keys steps (drawn ++ more) came in
       (requests_in came ≡ d.requests) × Adds (print d.outcomes) old.out.content new.out.content × (d.entropy ≡ more) × IsEnd d.end
 
--- where it stopped they are fronts
+-- where it stopped they are prefixes
 pub record DrivesPrefix (version : FrameVersion) (keys : KeyMap) (steps : List Step) (came : List Exchange) (old new : RunDevices) : Type 0 where
   pub drawn : List ℕ
   pub share : Drew drawn old.entropy.content new.entropy.content
   pub tap : AddsPrefix (flat_map (exchange_frames version) came) old.tap.content new.tap.content
-  pub front : (more : List ℕ) → let d = driven keys steps (drawn ++ more) came in
+  pub prefix : (more : List ℕ) → let d = driven keys steps (drawn ++ more) came in
       IsPrefix (requests_in came) d.requests × AddsPrefix (print d.outcomes) old.out.content new.out.content
 
--- to the end, up to a reply that isn't awaited, or up to where a device failed or memory ended
-abbrev pub DrivesOver : FrameVersion → Ran → KeyMap → List Step → List Exchange → RunDevices → RunDevices → Type 0
+-- to the end, up to a reply that isn't expected, or up to where a device failed or memory ended
+abbrev pub DrivesOver : FrameVersion → RunEnding → KeyMap → List Step → List Exchange → RunDevices → RunDevices → Type 0
 DrivesOver version ran.Done keys steps came old new = DrivesWhole version IsDone keys steps came old new
 DrivesOver version ran.Refusals keys steps came old new = DrivesWhole version IsDone keys steps came old new
-DrivesOver version (ran.Stopped (stop.BadReply place)) keys steps came old new = DrivesWhole version IsBad keys steps came old new
+DrivesOver version (ran.Stopped (stop.BadReply offset)) keys steps came old new = DrivesWhole version IsBad keys steps came old new
 DrivesOver version (ran.Stopped stop.ReadFault) keys steps came old new = ⊥
 DrivesOver version (ran.Stopped stop.TooLong) keys steps came old new = ⊥
 DrivesOver version (ran.Stopped stop.EntropyFault) keys steps came old new = DrivesPrefix version keys steps came old new

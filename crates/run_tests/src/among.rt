@@ -19,7 +19,7 @@ use ae_edge::memory::sink::MemSink;
 use ae_edge::memory::source::MemSource;
 use conversation::faults::DriverFault;
 use driver::{Driver, Fault};
-use rotate_among::rotating::{Rotated, rotate_among};
+use rotate_among::rotating::{RotateEnding, rotate_among};
 use run_command::commands::run;
 use server_core::server::Server;
 use std::alloc::{AllocError, Global};
@@ -49,7 +49,7 @@ INSERT INTO u (id, c) VALUES (1, @p), (2, NULL)
 GO
 ";
 
-/// The version of the catalog behind its six definitions.
+/// The version of the catalog after its six definitions.
 const VERSION: u64 = 6;
 
 /// How many requests a rotation asks before it puts its first row: BEGIN, and both SELECTs, each
@@ -123,7 +123,7 @@ fn rotated(
     peer: &mut Server,
     driver: &mut Driver,
     between: &[Seq<Request<'static>>],
-) -> Result<Rotated, AllocError>
+) -> Result<RotateEnding, AllocError>
     requires of_vault { (keys : Option KeyMap) → IsOfVault keys driver.old }
     requires others { AreOthers 1 between.now }
 {
@@ -146,7 +146,7 @@ fn rotated(
 }
 
 /// What a rotation came to, among one request of another session, and what is there then.
-fn left(alloc: Global, text: &str) -> Result<(Rotated, MemSink), AllocError> {
+fn left(alloc: Global, text: &str) -> Result<(RotateEnding, MemSink), AllocError> {
     let between = between(alloc, text)?;
     let mut driver = Driver::new(alloc)?;
     let mut peer = Server::new(alloc);
@@ -161,8 +161,8 @@ fn a_row_that_another_puts_meanwhile_refuses_the_commit(rt: HostRuntime) -> Resu
     let alloc = rt.alloc();
     let (rotated, out) = left(alloc, "INSERT INTO u (id) VALUES (3)")?;
     let conflicts = match &rotated {
-        Rotated::Ended(Err(Fault::OfServer(SqlFault::Conflict { table, .. })), _) => table.as_str()
-            == "u",
+        RotateEnding::Ended(Err(Fault::OfServer(SqlFault::Conflict { table, .. })), _) =>
+            table.as_str() == "u",
         _ => false,
     };
     assert!(rt; conflicts);
@@ -176,7 +176,7 @@ fn a_table_that_another_defines_meanwhile_moves_the_version(rt: HostRuntime) -> 
     let alloc = rt.alloc();
     let (rotated, out) = left(alloc, "CREATE TABLE t (a INT)")?;
     let moved = match &rotated {
-        Rotated::Ended(Err(Fault::OfServer(SqlFault::Moved(versions))), _) => versions.seen()
+        RotateEnding::Ended(Err(Fault::OfServer(SqlFault::Moved(versions))), _) => versions.seen()
             == VERSION
             && versions.now() == VERSION + 1,
         _ => false,
@@ -191,7 +191,7 @@ fn a_table_that_another_defines_meanwhile_moves_the_version(rt: HostRuntime) -> 
 fn a_read_of_another_leaves_the_rotation_alone(rt: HostRuntime) -> Result<(), Fail> {
     let alloc = rt.alloc();
     let (rotated, out) = left(alloc, "SELECT id FROM u")?;
-    assert!(rt; matches!(&rotated, Rotated::Ended(Ok(2), _)));
+    assert!(rt; matches!(&rotated, RotateEnding::Ended(Ok(2), _)));
     let text =
         "id\tc\n1\tN'x'\n2\tNULL\n(2 rows)\nerror 30 EncryptionClash at 33\nerror 20 NoTable u2\n";
     assert!(rt; out.bytes() == text.as_bytes());
@@ -239,7 +239,7 @@ fn a_session_with_a_batch_rotates_nothing(rt: HostRuntime) -> Result<(), Fail> {
     let mut peer = Server::new(alloc);
     let rotated = rotated(alloc, &mut peer, &mut driver, between.as_slice())?;
     let nothing = match &rotated {
-        Rotated::Ended(Err(Fault::OfDriver(DriverFault::StillPending)), frames) => frames
+        RotateEnding::Ended(Err(Fault::OfDriver(DriverFault::StillPending)), frames) => frames
             .as_slice()
             .is_empty(),
         _ => false,

@@ -2,13 +2,13 @@
 
 use ae_edge::memory::sink::MemSink;
 use ae_edge::memory::source::MemSource;
-use serve_command::commands::{Served, serve_stream};
+use serve_command::commands::{ServeEnding, serve_stream};
 use std::alloc::{AllocError, Global};
 
 /// How serving ended, and what it put.
 #[derive(Drop)]
 pub struct Left {
-    pub served: Served,
+    pub served: ServeEnding,
     pub out: MemSink,
 }
 
@@ -25,7 +25,7 @@ fn left_by(alloc: Global, bytes: &[u8], piece: usize) -> Result<Left, AllocError
 pub fn is_served(
     alloc: Global,
     bytes: &[u8],
-    served: Served,
+    served: ServeEnding,
     frames: &[u8],
 ) -> Result<bool, AllocError> {
     for piece in [1, 2, 7, bytes.len()] {

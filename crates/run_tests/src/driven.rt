@@ -6,7 +6,7 @@ use ae_edge::memory::entropy::MemEntropy;
 use ae_edge::memory::sink::MemSink;
 use ae_edge::memory::source::MemSource;
 use drive_command::commands::drive;
-use script_run::runs::Ran;
+use script_run::runs::RunEnding;
 use script_run::stops::Stop;
 use std::alloc::{AllocError, Global};
 use std::test::Fail;
@@ -34,14 +34,14 @@ const BEFORE: &str = "ok\nok\nok\n(1 affected)\n(1 affected)\n";
 /// What driving leaves.
 #[derive(Drop)]
 struct Left {
-    ran: Ran,
+    ran: RunEnding,
     out: MemSink,
     tap: MemSink,
 }
 
 impl Left {
-    /// Whether it ends so, and prints this of the last batch behind what the others print.
-    fn is(&self, ran: Ran, last: &str) -> bool {
+    /// Whether it ends so, and prints this of the last batch after what the others print.
+    fn is(&self, ran: RunEnding, last: &str) -> bool {
         let text = self.out.bytes();
         self.ran == ran
             && text.starts_with(BEFORE.as_bytes())
@@ -106,10 +106,10 @@ fn second_row(replies: &[u8]) -> usize {
 }
 
 /// The bytes with the last bit of one turned.
-fn turned(alloc: Global, bytes: &[u8], place: usize) -> Result<Vec<u8>, AllocError> {
+fn turned(alloc: Global, bytes: &[u8], offset: usize) -> Result<Vec<u8>, AllocError> {
     let mut turned = Vec::new(alloc);
     for (at, byte) in bytes.iter().enumerate() {
-        turned.push(if at == place { *byte ^ 1 } else { *byte })?;
+        turned.push(if at == offset { *byte ^ 1 } else { *byte })?;
     }
     Ok(turned)
 }
@@ -120,7 +120,7 @@ fn drives_to(
     replies: &[u8],
     piece: usize,
     fails: Option<u64>,
-    ran: Ran,
+    ran: RunEnding,
     last: &str,
 ) -> Result<bool, AllocError> {
     let left = driven(alloc, replies, piece, fails, None)?;
@@ -133,7 +133,7 @@ fn recorded_replies_give_the_recorded_text(rt: HostRuntime) -> Result<(), Fail> 
     let Recording { requests, replies } = passed(alloc, SCRIPT, FrameVersion::V1)?;
     for piece in [1, 2, 7, 4096] {
         let left = driven(alloc, &replies, piece, None, None)?;
-        assert!(rt; left.is(Ran::Done, "c\nN'x'\nN'y'\n(2 rows)\n"));
+        assert!(rt; left.is(RunEnding::Done, "c\nN'x'\nN'y'\n(2 rows)\n"));
         assert!(rt; left.tap.bytes() == requests.as_slice());
     }
     Ok(())
@@ -143,30 +143,30 @@ fn recorded_replies_give_the_recorded_text(rt: HostRuntime) -> Result<(), Fail> 
 fn changed_replies_end_where_they_change(rt: HostRuntime) -> Result<(), Fail> {
     let alloc = rt.alloc();
     let replies = passed(alloc, SCRIPT, FrameVersion::V1)?.replies;
-    let place = second_row(&replies);
-    // A byte of the cell's tag behind the frame's head, the counts and the length: the cell alone fails.
-    let tag = turned(alloc, &replies, place.saturating_add(12))?;
+    let offset = second_row(&replies);
+    // A byte of the cell's tag after the frame's head, the counts and the length: the cell alone fails.
+    let tag = turned(alloc, &replies, offset.saturating_add(12))?;
     let failed = "c\nN'x'\nerror 75 CellFailed row 2 column 1 BadTag\n";
-    assert!(rt; drives_to(alloc, &tag, 7, None, Ran::Refusals, failed)?);
+    assert!(rt; drives_to(alloc, &tag, 7, None, RunEnding::Refusals, failed)?);
     // The version of a frame; the frame is cut off, or doesn't come.
-    let version = turned(alloc, &replies, place)?;
-    let here = Ran::Stopped(Stop::BadReply(place as u64));
-    let short = replies.get(..place.saturating_add(20)).unwrap_or(&[]);
-    let without = replies.get(..place).unwrap_or(&[]);
+    let version = turned(alloc, &replies, offset)?;
+    let here = RunEnding::Stopped(Stop::BadReply(offset as u64));
+    let short = replies.get(..offset.saturating_add(20)).unwrap_or(&[]);
+    let without = replies.get(..offset).unwrap_or(&[]);
     for replies in [version.as_slice(), short, without] {
         assert!(rt; drives_to(alloc, replies, 7, None, here, "c\nN'x'\n")?);
     }
     // It can't be read.
-    let unread = Ran::Stopped(Stop::ReadFault);
-    assert!(rt; drives_to(alloc, &replies, 1, Some(place as u64), unread, "c\nN'x'\n")?);
+    let unread = RunEnding::Stopped(Stop::ReadFault);
+    assert!(rt; drives_to(alloc, &replies, 1, Some(offset as u64), unread, "c\nN'x'\n")?);
     Ok(())
 }
 
 #[test]
-fn what_is_left_has_its_place(rt: HostRuntime) -> Result<(), Fail> {
+fn what_is_left_has_its_offset(rt: HostRuntime) -> Result<(), Fail> {
     let alloc = rt.alloc();
     let mut replies = passed(alloc, SCRIPT, FrameVersion::V1)?.replies;
-    let end = Ran::Stopped(Stop::BadReply(replies.len() as u64));
+    let end = RunEnding::Stopped(Stop::BadReply(replies.len() as u64));
     replies.push(0)?;
     for piece in [1, 4096] {
         let whole = "c\nN'x'\nN'y'\n(2 rows)\n";
@@ -175,14 +175,14 @@ fn what_is_left_has_its_place(rt: HostRuntime) -> Result<(), Fail> {
     Ok(())
 }
 
-// Each of the six batches puts the frames of two requests, and then the tap is closed.
+// Each of the six batches writes the frames of two requests, and then the tap is closed.
 #[test]
 fn a_tap_that_cannot_be_closed_is_a_write_fault(rt: HostRuntime) -> Result<(), Fail> {
     let alloc = rt.alloc();
     let Recording { requests, replies } = passed(alloc, SCRIPT, FrameVersion::V1)?;
     let left = driven(alloc, &replies, 7, None, Some(12))?;
     let whole = "c\nN'x'\nN'y'\n(2 rows)\n";
-    assert!(rt; left.is(Ran::Stopped(Stop::WriteFault), whole));
+    assert!(rt; left.is(RunEnding::Stopped(Stop::WriteFault), whole));
     assert!(rt; left.tap.bytes() == requests.as_slice());
     Ok(())
 }

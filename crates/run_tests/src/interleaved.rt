@@ -231,7 +231,7 @@ fn is_end_of(answer: Result<RowAnswer, Halt>, count: u64) -> bool {
     }
 }
 
-fn is_stray<A: Drop>(answer: Result<A, Halt>) -> bool {
+fn is_unexpected<A: Drop>(answer: Result<A, Halt>) -> bool {
     matches!(answer, Err(Halt::BadReply))
 }
 
@@ -268,9 +268,9 @@ fn keep_their_batches<V: Vault, E: Entropy>(
             SELECTS.execute,
         ),
         shows_columns(answered(alloc, driver, one, COLUMNS, vault)),
-        is_stray(answered(alloc, driver, one, COLUMNS, vault)),
-        is_stray(answered(alloc, driver, two, ROW, vault)),
-        is_stray(next_row(alloc, driver, two, ROW, vault)),
+        is_unexpected(answered(alloc, driver, one, COLUMNS, vault)),
+        is_unexpected(answered(alloc, driver, two, ROW, vault)),
+        is_unexpected(next_row(alloc, driver, two, ROW, vault)),
         is_row_of(next_row(alloc, driver, one, ROW, vault), 5),
         is_change_of(answered(alloc, driver, two, CHANGED, vault), 2),
         is_end_of(next_row(alloc, driver, one, ANSWERED, vault), 1),

@@ -1,6 +1,6 @@
 //! Tests of the commands `run`, `serve` and `drive`: frames byte by byte, recorded runs, cells that are
 //! renamed, replies that are changed, the cells of a key that is made again, two sessions of a driver
-//! in turn, a rotation among other sessions, and the sorts of texts.
+//! in turn, a rotation among other sessions, and the kinds of texts.
 #![tactic(auto)]
 
 #[cfg(test)]
@@ -12,6 +12,8 @@ mod driven;
 #[cfg(test)]
 mod interleaved;
 #[cfg(test)]
+mod kinds;
+#[cfg(test)]
 mod made_again;
 #[cfg(test)]
 mod recorded;
@@ -19,7 +21,5 @@ mod recorded;
 mod renamed;
 #[cfg(test)]
 mod runs;
-#[cfg(test)]
-mod sorts;
 #[cfg(test)]
 mod streams;

@@ -7,7 +7,7 @@ use ae_base::cells::Cell;
 use ae_base::frames::FrameVersion;
 use cell_codec::{CellFault, unseal};
 use hmac_kdf::CellKeys;
-use script_run::runs::Ran;
+use script_run::runs::RunEnding;
 use std::alloc::{AllocError, Global};
 use std::test::Fail;
 use wire_frames::{Decoded, decode_request};
@@ -67,7 +67,7 @@ fn push_cells(
     Ok(())
 }
 
-// How many bytes the request in front has, or none. Its cells are put to the others.
+// How many bytes the first request has, or none. Its cells are put to the others.
 fn request_length(
     alloc: Global,
     requests: &[u8],
@@ -105,7 +105,7 @@ fn is_under(alloc: Global, cell: &Cell, key: &[u8; 32], other: &[u8; 32]) -> boo
 // The frames of the requests, where the text is printed with a refusal.
 fn requests(alloc: Global) -> Result<Option<Vec<u8>>, AllocError> {
     let put = ran(alloc, SCRIPT, FrameVersion::V1)?;
-    if put.ran != Ran::Refusals || put.out.bytes() != TEXT.as_bytes() {
+    if put.ran != RunEnding::Refusals || put.out.bytes() != TEXT.as_bytes() {
         return Ok(None);
     }
     Ok(Some(apart(alloc, put.tap.bytes())?.requests))

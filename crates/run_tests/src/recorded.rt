@@ -3,7 +3,7 @@
 use crate::devices::is_served;
 use crate::runs::{PROTECTED, passed};
 use ae_base::frames::FrameVersion;
-use serve_command::commands::Served;
+use serve_command::commands::ServeEnding;
 use std::test::Fail;
 
 #[test]
@@ -12,7 +12,7 @@ fn recorded_requests_have_the_recorded_replies(rt: HostRuntime) -> Result<(), Fa
     for version in [FrameVersion::V1, FrameVersion::V2] {
         let passed = passed(alloc, PROTECTED, version)?;
         assert!(rt; !passed.replies.is_empty());
-        assert!(rt; is_served(alloc, &passed.requests, Served::Done, &passed.replies)?);
+        assert!(rt; is_served(alloc, &passed.requests, ServeEnding::Done, &passed.replies)?);
     }
     Ok(())
 }

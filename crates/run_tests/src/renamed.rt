@@ -3,7 +3,7 @@
 use crate::devices::is_served;
 use crate::runs::{DRAWN, PROTECTED, passed};
 use ae_base::frames::FrameVersion;
-use serve_command::commands::Served;
+use serve_command::commands::ServeEnding;
 use std::alloc::{AllocError, Global};
 use std::test::Fail;
 
@@ -24,7 +24,7 @@ fn push_renamed(out: &mut Vec<u8>, cell: &[u8]) -> Result<(), AllocError> {
     Ok(())
 }
 
-/// The same frames with other cells, each of which stands behind the mark of a sealed atom and its length.
+/// The same frames with other cells, each of which stands after the mark of a sealed atom and its length.
 fn renamed(alloc: Global, frames: &[u8]) -> Result<Vec<u8>, AllocError> {
     let mut out = Vec::new(alloc);
     let mut rest = frames;
@@ -52,7 +52,7 @@ fn renamed_cells_have_renamed_replies(rt: HostRuntime) -> Result<(), Fail> {
         let requests = renamed(alloc, &passed.requests)?;
         let replies = renamed(alloc, &passed.replies)?;
         assert!(rt; requests != passed.requests && replies != passed.replies);
-        assert!(rt; is_served(alloc, &requests, Served::Done, &replies)?);
+        assert!(rt; is_served(alloc, &requests, ServeEnding::Done, &replies)?);
     }
     Ok(())
 }

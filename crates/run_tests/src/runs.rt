@@ -7,7 +7,7 @@ use ae_edge::memory::sink::MemSink;
 use ae_edge::memory::source::MemSource;
 use ae_edge::memory::vault::MemVault;
 use run_command::commands::run;
-use script_run::runs::Ran;
+use script_run::runs::RunEnding;
 use server_core::server::Server;
 use std::alloc::{AllocError, Global};
 
@@ -70,7 +70,7 @@ pub fn vault(alloc: Global) -> Result<MemVault, AllocError> {
 /// How a run ended, and what it put.
 #[derive(Drop)]
 pub struct Put {
-    pub ran: Ran,
+    pub ran: RunEnding,
     pub out: MemSink,
     pub tap: MemSink,
 }

@@ -27,7 +27,7 @@ use Rattle.sql_tree.specs.Bound.{BoundOperand, BoundCondition}
 use Rattle.scalar.specs.declared.faults.Overflow.{Overflow}
 use Rattle.scalar.specs.declared.truth.Truth.{Truth}
 use Rattle.scalar.specs.declared.truth.Truth.TheVariants as truths
-use Rattle.scalar.specs.Classes.{Class, Open, Det, Rnd, Pairing, class_at, IsNotNull, IsNotSealed, IsOneToOne, Correspond, PlacesCorrespond, RowsCorrespond, BothAnswer}
+use Rattle.scalar.specs.Classes.{Class, Open, Det, Rnd, Pairing, class_at, IsNotNull, IsNotSealed, IsOneToOne, Correspond, OrdinalsCorrespond, RowsCorrespond, BothAnswer}
 use Rattle.scalar.specs.Eval.{
   atom_at,
   overflow,
@@ -226,14 +226,14 @@ module _ (R : Pairing) (r : IsOneToOne R) where
 
   -- ---- atoms of rows
 
-  pub corresponds_at : (classes : List Class) (row other : List Atom) → RowsCorrespond R classes row other → PlacesCorrespond R classes row other
-  corresponds_at [] [] [] m place = nulls_correspond Open
-  corresponds_at [] [] (b ∷ bs) m place = absurd m
-  corresponds_at [] (a ∷ xs) bs m place = absurd m
-  corresponds_at (c ∷ cs) [] bs m place = absurd m
-  corresponds_at (c ∷ cs) (a ∷ xs) [] m place = absurd m
+  pub corresponds_at : (classes : List Class) (row other : List Atom) → RowsCorrespond R classes row other → OrdinalsCorrespond R classes row other
+  corresponds_at [] [] [] m ordinal = nulls_correspond Open
+  corresponds_at [] [] (b ∷ bs) m ordinal = absurd m
+  corresponds_at [] (a ∷ xs) bs m ordinal = absurd m
+  corresponds_at (c ∷ cs) [] bs m ordinal = absurd m
+  corresponds_at (c ∷ cs) (a ∷ xs) [] m ordinal = absurd m
   corresponds_at (c ∷ cs) (a ∷ xs) (b ∷ bs) m zero = m.0
-  corresponds_at (c ∷ cs) (a ∷ xs) (b ∷ bs) m (suc place) = corresponds_at cs xs bs m.1 place
+  corresponds_at (c ∷ cs) (a ∷ xs) (b ∷ bs) m (suc ordinal) = corresponds_at cs xs bs m.1 ordinal
 
   -- ---- operands
 
@@ -284,7 +284,7 @@ module _ (R : Pairing) (r : IsOneToOne R) where
       subst (λ x. BothAnswer (Correspond R Open) (sum_with f a c) (sum_with f x d)) (sym m.0)
       (subst (λ x. BothAnswer (Correspond R Open) (sum_with f a c) (sum_with f a x)) (sym n.0) (combined_open f a c))
 
-  module _ (columns params : List Class) (row other values others : List Atom) (rows : PlacesCorrespond R columns row other) (given : PlacesCorrespond R params values others) where
+  module _ (columns params : List Class) (row other values others : List Atom) (rows : OrdinalsCorrespond R columns row other) (given : OrdinalsCorrespond R params values others) where
     at_class : (c d : Class) (a b : Atom) → c ≡ d → Correspond R d a b → Correspond R c a b
     at_class c d a b e m = subst (λ x. Correspond R x a b) (sym e) m
 
@@ -421,24 +421,24 @@ module _ (R : Pairing) (r : IsOneToOne R) where
           (truth_at c h.0) (λ t. ap (λ r. r >>= λ rest. Ok (disjunction t rest)) (any_at more h.1))
 
 -- an operand's values correspond at its class
-pub eval_places : (R : Pairing) (columns params : List Class) (row other values others : List Atom) (operand : BoundOperand) (c : Class) → IsOneToOne R
-    → PlacesCorrespond R columns row other → PlacesCorrespond R params values others → AreSumsOpen columns params operand → StandsAt columns params c operand
+pub eval_ordinals : (R : Pairing) (columns params : List Class) (row other values others : List Atom) (operand : BoundOperand) (c : Class) → IsOneToOne R
+    → OrdinalsCorrespond R columns row other → OrdinalsCorrespond R params values others → AreSumsOpen columns params operand → StandsAt columns params c operand
     → BothAnswer (Correspond R c) (eval row values operand) (eval other others operand)
-eval_places R columns params row other values others operand c r rows given h s = eval_at R r columns params row other values others rows given operand c h s
+eval_ordinals R columns params row other values others operand c r rows given h s = eval_at R r columns params row other values others rows given operand c h s
 
 -- a condition that the rules admit is as true
-pub truth_places : (R : Pairing) (columns params : List Class) (row other values others : List Atom) (condition : BoundCondition) → IsOneToOne R
-    → PlacesCorrespond R columns row other → PlacesCorrespond R params values others → IsTypedCondition columns params condition → truth other others condition ≡ truth row values condition
-truth_places R columns params row other values others condition r rows given h = truth_at R r columns params row other values others rows given condition h
+pub truth_ordinals : (R : Pairing) (columns params : List Class) (row other values others : List Atom) (condition : BoundCondition) → IsOneToOne R
+    → OrdinalsCorrespond R columns row other → OrdinalsCorrespond R params values others → IsTypedCondition columns params condition → truth other others condition ≡ truth row values condition
+truth_ordinals R columns params row other values others condition r rows given h = truth_at R r columns params row other values others rows given condition h
 
 -- the same of rows
 pub eval_alike : (R : Pairing) (columns params : List Class) (row other values others : List Atom) (operand : BoundOperand) (c : Class) → IsOneToOne R
     → RowsCorrespond R columns row other → RowsCorrespond R params values others → AreSumsOpen columns params operand → StandsAt columns params c operand
     → BothAnswer (Correspond R c) (eval row values operand) (eval other others operand)
 eval_alike R columns params row other values others operand c r rows given h s =
-    eval_places R columns params row other values others operand c r (corresponds_at R r columns row other rows) (corresponds_at R r params values others given) h s
+    eval_ordinals R columns params row other values others operand c r (corresponds_at R r columns row other rows) (corresponds_at R r params values others given) h s
 
 pub truth_alike : (R : Pairing) (columns params : List Class) (row other values others : List Atom) (condition : BoundCondition) → IsOneToOne R
     → RowsCorrespond R columns row other → RowsCorrespond R params values others → IsTypedCondition columns params condition → truth other others condition ≡ truth row values condition
 truth_alike R columns params row other values others condition r rows given h =
-    truth_places R columns params row other values others condition r (corresponds_at R r columns row other rows) (corresponds_at R r params values others given) h
+    truth_ordinals R columns params row other values others condition r (corresponds_at R r columns row other rows) (corresponds_at R r params values others given) h

@@ -41,7 +41,7 @@ condition_of-AnyOf condition any items e f =
     let row = row_of (code.AnyOf any) in
     ap condition_of e ∙ ap conditions.AnyOf (conditions_of-row row.0 row.1 ∙ ap conditions_listed (code.items_hidden-the_row-Condition-0 ℕ ℕ any ∙ sym f))
 
--- ---- places
+-- ---- ordinals
 
 pub condition_within : (width count : ℕ) (xs : List (code.Condition ℕ ℕ)) (i : ℕ) (x : code.Condition ℕ ℕ) → i < length xs → x ≡ get_or xs i x → ArePlacedConditions width count (conditions_listed xs)
     → IsPlacedCondition width count (condition_of x)

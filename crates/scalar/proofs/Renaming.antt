@@ -1,4 +1,4 @@
--- Parameters at other places.
+-- Parameters at other ordinals.
 use Rattle.std.proofs.Common.{◌≡◌, ℕ, List, [], ◌∷◌, map, Result, Ok, Err, refl, ap, ◌∙◌}
 use Rattle.std.specs.Prelude.{◌+ℤ◌, ◌-ℤ◌}
 use Rattle.std.specs.List.{list_any}
@@ -23,7 +23,7 @@ both_same r s g h e p = ap (λ x. x >>= g) e ∙ then_same s g h p
 
 module _ (f : ℕ → ℕ) (row params others : List Atom) where
   mutual
-    pub eval_moved : (operand : BoundOperand) → AreMoved (λ place. uses_in place operand) f params others → eval row others (renamed_operand f operand) ≡ eval row params operand
+    pub eval_moved : (operand : BoundOperand) → AreMoved (λ ordinal. uses_in ordinal operand) f params others → eval row others (renamed_operand f operand) ≡ eval row params operand
     eval_moved (operands.Literal at v) m = refl
     eval_moved (operands.Param at p) m = ap ok_atom (m p (eq-eqb p p refl))
     eval_moved (operands.Column at c) m = refl
@@ -34,7 +34,7 @@ module _ (f : ℕ → ℕ) (row params others : List Atom) where
         (eval_moved first (λ p e. m p (or_left (uses_in p first) (uses_in_terms p terms) e)))
         (λ sum. terms_moved (number_or_null sum) terms (λ p e. m p (or_right (uses_in p first) (uses_in_terms p terms) e)))
 
-    terms_moved : (sum : Atom) (terms : operands.Terms ℕ ℕ) → AreMoved (λ place. uses_in_terms place terms) f params others
+    terms_moved : (sum : Atom) (terms : operands.Terms ℕ ℕ) → AreMoved (λ ordinal. uses_in_terms ordinal terms) f params others
         → eval_terms row others sum (renamed_terms f terms) ≡ eval_terms row params sum terms
     terms_moved sum operands.NoMore m = refl
     terms_moved sum (operands.PlusThen at x more) m =
@@ -50,7 +50,7 @@ module _ (f : ℕ → ℕ) (row params others : List Atom) where
         (λ next. eval_terms row others next (renamed_terms f more)) (λ next. eval_terms row params next more) refl
         (λ next. terms_moved next more (λ p e. m p (or_right (uses_in p x) (uses_in_terms p more) e))))
 
-  in_list_moved : (x : Atom) (list : List BoundOperand) → AreMoved (λ place. list_any (uses_in place) list) f params others
+  in_list_moved : (x : Atom) (list : List BoundOperand) → AreMoved (λ ordinal. list_any (uses_in ordinal) list) f params others
       → in_list row others x (map (renamed_operand f) list) ≡ in_list row params x list
   in_list_moved x [] m = refl
   in_list_moved x (y ∷ ys) m =
@@ -61,7 +61,7 @@ module _ (f : ℕ → ℕ) (row params others : List Atom) where
       (λ b. ap (λ r. r >>= λ rest. Ok (disjunction (compare comparison.Equal x b) rest)) (in_list_moved x ys (λ p e. m p (or_right (uses_in p y) (list_any (uses_in p) ys) e))))
 
   mutual
-    pub truth_moved : (condition : BoundCondition) → AreMoved (λ place. uses_in_condition place condition) f params others
+    pub truth_moved : (condition : BoundCondition) → AreMoved (λ ordinal. uses_in_condition ordinal condition) f params others
         → truth row others (renamed_condition f condition) ≡ truth row params condition
     truth_moved (conditions.Compare at compared left right) m =
         both_same (eval row others (renamed_operand f left)) (eval row params left)
@@ -78,7 +78,7 @@ module _ (f : ℕ → ℕ) (row params others : List Atom) where
     truth_moved (conditions.AllOf all) m = all_moved all m
     truth_moved (conditions.AnyOf any) m = any_moved any m
 
-    all_moved : (all : conditions.Conditions ℕ ℕ) → AreMoved (λ place. uses_in_conditions place all) f params others → truth_all row others (renamed_conditions f all) ≡ truth_all row params all
+    all_moved : (all : conditions.Conditions ℕ ℕ) → AreMoved (λ ordinal. uses_in_conditions ordinal all) f params others → truth_all row others (renamed_conditions f all) ≡ truth_all row params all
     all_moved conditions.NoMore m = refl
     all_moved (conditions.Then c more) m =
         both_same (truth row others (renamed_condition f c)) (truth row params c)
@@ -86,7 +86,7 @@ module _ (f : ℕ → ℕ) (row params others : List Atom) where
         (truth_moved c (λ p e. m p (or_left (uses_in_condition p c) (uses_in_conditions p more) e)))
         (λ t. ap (λ r. r >>= λ rest. Ok (conjunction t rest)) (all_moved more (λ p e. m p (or_right (uses_in_condition p c) (uses_in_conditions p more) e))))
 
-    any_moved : (any : conditions.Conditions ℕ ℕ) → AreMoved (λ place. uses_in_conditions place any) f params others → truth_any row others (renamed_conditions f any) ≡ truth_any row params any
+    any_moved : (any : conditions.Conditions ℕ ℕ) → AreMoved (λ ordinal. uses_in_conditions ordinal any) f params others → truth_any row others (renamed_conditions f any) ≡ truth_any row params any
     any_moved conditions.NoMore m = refl
     any_moved (conditions.Then c more) m =
         both_same (truth row others (renamed_condition f c)) (truth row params c)

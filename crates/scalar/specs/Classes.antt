@@ -1,4 +1,4 @@
--- Where atoms stand, and when two of them correspond there.
+-- Classes of atoms, and when two atoms of one class correspond.
 use Rattle.std.specs.Prelude.{◌≡◌, ◌⊎◌, ℕ, List, [], ◌∷◌, Result, Ok, Err, unwrap_or}
 use Rattle.std.specs.List.{Contains}
 use Rattle.std.specs.List.{slice_get}
@@ -9,7 +9,7 @@ use Rattle.ae_base.specs.declared.types.Ty.{Ty}
 use Rattle.ae_base.specs.declared.types.Enc.{Enc}
 use Rattle.ae_base.specs.declared.types.Enc.TheVariants as enc
 
--- an open place, or one that is protected by a kind, under a key, for values of a declared type
+-- an open column, or one that is protected by a kind, under a key, for values of a declared type
 pub data Class : Type 0 where
   Open : Class
   Det : (key : ℕ) (ty : Ty) → Class
@@ -20,9 +20,9 @@ class_of ty enc.Plain = Open
 class_of ty (enc.Det key) = Det key ty
 class_of ty (enc.Rnd key) = Rnd key ty
 
--- a place that isn't there is open, as its atom is NULL
+-- a column that doesn't exist is open, as its atom is NULL
 abbrev pub class_at : List Class → ℕ → Class
-class_at classes place = unwrap_or (slice_get classes place) Open
+class_at classes ordinal = unwrap_or (slice_get classes ordinal) Open
 
 -- ---- pairs of atoms
 
@@ -63,17 +63,17 @@ Listing entries c a b = Contains entries (record { class = c; left = a; right = 
 abbrev pub NullOr : Type 0 → Atom → Atom → Type 0
 NullOr paired a b = ((a ≡ Null) × (b ≡ Null)) ⊎ paired
 
--- at an open place two atoms correspond where they are equal, and not sealed; at another both are NULL or they are paired
+-- at an open column two atoms correspond where they are equal, and not sealed; at another both are NULL or they are paired
 abbrev pub Correspond : Pairing → Class → Atom → Atom → Type 0
 Correspond R Open a b = (b ≡ a) × IsNotSealed a
 Correspond R (Det key ty) a b = NullOr (R (Det key ty) a b) a b
 Correspond R (Rnd key ty) a b = NullOr (R (Rnd key ty) a b) a b
 
--- two rows at each place, where one that isn't there holds NULL
-abbrev pub PlacesCorrespond : Pairing → List Class → List Atom → List Atom → Type 0
-PlacesCorrespond R classes row other = (place : ℕ) → Correspond R (class_at classes place) (atom_at row place) (atom_at other place)
+-- two rows at each column, where one that doesn't exist holds NULL
+abbrev pub OrdinalsCorrespond : Pairing → List Class → List Atom → List Atom → Type 0
+OrdinalsCorrespond R classes row other = (ordinal : ℕ) → Correspond R (class_at classes ordinal) (atom_at row ordinal) (atom_at other ordinal)
 
--- two rows of one length, place by place, at the classes of their columns
+-- two rows of one length, column by column, at the classes of their columns
 abbrev pub RowsCorrespond : Pairing → List Class → List Atom → List Atom → Type 0
 RowsCorrespond R [] [] [] = Unit {0}
 RowsCorrespond R [] [] (b ∷ bs) = ⊥

@@ -68,16 +68,16 @@ number_or_null (Plain (Bin t)) = Null
 number_or_null Null = Null
 number_or_null (Sealed c) = Null
 
--- the atom at a place of a row
+-- the atom at an ordinal of a row
 abbrev pub atom_at : List Atom → ℕ → Atom
-atom_at row place = unwrap_or (slice_get row place) Null
+atom_at row ordinal = unwrap_or (slice_get row ordinal) Null
 
 -- the value of an operand in a row, with the parameters' values
 abbrev mutual
   pub eval : List Atom → List Atom → BoundOperand → Result Atom Overflow
   eval row params (operands.Literal at v) = Ok (atom_of_value v)
-  eval row params (operands.Param at place) = Ok (atom_at params place)
-  eval row params (operands.Column at place) = Ok (atom_at row place)
+  eval row params (operands.Param at ordinal) = Ok (atom_at params ordinal)
+  eval row params (operands.Column at ordinal) = Ok (atom_at row ordinal)
   eval row params (operands.Minus at operand) = eval row params operand >>= minus
   eval row params (operands.Sum first terms) = eval row params first >>= λ sum. eval_terms row params (number_or_null sum) terms
 

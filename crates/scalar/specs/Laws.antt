@@ -1,4 +1,4 @@
--- Laws of evaluation: parameters at other places, and atoms that correspond.
+-- Laws of evaluation: parameters with other ordinals, and atoms that correspond.
 use Rattle.std.specs.Prelude.{◌≡◌, ℕ, List, Bool, true}
 use Rattle.ae_base.specs.Atoms.{Atom}
 use Rattle.sql_tree.specs.Bound.{BoundOperand, BoundCondition}
@@ -7,17 +7,17 @@ use Rattle.scalar.specs.Classes.{Class, Entry, Listing, IsOneToOne, Correspond, 
 use Rattle.scalar.specs.Eval.{atom_at, eval, truth}
 use Rattle.scalar.specs.Typed.{StandsAt, AreSumsOpen, IsTypedCondition}
 
--- each parameter that is used has its value at another place
+-- each parameter that is used has its value at another ordinal
 abbrev pub AreMoved : (ℕ → Bool) → (ℕ → ℕ) → (params others : List Atom) → Type 0
-AreMoved is_used f params others = (place : ℕ) → is_used place ≡ true → atom_at others (f place) ≡ atom_at params place
+AreMoved is_used f params others = (ordinal : ℕ) → is_used ordinal ≡ true → atom_at others (f ordinal) ≡ atom_at params ordinal
 
--- an operand whose parameters are renamed is worth the same over the values at their new places; so it is with conditions
+-- an operand whose parameters are renamed is worth the same over the values at their new ordinals; so it is with conditions
 abbrev pub EvalRenamed : Type 0
-EvalRenamed = (f : ℕ → ℕ) (row params others : List Atom) (operand : BoundOperand) → AreMoved (λ place. uses_in place operand) f params others
+EvalRenamed = (f : ℕ → ℕ) (row params others : List Atom) (operand : BoundOperand) → AreMoved (λ ordinal. uses_in ordinal operand) f params others
     → eval row others (renamed_operand f operand) ≡ eval row params operand
 
 abbrev pub TruthRenamed : Type 0
-TruthRenamed = (f : ℕ → ℕ) (row params others : List Atom) (condition : BoundCondition) → AreMoved (λ place. uses_in_condition place condition) f params others
+TruthRenamed = (f : ℕ → ℕ) (row params others : List Atom) (condition : BoundCondition) → AreMoved (λ ordinal. uses_in_condition ordinal condition) f params others
     → truth row others (renamed_condition f condition) ≡ truth row params condition
 
 -- over rows and parameters that correspond, an operand's values correspond at its class, or both overflow

@@ -1,4 +1,4 @@
--- A lent value as the atom that it is.
+-- A borrowed value as an atom.
 use Rattle.std.specs.Prelude.{List, ℕ}
 use Rattle.ae_base.specs.declared.values.Datum.TheVariants.{Num, Text, Bin}
 use Rattle.ae_base.specs.declared.atoms.AtomOf.{AtomOf}

@@ -1,4 +1,4 @@
--- Which operands and conditions the encryption rules admit, where columns and parameters stand at these classes.
+-- Which operands and conditions the encryption rules admit, if columns and parameters have these classes.
 use Rattle.std.specs.Prelude.{◌≡◌, ℕ, List}
 use Rattle.std.specs.List.{All}
 use Rattle.ae_base.specs.declared.values.Value.TheVariants as value
@@ -11,21 +11,21 @@ use Rattle.sql_tree.specs.Conditions as conditions
 use Rattle.sql_tree.specs.Bound.{BoundOperand}
 use Rattle.scalar.specs.Classes.{Class, Open, Det, Rnd, class_at}
 
--- NULL may stand at any class, a column or a parameter at its own, and all else at an open place
+-- NULL may stand at any class, a column or a parameter at its own, and all else at the open class
 abbrev pub StandsAt : (columns params : List Class) → Class → BoundOperand → Type 0
 StandsAt columns params c (operands.Literal at value.Null) = Unit {0}
 StandsAt columns params c (operands.Literal at (value.Is datum)) = c ≡ Open
-StandsAt columns params c (operands.Param at place) = c ≡ class_at params place
-StandsAt columns params c (operands.Column at place) = c ≡ class_at columns place
+StandsAt columns params c (operands.Param at ordinal) = c ≡ class_at params ordinal
+StandsAt columns params c (operands.Column at ordinal) = c ≡ class_at columns ordinal
 StandsAt columns params c (operands.Minus at operand) = c ≡ Open
 StandsAt columns params c (operands.Sum first terms) = c ≡ Open
 
--- the terms of each sum stand at open places
+-- the terms of each sum stand at the open class
 abbrev mutual
   pub AreSumsOpen : (columns params : List Class) → BoundOperand → Type 0
   AreSumsOpen columns params (operands.Literal at v) = Unit {0}
-  AreSumsOpen columns params (operands.Param at place) = Unit {0}
-  AreSumsOpen columns params (operands.Column at place) = Unit {0}
+  AreSumsOpen columns params (operands.Param at ordinal) = Unit {0}
+  AreSumsOpen columns params (operands.Column at ordinal) = Unit {0}
   AreSumsOpen columns params (operands.Minus at operand) = StandsAt columns params Open operand × AreSumsOpen columns params operand
   AreSumsOpen columns params (operands.Sum first terms) = StandsAt columns params Open first × AreSumsOpen columns params first × AreTermsOpen columns params terms
 

@@ -1,12 +1,12 @@
 //! Laws of evaluation.
 ghost use Rattle.scalar.specs.Laws.{EvalRenamed, TruthRenamed, EvalCorresponds, TruthCorresponds};
 
-/// An operand with its parameters at other places is worth the same over the values there.
+/// An operand with its parameters at other ordinals is worth the same over the values there.
 pub fn eval_renamed()
     ensures { EvalRenamed }
 {}
 
-/// A condition with its parameters at other places is as true over the values there.
+/// A condition with its parameters at other ordinals is as true over the values there.
 pub fn truth_renamed()
     ensures { TruthRenamed }
 {}

@@ -1,4 +1,4 @@
-//! Values that are lent by a row, a statement or a batch.
+//! Values borrowed from a row, a statement or a batch.
 
 ghost use Rattle.std.specs.Prelude.{◌≡◌, ◌+ℤ◌, ◌-ℤ◌, IfOk};
 ghost use Rattle.ae_base.specs.declared.atoms.AtomOf.TheVariants.{Plain};
@@ -21,7 +21,8 @@ use std::alloc::AllocError;
 use std::cmp::Ordering;
 use std::marker::Model;
 
-/// What an operand is worth, by case: lent by a row, a parameter or the statement, or a new number.
+/// What an operand is worth, by case: borrowed from a row, a parameter or the statement, or a new
+/// number.
 #[derive(Drop)]
 pub(crate) enum LentOf<'a, K> {
     Null,

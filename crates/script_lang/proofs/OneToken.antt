@@ -45,10 +45,10 @@ use Rattle.sql_tree.specs.declared.lexemes.Keyword.{Keyword}
 use Rattle.sql_tree.specs.declared.lexemes.Token.{Token}
 use Rattle.sql_tree.specs.Tokens as sql
 use Rattle.sql_tree.specs.Tokens.{
-  Front,
+  NextToken,
   begins_word,
   first_wide,
-  front,
+  next_token,
   in_capitals,
   is_name,
   is_word_byte,
@@ -109,10 +109,10 @@ next_apart : (b : ℕ) (bytes : List ℕ) → list_all is_word_byte bytes ≡ tr
 next_apart b [] h = refl
 next_apart b (c ∷ bytes) h = let p = and_parts (is_word_byte c) (list_all is_word_byte bytes) h in let e : is_word_byte c ≡ true = p.0 in grind (arith, nat_tests)
 
-by_first : (a b next c d e f : Bool) (t u v w x y z : Front) → Front
+by_first : (a b next c d e f : Bool) (t u v w x y z : NextToken) → NextToken
 by_first a b next c d e f t u v w x y z = cond a t (cond (b && next) u (cond c v (cond d w (cond e x (cond f y z)))))
 
-a_word : (a b next c d e f : Bool) (t u v w x y z : Front) → a ≡ false → next ≡ false → c ≡ false → d ≡ false → e ≡ false → f ≡ true → by_first a b next c d e f t u v w x y z ≡ y
+a_word : (a b next c d e f : Bool) (t u v w x y z : NextToken) → a ≡ false → next ≡ false → c ≡ false → d ≡ false → e ≡ false → f ≡ true → by_first a b next c d e f t u v w x y z ≡ y
 unfolding by_first
 a_word a true next c d e f t u v w x y z h i j k l m = rw (h, i, j, k, l, m) refl
 a_word a false next c d e f t u v w x y z h i j k l m = rw (h, j, k, l, m) refl
@@ -120,9 +120,9 @@ a_word a false next c d e f t u v w x y z h i j k l m = rw (h, j, k, l, m) refl
 zero_apart : (b : ℕ) (t : Bool) → begins_word b ≡ true → ((b == 48) && t) ≡ false
 zero_apart b t h = let e : (b == 48) ≡ false = grind (arith, nat_tests) in rw e refl
 
-word_front : (b : ℕ) (bytes : List ℕ) → begins_word b ≡ true → list_all is_word_byte bytes ≡ true → front (b ∷ bytes) ≡ named word_lexeme 0 (take_while is_word_byte (b ∷ bytes))
+word_prefix : (b : ℕ) (bytes : List ℕ) → begins_word b ≡ true → list_all is_word_byte bytes ≡ true → next_token (b ∷ bytes) ≡ named word_lexeme 0 (take_while is_word_byte (b ∷ bytes))
 unfolding by_first
-word_front b bytes h all =
+word_prefix b bytes h all =
     let quote : (b == 39) ≡ false = grind (arith, nat_tests) in
     let bracket : (b == 91) ≡ false = grind (arith, nat_tests) in
     let sign : (b == 64) ≡ false = grind (arith, nat_tests) in
@@ -148,7 +148,7 @@ one_token_at : (b : ℕ) (bytes : List ℕ) → is_name (b ∷ bytes) ≡ true �
 one_token_at b bytes short h all =
     let more = (and_parts (is_word_byte b) (list_all is_word_byte bytes) all).1 in
     let none : 0 + length (b ∷ bytes) ≡ length (b ∷ bytes) = omega arith in
-    let found : front (b ∷ bytes) ≡ Some (word_lexeme (b ∷ bytes), length (b ∷ bytes)) = word_front b bytes h
+    let found : next_token (b ∷ bytes) ≡ Some (word_lexeme (b ∷ bytes), length (b ∷ bytes)) = word_prefix b bytes h
     more ∙ ap (named word_lexeme 0) (all_taken is_word_byte (b ∷ bytes) all) ∙ rw short (ap (λ n. Some (word_lexeme (b ∷ bytes), n)) none) in
     let first : 0 + 1 ≡ 1 = omega arith in
     let rest : length (b ∷ bytes) - 1 ≡ length bytes = omega arith in

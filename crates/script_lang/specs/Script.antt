@@ -76,7 +76,7 @@ abbrev pub lines_from : List ℕ → List ℕ → List (List ℕ)
 lines_from line [] = unended line
 lines_from line (b ∷ bytes) = if b == 10 then without_cr line ∷ lines_from [] bytes else lines_from (line ++ b ∷ []) bytes
 
--- a byte order mark at the start is passed over
+-- a byte order mark at the start is skipped
 abbrev pub without_mark : List ℕ → List ℕ
 without_mark bytes = if bytes_eq (take 3 bytes) (0xef ∷ 0xbb ∷ 0xbf ∷ []) then drop 3 bytes else bytes
 
@@ -130,35 +130,35 @@ behind_as (lexeme.Keyword keyword.As ∷ rest) = rest
 behind_as other = other
 
 -- DECLARE @name: its first word is an identifier like another
-abbrev pub name_front : List Lexeme → Option (List ℕ × List Lexeme)
-name_front (lexeme.Ident word ∷ lexeme.Param name ∷ rest) = Some (name, rest)
-name_front other = None
+abbrev pub name_prefix : List Lexeme → Option (List ℕ × List Lexeme)
+name_prefix (lexeme.Ident word ∷ lexeme.Param name ∷ rest) = Some (name, rest)
+name_prefix other = None
 
 -- the number in parentheses, where it is there
-abbrev pub size_front : List Lexeme → Option ℕ × List Lexeme
-size_front (lexeme.Symbol symbol.Open ∷ lexeme.Number n ∷ lexeme.Symbol symbol.Close ∷ rest) = (Some n, rest)
-size_front other = (None, other)
+abbrev pub size_prefix : List Lexeme → Option ℕ × List Lexeme
+size_prefix (lexeme.Symbol symbol.Open ∷ lexeme.Number n ∷ lexeme.Symbol symbol.Close ∷ rest) = (Some n, rest)
+size_prefix other = (None, other)
 
 abbrev pub behind_equal : List Lexeme → Option (List Lexeme)
 behind_equal (lexeme.Symbol symbol.Equal ∷ rest) = Some rest
 behind_equal other = None
 
-abbrev pub word_front : List Lexeme → Option (List ℕ × List Lexeme)
-word_front (lexeme.Ident word ∷ rest) = Some (word, rest)
-word_front other = None
+abbrev pub word_prefix : List Lexeme → Option (List ℕ × List Lexeme)
+word_prefix (lexeme.Ident word ∷ rest) = Some (word, rest)
+word_prefix other = None
 
--- a type with = behind it, and the lexemes behind that
+-- a type with = after it, and the lexemes after that
 abbrev pub sized : List ℕ → Option ℕ × List Lexeme → Option (Ty × List Lexeme)
-sized word front = option_and_then (λ rest. option_map (λ ty. (ty, rest)) (type_of (word, front.0))) (behind_equal front.1)
+sized word prefix = option_and_then (λ rest. option_map (λ ty. (ty, rest)) (type_of (word, prefix.0))) (behind_equal prefix.1)
 
-abbrev pub type_front : List Lexeme → Option (Ty × List Lexeme)
-type_front ls = option_and_then (λ front. sized front.0 (size_front front.1)) (word_front ls)
+abbrev pub type_prefix : List Lexeme → Option (Ty × List Lexeme)
+type_prefix ls = option_and_then (λ prefix. sized prefix.0 (size_prefix prefix.1)) (word_prefix ls)
 
 abbrev pub with_value : List ℕ → Ty × List Lexeme → Option Param
-with_value name front = option_map (λ v. record { declaration = record { name = name; ty = front.0 }; value = v }) (literal (without_semicolon front.1))
+with_value name prefix = option_map (λ v. record { declaration = record { name = name; ty = prefix.0 }; value = v }) (literal (without_semicolon prefix.1))
 
 abbrev pub declared : List Lexeme → Option Param
-declared ls = option_and_then (λ front. option_and_then (with_value front.0) (type_front (behind_as front.1))) (name_front ls)
+declared ls = option_and_then (λ prefix. option_and_then (with_value prefix.0) (type_prefix (behind_as prefix.1))) (name_prefix ls)
 
 -- a number on the line is at most 9223372036854775808
 abbrev pub declared_by : Option (List Token) → Option Param
@@ -187,7 +187,7 @@ is_between begun = (length begun.params == 0) && not (is_some begun.statement)
 abbrev pub batch_of : Begun → Batch
 batch_of begun = record { text = chars (unwrap_or begun.statement []); params = begun.params; forced = begun.forced }
 
--- the steps that a line makes, and what is begun behind it
+-- the steps that a line makes, and what is begun after it
 pub record After : Type 0 where
   pub steps : List Step
   pub begun : Begun
@@ -203,7 +203,7 @@ ended begun =
 
 -- ---- lines that begin with a colon
 
--- what follows a word at the front, where it stands there
+-- what follows a word at the start, where it stands there
 abbrev pub behind : List ℕ → List ℕ → Option (List ℕ)
 behind word rest = if bytes_eq (take (length word) rest) word then Some (drop (length word) rest) else None
 
@@ -219,7 +219,7 @@ session_of (a ∷ rest) =
     else None
 session_of [] = None
 
--- :describe stands behind a line of a batch and ends it
+-- :describe stands after a line of a batch and ends it
 abbrev pub after_describe : Begun → Option After
 after_describe begun =
     if is_between begun then None
@@ -239,7 +239,7 @@ abbrev pub with_rotation : Begun → List ℕ × List ℕ → Option After
 with_rotation begun tables =
     if is_between begun then Some (record { steps = Turn begun.session (Rotate tables.0 tables.1) ∷ []; begun = begun }) else None
 
--- :force @name stands in the head of a batch, behind the declaration of that name, once for each name
+-- :force @name stands in the head of a batch, after the declaration of that name, once for each name
 abbrev pub with_forced : Begun → List ℕ → Option After
 with_forced begun name =
     if list_any (bytes_eq name) (map (λ q. q.declaration.name) begun.params) && not (list_any (bytes_eq name) begun.forced) && not (is_some begun.statement)
@@ -267,7 +267,7 @@ name_of bytes = let name = take_while is_param_char bytes in if is_blank_line (d
 abbrev pub named_param : List ℕ → Option (List ℕ)
 named_param rest = option_and_then name_of (behind (codes ":force @") rest)
 
--- the tables that :rotate OLD NEW names: what stands before the first space, and what stands behind it without the blanks at the line's end
+-- the tables that :rotate OLD NEW names: what stands before the first space, and what stands after it without the blanks at the line's end
 abbrev pub two_words : List ℕ → Option (List ℕ × List ℕ)
 two_words bytes = option_map (λ i. (take i bytes, drop (i + 1) bytes)) (position (λ b. b == 32) bytes)
 

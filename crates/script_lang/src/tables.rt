@@ -30,7 +30,7 @@ pub(crate) fn named_tables(alloc: Global, line: &[u8]) -> Result<Option<(Name, N
     Ok(Some((old, new)))
 }
 
-/// What stands behind `:rotate`, before its first space and behind it.
+/// The words after `:rotate`, before its first space and after it.
 fn rotated_words(line: &[u8]) -> Option<(&[u8], &[u8])>
     ensures { MatchOption result (spec.rotated_words line.now ≡ None)
         (λ x. spec.rotated_words line.now ≡ Some (x.0.now, x.1.now)) }
@@ -41,7 +41,7 @@ fn rotated_words(line: &[u8]) -> Option<(&[u8], &[u8])>
     }
 }
 
-/// What stands before the first space, and behind it.
+/// The text before the first space, and after it.
 fn two_words(bytes: &[u8]) -> Option<(&[u8], &[u8])>
     ensures { MatchOption result (spec.two_words bytes.now ≡ None)
         (λ x. spec.two_words bytes.now ≡ Some (x.0.now, x.1.now)) }
@@ -52,7 +52,7 @@ fn two_words(bytes: &[u8]) -> Option<(&[u8], &[u8])>
     }
 }
 
-/// The place of the first space.
+/// The offset of the first space.
 fn space_at(bytes: &[u8]) -> Option<usize>
     ensures { result ≡ position (λ b. b == 32) bytes.now }
 {

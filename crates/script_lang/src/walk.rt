@@ -26,8 +26,8 @@ use std::marker::Model;
 use std::mem;
 
 /// A script read so far: the steps that its lines have made, the session, and the batch that is
-/// begun. Its statement is there once a line of it has come. The values and types of all parameters
-/// are proper.
+/// begun. It has a statement once a line of it was read. The values and types of all parameters are
+/// proper.
 #[derive(Drop)]
 pub(crate) struct Reader {
     steps: Seq<Step>,
@@ -81,8 +81,8 @@ impl Reader {
         self.steps
     }
 
-    /// Reads a line, and says whether it is one of a script. Where it isn't, or without memory,
-    /// what is read is left open.
+    /// Reads a line, and says whether it is one of a script. If it isn't, or out of memory, what is
+    /// read is left open.
     pub(crate) fn read_line(&mut self, alloc: Global, line: &[u8]) -> Result<bool, AllocError>
         requires { length line.now < 2 ^ 32 }
         ensures { IfOk result
@@ -278,8 +278,7 @@ impl Reader {
         Ok(true)
     }
 
-    /// Reads a line where no line of the statement has come yet. A blank line and a comment are
-    /// passed over.
+    /// Reads a line before the first line of the statement. A blank line and a comment are skipped.
     fn read_head_line(&mut self, alloc: Global, line: &str) -> Result<bool, AllocError>
         requires { length line.now < 2 ^ 32 }
         ensures { IfOk result
@@ -307,7 +306,7 @@ impl Reader {
         self.params.push(param)
     }
 
-    /// Puts a line at the end of the statement.
+    /// Appends a line to the statement.
     fn read_statement_line(&mut self, alloc: Global, line: &str) -> Result<(), AllocError>
         ensures { OnOk result
             (Takes self.old (spec.with_statement_line self.old.begun line.now) true self.new) }
@@ -329,7 +328,7 @@ fn longer(mut text: String, line: &str) -> Result<String, AllocError>
     Ok(text)
 }
 
-/// Whether a line has blanks alone, or begins with `--` behind blanks.
+/// Whether a line has blanks alone, or begins with `--` after blanks.
 fn is_passed_over(line: &[u8]) -> bool
     ensures { result
         ≡ (spec.is_blank_line line.now || bytes_eq (take 2 (spec.behind_blanks line.now))

@@ -21,7 +21,7 @@ use Rattle.conversation.specs.Paths.{
   Event,
   Asked,
   Took,
-  Strayed,
+  GotUnexpected,
   Drew,
   Opened,
   Printed,
@@ -30,14 +30,14 @@ use Rattle.conversation.specs.Paths.{
   asks,
   takes_more,
   takes_last,
-  strays,
+  gets_unexpected,
   notes_more,
   notes_last,
-  notes_stray,
+  notes_unexpected,
   replies_to,
   taken_in,
   OpensAll,
-  IsStray,
+  IsUnexpected,
 }
 use Rattle.conversation.specs.Talk.{Talk, Stops, Asks, Hears, Notes, Heard, More, Got, hear, broken}
 use Rattle.conversation.specs.Turns.{hearing}
@@ -66,10 +66,10 @@ use Rattle.script_run.specs.Shares.{
   devices_of,
   with_devices,
 }
-use Rattle.script_run.specs.Ways.{Proceeds, ProceedsBy, HaltsAt, Breaks, StopsBy, AsksInPart, TakesOne, IsNextOf, IsNextOn, StaysWithin, off}
+use Rattle.script_run.specs.Progress.{Proceeds, ProceedsBy, HaltsAt, Breaks, StopsBy, AsksInPart, TakesOne, IsNextOf, IsNextOn, StaysWithin, off}
 use Rattle.script_run.specs.Stops.{stop_of_write}
 use Rattle.outcome_text.specs.declared.tallies.Tally.{Tally}
-use Rattle.script_run.proofs.Going.{client_beside, client_still, comes_still, stay, client_front, wire_beside, wire_front, breaks_between, silent_by}
+use Rattle.script_run.proofs.Going.{client_beside, client_still, comes_still, stay, client_prefix, wire_beside, wire_prefix, breaks_between, silent_by}
 use Rattle.script_run.proofs.Reading.{reads_same, reads_still}
 
 -- ---- events of the driver by itself leave text, tap and replies
@@ -82,7 +82,7 @@ of_own P none draws opens (Drew bytes ∷ xs) h = draws bytes xs (of_own P none 
 of_own P none draws opens (Opened meta key ∷ xs) h = opens meta key xs (of_own P none draws opens xs h)
 of_own P none draws opens (Asked request replies ∷ xs) h = absurd h
 of_own P none draws opens (Took reply ∷ xs) h = absurd h
-of_own P none draws opens (Strayed next ∷ xs) h = absurd h
+of_own P none draws opens (GotUnexpected next ∷ xs) h = absurd h
 of_own P none draws opens (Printed comes ∷ xs) h = absurd h
 
 no_text : (xs : List Event) → AreOwn xs → flat_map text_of xs ≡ []
@@ -147,7 +147,7 @@ own_goes t u old x g = own_by Stays Stays t u old x g.events g.follows g.own g.s
 -- it stands at the draw, or at the key, that wasn't given
 pub own_halts : (C D : ℕ → ℕ → Type 0) (P : Talk → Type 0) (t : Talk) (old : Outside) (x : Devices) → own.Halts C D P t (devices_of old.client) x
     → HaltsAt (record all_stay { entropy = C; vault = D }) (λ rest now. P rest) t old (record old { client = with_devices old.client x })
-own_halts C D P t old x h = record { rest = h.rest; goes = own_by C D t h.rest old x h.events h.follows h.own h.share; place = h.place }
+own_halts C D P t old x h = record { rest = h.rest; goes = own_by C D t h.rest old x h.events h.follows h.own h.share; point = h.point }
 
 pub own_breaks : (P : Talk → Type 0) (t : Talk) (old : Outside) (x : Devices) → own.Halts Stays Stays P t (devices_of old.client) x
     → Breaks all_stay t old (record old { client = with_devices old.client x })
@@ -219,7 +219,7 @@ module _ (comes : Outcome) (t u : Talk) (follows : Follows t (Printed comes ∷ 
     goes = stay t old;
     one = omega arith;
     follows = inl (follows, silent_by old.wire.stream (Printed comes ∷ []) refl);
-    put = record { client = client_cut comes old.client out C call; wire = wire_front Stays (Printed comes ∷ []) old.wire old.wire (wire_printed comes old.wire) };
+    put = record { client = client_cut comes old.client out C call; wire = wire_prefix Stays (Printed comes ∷ []) old.wire old.wire (wire_printed comes old.wire) };
     reads = reads_still old.wire.stream;
   }
 
@@ -246,7 +246,7 @@ asked_goes request replies t old wire p r l tally c = record {
 
 -- a client's side, whatever is counted of the tap
 beside_tap : (C : ℕ → ℕ → Type 0) (xs : List Event) (a b : ClientSide) → ClientPut Adds all_stay xs a b → ClientPut AddsPrefix (record all_stay { tap = C }) xs a b
-beside_tap C xs a b p = let f = client_front all_stay xs a b p in record { out = f.out; entropy = f.entropy; vault = f.vault; opened = f.opened }
+beside_tap C xs a b p = let f = client_prefix all_stay xs a b p in record { out = f.out; entropy = f.entropy; vault = f.vault; opened = f.opened }
 
 pub asked_breaks : (C : ℕ → ℕ → Type 0) (request : Request) (t : Talk) (old : Outside) (wire : Wire) → AsksInPart C request old.wire wire
     → Breaks (record all_stay { tap = C }) (Asks request t) old (record old { wire = wire })
@@ -291,7 +291,7 @@ took_goes reply t u old wire f h = record {
   limit = h.limit;
 }
 
--- a reply is taken, aloud or quietly, and more is awaited
+-- a reply is taken, aloud or quietly, and more is expected
 follows_more : (aloud : Bool) (session after : Session) (shown more : Listing) (f : Heard → Talk) (reply : Reply) → hear session shown reply ≡ More after more
     → Follows (hearing aloud session shown f) (Took reply ∷ []) (hearing aloud after more f)
 follows_more true session after shown more f reply e = takes_more session after shown more f reply (Hears after more f) [] e (stays (Hears after more f))
@@ -313,28 +313,28 @@ pub heard_last : (aloud : Bool) (session : Session) (shown : Listing) (f : Heard
 heard_last aloud session shown f reply heard old wire e h =
     took_goes reply (hearing aloud session shown f) (f heard) old wire (follows_last aloud session shown f reply heard e) h
 
-keys_strayed : (next : Option Reply) (keys : Option KeyMap) → IfSome keys (OpensAll (Strayed next ∷ []))
+keys_strayed : (next : Option Reply) (keys : Option KeyMap) → IfSome keys (OpensAll (GotUnexpected next ∷ []))
 keys_strayed next None = tt
 keys_strayed next (Some keys) = tt
 
-comes_strayed : (version : FrameVersion) (next : Option Reply) (s : Option Stream) (q : Queue) → IsNextOf version next s q.waiting → Comes Stays version (Strayed next ∷ []) s s q q
+comes_strayed : (version : FrameVersion) (next : Option Reply) (s : Option Stream) (q : Queue) → IsNextOf version next s q.waiting → Comes Stays version (GotUnexpected next ∷ []) s s q q
 comes_strayed version next None q h = (h, refl)
 comes_strayed version next (Some s) q h = (refl, (h, refl), calls_none Anything s.source tt)
 
--- the next reply isn't awaited, or none is there; aloud, the part of an answer before is printed
-follows_stray : (aloud : Bool) (session : Session) (shown : Listing) (f : Heard → Talk) (next : Option Reply) → IsStray session shown next
-    → Follows (hearing aloud session shown f) (Strayed next ∷ []) (Stops (off (hearing aloud session shown f)))
-follows_stray true session shown f next s = strays session shown f next (Stops (broken session shown)) [] s (stays (Stops (broken session shown)))
-follows_stray false session shown f next s = notes_stray session shown f next (Stops None) [] s (stays (Stops None))
+-- the next reply isn't expected, or none is there; aloud, the part of an answer before is printed
+follows_unexpected : (aloud : Bool) (session : Session) (shown : Listing) (f : Heard → Talk) (next : Option Reply) → IsUnexpected session shown next
+    → Follows (hearing aloud session shown f) (GotUnexpected next ∷ []) (Stops (off (hearing aloud session shown f)))
+follows_unexpected true session shown f next s = gets_unexpected session shown f next (Stops (broken session shown)) [] s (stays (Stops (broken session shown)))
+follows_unexpected false session shown f next s = notes_unexpected session shown f next (Stops None) [] s (stays (Stops None))
 
 pub strayed_goes : (aloud : Bool) (session : Session) (shown : Listing) (f : Heard → Talk) (next : Option Reply) (old : Outside)
-    → IsStray session shown next → IsNextOn next old.wire → Proceeds (hearing aloud session shown f) (Stops (off (hearing aloud session shown f))) old old
+    → IsUnexpected session shown next → IsNextOn next old.wire → Proceeds (hearing aloud session shown f) (Stops (off (hearing aloud session shown f))) old old
 strayed_goes aloud session shown f next old s e = record {
-  events = Strayed next ∷ [];
-  follows = follows_stray aloud session shown f next s;
+  events = GotUnexpected next ∷ [];
+  follows = follows_unexpected aloud session shown f next s;
   put = record {
-    client = client_beside (Strayed next ∷ []) refl refl (keys_strayed next) old.client old.client.tally;
-    wire = wire_beside (Strayed next ∷ []) (λ version. refl) refl (λ x. refl) old.wire;
+    client = client_beside (GotUnexpected next ∷ []) refl refl (keys_strayed next) old.client old.client.tally;
+    wire = wire_beside (GotUnexpected next ∷ []) (λ version. refl) refl (λ x. refl) old.wire;
   };
   read = record { tally = refl; wire = record { comes = comes_strayed old.wire.version next old.wire.stream (queue_of old.wire) e; taken = omega arith } };
   limit = λ h. h;

@@ -1,11 +1,11 @@
--- The tap is closed behind the end, and nothing is put on it there.
+-- The tap is closed after the end, and nothing is written on it there.
 use Rattle.std.proofs.Common.{◌≡◌, ℕ, List, [], ◌∷◌, ◌++◌, Option, Some, None, Result, Ok, Err, refl, ◌∙◌, ap, subst, append-nil, inl, inr}
 use Rattle.ae_edge.specs.Devices.{Adds, AddsPrefix, IsPrefix}
 use Rattle.conversation.specs.Talk.{Talk, Ends}
 use Rattle.conversation.specs.declared.sessions.Session.{Session}
 use Rattle.script_run.specs.Closing.{ClosesBehind, closed_as, wire_as}
 use Rattle.script_run.specs.Shares.{ClientSide, Outside, Wire}
-use Rattle.script_run.specs.Ways.{Advances, Proceeds, StopsBy}
+use Rattle.script_run.specs.Progress.{Advances, Proceeds, StopsBy}
 use Rattle.script_run.specs.declared.stops.Stop.{Stop}
 use Rattle.script_run.proofs.Going.{leads_then}
 use Rattle.script_run.specs.declared.connection.EndFault.{EndFault}
@@ -14,7 +14,7 @@ use Rattle.script_run.specs.declared.connection.ReplyFault.TheVariants as fault
 use Rattle.script_run.specs.Connections.{Finishes, in_version}
 use Rattle.script_run.proofs.Lent.{AreSame, fails_same, leads_in, leads_same}
 
--- ---- nothing is put
+-- ---- nothing is written
 
 still : (a b : Option (List ℕ)) → Adds [] a b → b ≡ a
 still (Some x) (Some y) e = ap (λ (w : List ℕ). Some w) (e ∙ append-nil x)
@@ -22,15 +22,15 @@ still None None e = refl
 still (Some x) None e = absurd e
 still None (Some y) e = absurd e
 
-front_of_none : (front : List ℕ) → IsPrefix front [] → front ≡ []
-front_of_none [] f = refl
-front_of_none (x ∷ front) f = let e = f.is in cc
+prefix_of_none : (prefix : List ℕ) → IsPrefix prefix [] → prefix ≡ []
+prefix_of_none [] f = refl
+prefix_of_none (x ∷ prefix) f = let e = f.is in cc
 
-front_still : (a b : Option (List ℕ)) → AddsPrefix [] a b → b ≡ a
-front_still (Some x) (Some y) g = ap (λ (w : List ℕ). Some w) (g.grew ∙ ap (λ w. x ++ w) (front_of_none g.front g.of_it) ∙ append-nil x)
-front_still None None g = refl
-front_still (Some x) None g = absurd g
-front_still None (Some y) g = absurd g
+prefix_still : (a b : Option (List ℕ)) → AddsPrefix [] a b → b ≡ a
+prefix_still (Some x) (Some y) g = ap (λ (w : List ℕ). Some w) (g.grew ∙ ap (λ w. x ++ w) (prefix_of_none g.prefix g.of_it) ∙ append-nil x)
+prefix_still None None g = refl
+prefix_still (Some x) None g = absurd g
+prefix_still None (Some y) g = absurd g
 
 pub finished_tap : (result : Result (Unit {0}) EndFault) (old new : Wire) → Finishes result old new → new.tap.content ≡ old.tap.content
 finished_tap (Ok o) old new f = still old.tap.content new.tap.content f.0.0.tap.content
@@ -38,7 +38,7 @@ finished_tap (Err ending.WriteFault) old new f = still old.tap.content new.tap.c
 finished_tap (Err (ending.Replies fault.BadReply)) old new f = still old.tap.content new.tap.content f.0.0.tap.content
 finished_tap (Err (ending.Replies fault.ReadFault)) old new f = still old.tap.content new.tap.content f.0.0.tap.content
 finished_tap (Err (ending.Replies fault.TooLong)) old new f = still old.tap.content new.tap.content f.0.tap.content
-finished_tap (Err (ending.Replies fault.OutOfMemory)) old new f = front_still old.tap.content new.tap.content f.0.tap.content
+finished_tap (Err (ending.Replies fault.OutOfMemory)) old new f = prefix_still old.tap.content new.tap.content f.0.tap.content
 
 -- ---- to the end, or no further
 

@@ -2,7 +2,7 @@
 use Rattle.std.proofs.Common.{◌≡◌, ℕ, ◌+◌, List, [], ◌∷◌, Bool, true, false, ◌||◌, length, refl, sym, ◌∙◌, ap, subst, arith}
 use Rattle.std.specs.Prelude.{flat_map, nat_lt, if◌then◌else◌}
 use Rattle.std.proofs.lemmas.Bool.{lt-ltb}
-use Rattle.conversation.specs.Paths.{Event, Asked, Took, Strayed, Drew, Opened, Printed, outcome_in}
+use Rattle.conversation.specs.Paths.{Event, Asked, Took, GotUnexpected, Drew, Opened, Printed, outcome_in}
 use Rattle.conversation.specs.declared.outcomes.Outcome.{Outcome}
 use Rattle.outcome_text.specs.Counting.{errors_in, rows_in, nothing, has_errors, count, counted}
 use Rattle.outcome_text.specs.Printing.{is_refusal, has_refusal}
@@ -14,7 +14,7 @@ errors_from [] t = omega arith
 errors_from (Printed comes ∷ events) t = let h = errors_from events (count (Printed comes) t) in omega arith
 errors_from (Asked request replies ∷ events) t = errors_from events (count (Asked request replies) t)
 errors_from (Took reply ∷ events) t = errors_from events t
-errors_from (Strayed next ∷ events) t = errors_from events t
+errors_from (GotUnexpected next ∷ events) t = errors_from events t
 errors_from (Drew bytes ∷ events) t = errors_from events t
 errors_from (Opened meta key ∷ events) t = errors_from events t
 
@@ -23,7 +23,7 @@ rows_from [] t = omega arith
 rows_from (Printed comes ∷ events) t = let h = rows_from events (count (Printed comes) t) in omega arith
 rows_from (Asked request replies ∷ events) t = rows_from events (count (Asked request replies) t)
 rows_from (Took reply ∷ events) t = rows_from events t
-rows_from (Strayed next ∷ events) t = rows_from events t
+rows_from (GotUnexpected next ∷ events) t = rows_from events t
 rows_from (Drew bytes ∷ events) t = rows_from events t
 rows_from (Opened meta key ∷ events) t = rows_from events t
 
@@ -32,7 +32,7 @@ requests_from [] t = omega arith
 requests_from (Asked request replies ∷ events) t = let h = requests_from events (count (Asked request replies) t) in omega arith
 requests_from (Printed comes ∷ events) t = requests_from events (count (Printed comes) t)
 requests_from (Took reply ∷ events) t = requests_from events t
-requests_from (Strayed next ∷ events) t = requests_from events t
+requests_from (GotUnexpected next ∷ events) t = requests_from events t
 requests_from (Drew bytes ∷ events) t = requests_from events t
 requests_from (Opened meta key ∷ events) t = requests_from events t
 

@@ -5,9 +5,9 @@ use Rattle.std.proofs.lemmas.Grind.{flat_map-append}
 use Rattle.ae_base.specs.declared.frames.FrameVersion.{FrameVersion}
 use Rattle.ae_edge.specs.Devices.{Adds, AddsPrefix, Calls, Removes, Stays, WhereExposed}
 use Rattle.ae_edge.specs.Vaults.{KeyMap}
-use Rattle.ae_edge.proofs.Interface.{told_then, told_same, adds_none, adds_then, calls_map, calls_none, calls_then, removes_none, removes_then, front_of, front_same}
+use Rattle.ae_edge.proofs.Interface.{exposed_then, exposed_same, adds_none, adds_then, calls_map, calls_none, calls_then, removes_none, removes_then, prefix_of, prefix_same}
 use Rattle.server_core.specs.Beside.{Beside}
-use Rattle.conversation.specs.Paths.{Event, Asked, Took, Strayed, Drew, Opened, Printed, stays, replies_to, taken_in, drawn_in, OpensAll}
+use Rattle.conversation.specs.Paths.{Event, Asked, Took, GotUnexpected, Drew, Opened, Printed, stays, replies_to, taken_in, drawn_in, OpensAll}
 use Rattle.conversation.specs.Talk.{Talk}
 use Rattle.conversation.proofs.Interface.{follows_then, opens_then}
 use Rattle.outcome_text.specs.Counting.{count, counted}
@@ -37,7 +37,7 @@ use Rattle.script_run.specs.Shares.{
   frames_of,
   exchanges_of,
 }
-use Rattle.script_run.specs.Ways.{Proceeds, ProceedsBy, HaltsAt, Lacks, Breaks, StopsBy, Advances, IsSilent, unwritten}
+use Rattle.script_run.specs.Progress.{Proceeds, ProceedsBy, HaltsAt, Lacks, Breaks, StopsBy, Advances, IsSilent, unwritten}
 use Rattle.script_run.specs.declared.stops.Stop.{Stop}
 use Rattle.script_run.specs.declared.stops.Stop.TheVariants as stop
 use Rattle.outcome_text.specs.declared.tallies.Tally.{Tally}
@@ -47,7 +47,7 @@ queues_then : (version : FrameVersion) (xs ys : List Event) (a b c : Queue) → 
 queues_then version [] ys a b c p q = subst (λ w. Queues version ys w c) p q
 queues_then version (Asked request replies ∷ xs) ys a b c p q = queues_then version xs ys (with_answer version a replies) b c p q
 queues_then version (Took reply ∷ xs) ys a b c p q = (p.0, p.1, p.2, queues_then version xs ys (record { waiting = p.1; behind = a.behind }) b c p.3 q)
-queues_then version (Strayed next ∷ xs) ys a b c p q = (p.0, queues_then version xs ys a b c p.1 q)
+queues_then version (GotUnexpected next ∷ xs) ys a b c p q = (p.0, queues_then version xs ys a b c p.1 q)
 queues_then version (Drew bytes ∷ xs) ys a b c p q = queues_then version xs ys a b c p q
 queues_then version (Opened meta key ∷ xs) ys a b c p q = queues_then version xs ys a b c p q
 queues_then version (Printed comes ∷ xs) ys a b c p q = queues_then version xs ys a b c p q
@@ -56,7 +56,7 @@ streams_then : (version : FrameVersion) (xs ys : List Event) (a b c : Standing) 
 streams_then version [] ys a b c p q = subst (λ w. Streams version ys w c) p q
 streams_then version (Asked request replies ∷ xs) ys a b c p q = streams_then version xs ys a b c p q
 streams_then version (Took reply ∷ xs) ys a b c p q = (p.0, p.1, streams_then version xs ys p.0 b c p.2 q)
-streams_then version (Strayed next ∷ xs) ys a b c p q = (p.0, streams_then version xs ys a b c p.1 q)
+streams_then version (GotUnexpected next ∷ xs) ys a b c p q = (p.0, streams_then version xs ys a b c p.1 q)
 streams_then version (Drew bytes ∷ xs) ys a b c p q = streams_then version xs ys a b c p q
 streams_then version (Opened meta key ∷ xs) ys a b c p q = streams_then version xs ys a b c p q
 streams_then version (Printed comes ∷ xs) ys a b c p q = streams_then version xs ys a b c p q
@@ -93,7 +93,7 @@ pub serves_then : (xs ys : List Event) (a b c : Beside) → AreServed xs a b →
 serves_then [] ys a b c p q = subst (λ w. AreServed ys w c) p q
 serves_then (Asked request replies ∷ xs) ys a b c p q = (p.0, p.1, serves_then xs ys p.0 b c p.2 q)
 serves_then (Took reply ∷ xs) ys a b c p q = serves_then xs ys a b c p q
-serves_then (Strayed next ∷ xs) ys a b c p q = serves_then xs ys a b c p q
+serves_then (GotUnexpected next ∷ xs) ys a b c p q = serves_then xs ys a b c p q
 serves_then (Drew bytes ∷ xs) ys a b c p q = serves_then xs ys a b c p q
 serves_then (Opened meta key ∷ xs) ys a b c p q = serves_then xs ys a b c p q
 serves_then (Printed comes ∷ xs) ys a b c p q = serves_then xs ys a b c p q
@@ -102,7 +102,7 @@ opened_then : (xs ys : List Event) (a b : Option KeyMap) → b ≡ a → IfSome 
 opened_then xs ys None b e p q = tt
 opened_then xs ys (Some keys) b e p q = let r : IfSome (Some keys) (OpensAll ys) = subst (λ w. IfSome w (OpensAll ys)) e q in opens_then keys xs ys p r
 
--- what is put of each event in turn is put of all
+-- what is written of each event in turn is written of all
 pub puts_then : {A : Type 0} (f : Event → List A) (xs ys : List Event) (a b c : Option (List A)) → Adds (flat_map f xs) a b → Adds (flat_map f ys) b c → Adds (flat_map f (xs ++ ys)) a c
 puts_then f xs ys a b c p q = subst (λ w. Adds w a c) (sym (flat_map-append f xs ys)) (adds_then (flat_map f xs) (flat_map f ys) a b c p q)
 
@@ -130,7 +130,7 @@ wire_then C xs ys a b c p q = record {
       (subst (λ v. Calls (Adds (flat_map (frames_of v) ys)) C b.tap c.tap) p.version q.tap);
   closed = q.closed ∙ p.closed;
   log = puts_then exchanges_of xs ys a.log b.log c.log p.log q.log;
-  state = told_then (AreServed xs) (AreServed ys) (AreServed (xs ++ ys)) (serves_then xs ys) a.state b.state c.state p.state q.state;
+  state = exposed_then (AreServed xs) (AreServed ys) (AreServed (xs ++ ys)) (serves_then xs ys) a.state b.state c.state p.state q.state;
   names = q.names ∙ p.names;
   version = q.version ∙ p.version;
 }
@@ -180,7 +180,7 @@ no_keys None = tt
 no_keys (Some keys) = tt
 
 pub same_state : (a : Option Beside) → WhereExposed (AreServed []) a a
-same_state = told_same (AreServed []) (λ x. refl)
+same_state = exposed_same (AreServed []) (λ x. refl)
 
 -- events that leave text, random bytes and keys
 pub client_beside : (events : List Event) → flat_map text_of events ≡ [] → flat_map drawn_in events ≡ [] → ((keys : Option KeyMap) → IfSome keys (OpensAll events)) → (a : ClientSide) (tally : Tally)
@@ -202,7 +202,7 @@ wire_beside events frames exchanges serves a = record {
   tap = calls_none (Adds (flat_map (frames_of a.version) events)) a.tap (subst (λ w. Adds w a.tap.content a.tap.content) (sym (frames a.version)) (adds_none a.tap.content));
   closed = refl;
   log = subst (λ w. Adds w a.log a.log) (sym exchanges) (adds_none a.log);
-  state = told_same (AreServed events) serves a.state;
+  state = exposed_same (AreServed events) serves a.state;
   names = refl;
   version = refl;
 }
@@ -228,23 +228,23 @@ nothing_read a = record { tally = refl; wire = wire_unread a.wire }
 pub stay : (t : Talk) (a : Outside) → Proceeds t t a a
 stay t a = record { events = []; follows = stays t; put = nothing_put a; read = nothing_read a; limit = λ h. h }
 
--- ---- what was put whole is a front of it
+-- ---- what was written whole is a prefix of it
 
-pub client_front : (C : Counts) (xs : List Event) (a b : ClientSide) → ClientPut Adds C xs a b → ClientPut AddsPrefix C xs a b
-client_front C xs a b p = record {
+pub client_prefix : (C : Counts) (xs : List Event) (a b : ClientSide) → ClientPut Adds C xs a b → ClientPut AddsPrefix C xs a b
+client_prefix C xs a b p = record {
   out =
       calls_map (Adds (flat_map text_of xs)) (AddsPrefix (flat_map text_of xs)) C.out a.out b.out
-      (λ h. front_of (flat_map text_of xs) (flat_map text_of xs) a.out.content b.out.content h (front_same (flat_map text_of xs))) p.out;
+      (λ h. prefix_of (flat_map text_of xs) (flat_map text_of xs) a.out.content b.out.content h (prefix_same (flat_map text_of xs))) p.out;
   entropy = p.entropy;
   vault = p.vault;
   opened = p.opened;
 }
 
-pub wire_front : (C : ℕ → ℕ → Type 0) (xs : List Event) (a b : Wire) → WirePut Adds C xs a b → WirePut AddsPrefix C xs a b
-wire_front C xs a b p = record {
+pub wire_prefix : (C : ℕ → ℕ → Type 0) (xs : List Event) (a b : Wire) → WirePut Adds C xs a b → WirePut AddsPrefix C xs a b
+wire_prefix C xs a b p = record {
   tap =
       let frames = flat_map (frames_of a.version) xs in
-      calls_map (Adds frames) (AddsPrefix frames) C a.tap b.tap (λ h. front_of frames frames a.tap.content b.tap.content h (front_same frames)) p.tap;
+      calls_map (Adds frames) (AddsPrefix frames) C a.tap b.tap (λ h. prefix_of frames frames a.tap.content b.tap.content h (prefix_same frames)) p.tap;
   closed = p.closed;
   log = p.log;
   state = p.state;
@@ -267,7 +267,7 @@ pub goes_then : (t u v : Talk) (a b c : Outside) → Proceeds t u a b → Procee
 goes_then = goes_by all_stay
 
 pub halts_then : (C : Counts) (P : Talk → Outside → Type 0) (t u : Talk) (a b c : Outside) → Proceeds t u a b → HaltsAt C P u b c → HaltsAt C P t a c
-halts_then C P t u a b c p q = record { rest = q.rest; goes = goes_by C t u q.rest a b c p q.goes; place = q.place }
+halts_then C P t u a b c p q = record { rest = q.rest; goes = goes_by C t u q.rest a b c p q.goes; point = q.point }
 
 pub breaks_then : (C : Counts) (t u : Talk) (a b c : Outside) → Proceeds t u a b → Breaks C u b c → Breaks C t a c
 breaks_then C t u a b c p q = record {
@@ -297,7 +297,7 @@ breaks_between t u a b p = record {
   goes = p;
   one = omega arith;
   follows = inl (stays u, silent_by b.wire.stream [] refl);
-  put = record { client = client_front all_stay [] b.client b.client (client_still b.client); wire = wire_front Stays [] b.wire b.wire (wire_still b.wire) };
+  put = record { client = client_prefix all_stay [] b.client b.client (client_still b.client); wire = wire_prefix Stays [] b.wire b.wire (wire_still b.wire) };
   reads = reads_still b.wire.stream;
 }
 
@@ -306,7 +306,7 @@ lacks_then C t u a b c p l = record { between = l.between; mid = l.mid; goes = g
 
 pub fails_then : (s : Stop) (t u : Talk) (a b c : Outside) → Proceeds t u a b → StopsBy s u b c → StopsBy s t a c
 unfolding lacks_then
-fails_then (stop.BadReply place) t u a b c p f = halts_then _ _ t u a b c p f
+fails_then (stop.BadReply offset) t u a b c p f = halts_then _ _ t u a b c p f
 fails_then stop.ReadFault t u a b c p f = (lacks_then _ t u a b c p f.0, f.1, λ h. f.2 (p.limit h))
 fails_then stop.TooLong t u a b c p f = (lacks_then _ t u a b c p f.0, f.1)
 fails_then stop.EntropyFault t u a b c p f = halts_then _ _ t u a b c p f

@@ -1,4 +1,4 @@
--- Replies that wait, without their places.
+-- Replies that wait, without their offsets.
 use Rattle.std.proofs.Common.{◌≡◌, ℕ, List, [], ◌∷◌, ◌++◌, refl, ◌∙◌, ap, subst}
 use Rattle.std.specs.Prelude.{map, flat_map, length, ◌+◌}
 use Rattle.ae_base.specs.declared.frames.FrameVersion.{FrameVersion}
@@ -8,7 +8,7 @@ use Rattle.wire_payloads.specs.declared.payloads.Payload.{Payload}
 use Rattle.wire_encoding.specs.Packing.{payload_frame, payloads_of}
 use Rattle.wire_encoding.proofs.Interface.{packed_replies}
 use Rattle.wire_frames.specs.Frames.{Placed, placed_from, placed_answer, spread}
-use Rattle.conversation.specs.Paths.{Event, Asked, Took, Strayed, Drew, Opened, Printed, Waits}
+use Rattle.conversation.specs.Paths.{Event, Asked, Took, GotUnexpected, Drew, Opened, Printed, Waits}
 use Rattle.script_run.specs.Shares.{Queue, Queues, messages_of, with_answer}
 
 messages_append : (xs ys : List (Placed Reply)) → messages_of (xs ++ ys) ≡ messages_of xs ++ messages_of ys
@@ -39,7 +39,7 @@ queues_wait version (Asked request replies ∷ events) old new h =
     (queues_wait version events (with_answer version old replies) new h)
 queues_wait version (Took reply ∷ events) old new h =
     (messages_of h.1, ap messages_of h.2, queues_wait version events (record { waiting = h.1; behind = old.behind }) new h.3)
-queues_wait version (Strayed next ∷ events) old new h = (h.0, queues_wait version events old new h.1)
+queues_wait version (GotUnexpected next ∷ events) old new h = (h.0, queues_wait version events old new h.1)
 queues_wait version (Drew bytes ∷ events) old new h = queues_wait version events old new h
 queues_wait version (Opened meta key ∷ events) old new h = queues_wait version events old new h
 queues_wait version (Printed comes ∷ events) old new h = queues_wait version events old new h

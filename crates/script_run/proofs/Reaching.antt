@@ -12,12 +12,12 @@ use Rattle.wire_messages.specs.declared.requests.Request.{Request}
 use Rattle.server_core.specs.Beside.{Beside, alone, serve_beside}
 use Rattle.server_core.specs.Serve.{serve}
 use Rattle.conversation.specs.Drive.{Passed, over}
-use Rattle.conversation.specs.Paths.{Event, Asked, Took, Strayed, Drew, Opened, Printed, Follows, taken_in, drawn_in, outcome_in, OpensAll}
+use Rattle.conversation.specs.Paths.{Event, Asked, Took, GotUnexpected, Drew, Opened, Printed, Follows, taken_in, drawn_in, outcome_in, OpensAll}
 use Rattle.conversation.specs.Talk.{Talk}
 use Rattle.conversation.proofs.Interface.{drawn_are_bytes}
 use Rattle.script_run.specs.Events.{stop_events}
 use Rattle.script_run.specs.Shares.{Counts, Outside, AreServed, AreServedBy, exchanges_of, messages_of}
-use Rattle.script_run.specs.Ways.{ProceedsBy, Breaks, StopsBy, unwritten}
+use Rattle.script_run.specs.Progress.{ProceedsBy, Breaks, StopsBy, unwritten}
 use Rattle.script_run.specs.declared.stops.Stop.{Stop}
 use Rattle.script_run.specs.declared.stops.Stop.TheVariants as stop
 use Rattle.script_run.proofs.Passing.{ahead, path_passes}
@@ -27,7 +27,7 @@ use Rattle.script_run.proofs.Unstreamed.{waits_from, lacks_after, breaks_follow,
 
 -- a server that is told so serves like this, and is told so after it
 abbrev pub ServesAs : {S : Type 0} → (S → Beside) → (S → Request → Served S) → Type 0
-ServesAs {S} told serving = (events : List Event) (s : S) (b : Beside) → AreServed events (told s) b → (v : S) × (b ≡ told v) × AreServedBy serving events s v
+ServesAs {S} exposed serving = (events : List Event) (s : S) (b : Beside) → AreServed events (exposed s) b → (v : S) × (b ≡ exposed v) × AreServedBy serving events s v
 
 -- others ask beside
 pub beside_serves : ServesAs (λ (b : Beside). b) serve_beside
@@ -43,19 +43,19 @@ alone_serves (Asked request replies ∷ events) s b h =
     let v = alone_serves events f.after b (subst (λ x. AreServed events x b) (sym e) h.2) in
     (v.0, v.1, (f.after, ap (λ w. record { replies = w; after = f.after }) r, v.2))
 alone_serves (Took reply ∷ events) s b h = alone_serves events s b h
-alone_serves (Strayed next ∷ events) s b h = alone_serves events s b h
+alone_serves (GotUnexpected next ∷ events) s b h = alone_serves events s b h
 alone_serves (Drew bytes ∷ events) s b h = alone_serves events s b h
 alone_serves (Opened meta key ∷ events) s b h = alone_serves events s b h
 alone_serves (Printed comes ∷ events) s b h = alone_serves events s b h
 
--- where it is told, so is the state behind some events
-pub served_so : {S : Type 0} (told : S → Beside) (serving : S → Request → Served S) → ServesAs told serving
-    → (events : List Event) (a b : Option Beside) (s : S) → a ≡ Some (told s) → WhereExposed (AreServed events) a b
-    → (v : S) × (b ≡ Some (told v)) × AreServedBy serving events s v
-served_so told serving serves events a (Some v) s e h =
+-- where it is exposed, so is the state after some events
+pub served_so : {S : Type 0} (exposed : S → Beside) (serving : S → Request → Served S) → ServesAs exposed serving
+    → (events : List Event) (a b : Option Beside) (s : S) → a ≡ Some (exposed s) → WhereExposed (AreServed events) a b
+    → (v : S) × (b ≡ Some (exposed v)) × AreServedBy serving events s v
+served_so exposed serving serves events a (Some v) s e h =
     let w = serves events s v (subst (λ x. WhereExposed (AreServed events) x (Some v)) e h) in
     (w.0, ap (λ (x : Beside). Some x) w.1, w.2)
-served_so told serving serves events a None s e h = let g : ⊥ = subst (λ x. WhereExposed (AreServed events) x None) e h in absurd g
+served_so exposed serving serves events a None s e h = let g : ⊥ = subst (λ x. WhereExposed (AreServed events) x None) e h in absurd g
 
 -- ---- what passes
 
@@ -91,15 +91,15 @@ module _ {S : Type 0} (serving : S → Request → Served S) (keys : KeyMap) (t 
   abbrev pub begins : (u : Talk) (events : List Event) (state : S) (left : List Reply) → Reached u events state left → Begins events
   begins u events state left r = record { bytes = r.bytes; rest = λ more. over serving keys u r.taken more state left; is = r.is }
 
-module _ {S : Type 0} (told : S → Beside) (serving : S → Request → Served S) (serves : ServesAs told serving)
-    (keys : KeyMap) (t : Talk) (from : S) (old : Outside) (st : Starts keys (told from) old) where
+module _ {S : Type 0} (exposed : S → Beside) (serving : S → Request → Served S) (serves : ServesAs exposed serving)
+    (keys : KeyMap) (t : Talk) (from : S) (old : Outside) (st : Starts keys (exposed from) old) where
   module _ (C : Counts) (u : Talk) (new : Outside) (g : ProceedsBy C t u old new) where
     abbrev left : List Reply
     left = messages_of new.wire.waiting
 
     -- the state that serves there
-    abbrev pub state_there : (v : S) × (new.wire.state ≡ Some (told v)) × AreServedBy serving g.events from v
-    state_there = served_so told serving serves g.events old.wire.state new.wire.state from st.state g.put.wire.state
+    abbrev pub state_there : (v : S) × (new.wire.state ≡ Some (exposed v)) × AreServedBy serving g.events from v
+    state_there = served_so exposed serving serves g.events old.wire.state new.wire.state from st.state g.put.wire.state
 
     pub reached : Reached serving keys t from u g.events state_there.0 left
     reached =
@@ -128,7 +128,7 @@ module _ {S : Type 0} (told : S → Beside) (serving : S → Request → Served 
       next [] after one f h = (still [], λ more. refl)
       next (Asked request replies ∷ []) after one f h =
           let r = state_there in
-          let w = served_so told serving serves (Asked request replies ∷ []) new.wire.state after r.0 r.1 h in (
+          let w = served_so exposed serving serves (Asked request replies ∷ []) new.wire.state after r.0 r.1 h in (
             λ more. over serving keys v (reached.taken + 0) more w.0 (left ++ replies),
             path_passes serving keys u v (Asked request replies ∷ []) f left (left ++ replies) refl tt r.0 w.0 w.2 reached.taken,
           )
@@ -137,7 +137,7 @@ module _ {S : Type 0} (told : S → Beside) (serving : S → Request → Served 
         path_passes serving keys u v (Printed comes ∷ []) f left left refl tt state_there.0 state_there.0 refl reached.taken,
       )
       next (Took reply ∷ []) after one f h = (still (Took reply ∷ []), λ more. refl)
-      next (Strayed other ∷ []) after one f h = (still (Strayed other ∷ []), λ more. refl)
+      next (GotUnexpected other ∷ []) after one f h = (still (GotUnexpected other ∷ []), λ more. refl)
       next (Drew bytes ∷ []) after one f h = (still (Drew bytes ∷ []), λ more. refl)
       next (Opened meta key ∷ []) after one f h = (still (Opened meta key ∷ []), λ more. refl)
       next (e ∷ d ∷ es) after one f h = absurd (omega arith)
@@ -167,7 +167,7 @@ module _ {S : Type 0} (told : S → Beside) (serving : S → Request → Served 
     breaks_begin C b = last_begins _ b.between b.mid b.goes b.rest b.last new.wire.state b.one (breaks_follow C t old new st.queue b) b.put.wire.state
 
     pub stops_begin : (why : Stop) (h : StopsBy why t old new) → Begins serving keys t from (stop_events why t old new h)
-    stops_begin (stop.BadReply place) h = goes_begin _ h.rest new h.goes
+    stops_begin (stop.BadReply offset) h = goes_begin _ h.rest new h.goes
     stops_begin stop.ReadFault h = absurd (never_unread _ _ (lacks_after _ t old new st.queue h.0) h.1)
     stops_begin stop.TooLong h = absurd (never_long _ _ (lacks_after _ t old new st.queue h.0) h.1)
     stops_begin stop.EntropyFault h = goes_begin _ h.rest new h.goes

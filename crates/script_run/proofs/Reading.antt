@@ -2,12 +2,12 @@
 use Rattle.std.proofs.Common.{◌≡◌, ℕ, ◌+◌, ◌≤◌, List, [], ◌∷◌, ◌++◌, Option, Some, None, length, length-append, inl, refl, sym, subst, ap, arith}
 use Rattle.ae_base.specs.declared.frames.FrameVersion.{FrameVersion}
 use Rattle.ae_edge.specs.Devices.{Calls, Device, IsPrefix, Removes}
-use Rattle.ae_edge.proofs.Interface.{removes_none, removes_then, told_map}
+use Rattle.ae_edge.proofs.Interface.{removes_none, removes_then, exposed_map}
 use Rattle.wire_messages.specs.declared.replies.Reply.{Reply}
 use Rattle.wire_encoding.specs.Packing.{payload_frame}
 use Rattle.conversation.specs.Paths.{Took}
 use Rattle.script_run.specs.Shares.{Anything, Comes, Passes, Queue, Standing, StaysOrRose, Stream, coming, coming_behind, standing_of}
-use Rattle.script_run.specs.Ways.{IsTooLong, IsWithin, Lacking, ReadsPrefix, most_stream_bytes}
+use Rattle.script_run.specs.Progress.{IsTooLong, IsWithin, Lacking, ReadsPrefix, most_stream_bytes}
 
 removes_held : (held : List ℕ) (left : Option (List ℕ)) → Removes held (coming_behind held left) left
 removes_held held (Some left) = refl
@@ -42,9 +42,9 @@ reads_still None = tt
 pub reads_same : (s t : Option Stream) → t ≡ s → ReadsPrefix s t
 reads_same s t e = subst (ReadsPrefix s) (sym e) (reads_still s)
 
--- these bytes were let go, and others are held
+-- these bytes were consumed, and others are held
 reads_gone : (s t : Stream) (gone : List ℕ) → Removes gone (coming s) (coming t) → t.at ≡ s.at + length gone → IsNear (Some t)
-    → (front : List ℕ) × Removes front (coming s) t.source.content × (s.at + length front ≤ most_stream_bytes + 1)
+    → (prefix : List ℕ) × Removes prefix (coming s) t.source.content × (s.at + length prefix ≤ most_stream_bytes + 1)
 reads_gone s t gone h a n =
     let l = length-append gone t.held in
     let m : t.at + length t.held ≤ most_stream_bytes + 1 = n in
@@ -64,7 +64,7 @@ gone_by : (frame : List ℕ) (more : List Reply) (old new : Standing) → Passes
 gone_by frame [] old new p = (frame, p.2, p.0)
 gone_by frame (reply ∷ more) old new p =
     let a = p.0 in
-    ([], told_map (λ x y. (y ≡ x) × IsPrefix frame x) (λ x y. x ≡ [] ++ y) (λ x y h. sym h.0) old.bytes new.bytes p.2, omega (arith, a))
+    ([], exposed_map (λ x y. (y ≡ x) × IsPrefix frame x) (λ x y. x ≡ [] ++ y) (λ x y h. sym h.0) old.bytes new.bytes p.2, omega (arith, a))
 
 pub reads_took : (C : ℕ → ℕ → Type 0) → ((m n : ℕ) → C m n → StaysOrRose m n)
     → (version : FrameVersion) (r : Reply) (s t : Option Stream) (a b : Queue) → Comes C version (Took r ∷ []) s t a b → (IsWithin s → IsNear t) → ReadsPrefix s t

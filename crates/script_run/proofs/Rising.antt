@@ -6,7 +6,7 @@ use Rattle.ae_edge.proofs.Interface.{rose_before}
 use Rattle.conversation.specs.Paths.{Event}
 use Rattle.conversation.specs.Talk.{Talk}
 use Rattle.script_run.specs.Shares.{Comes, Outside, Queue, Stream, queue_of}
-use Rattle.script_run.specs.Ways.{Breaks, StopsBy, off, printed_off, unwritten}
+use Rattle.script_run.specs.Progress.{Breaks, StopsBy, off, printed_off, unwritten}
 use Rattle.script_run.specs.declared.stops.Stop.TheVariants as stop
 
 -- of the output, or of the tap

@@ -7,21 +7,21 @@ use Rattle.conversation.specs.declared.sessions.Session.TheVariants.{Idle, Begun
 use Rattle.conversation.specs.Turns.{Accepted}
 use Rattle.conversation.specs.Talk.{Talk}
 use Rattle.driver.specs.Clients.{Client, columns_of, session_of}
-use Rattle.driver.specs.declared.outcomes.Outcome as told
+use Rattle.driver.specs.declared.outcomes.Outcome as of_driver
 use Rattle.column_rotate.specs.declared.rotations.Next.{Next}
 use Rattle.column_rotate.specs.declared.rotations.Next.TheVariants as next
 use Rattle.column_rotate.specs.declared.sent.Sent as sends
 use Rattle.column_rotate.specs.declared.sent.Sent.TheVariants as sent
 use Rattle.column_rotate.specs.Laws.{RotationsAreNext}
 use Rattle.column_rotate.specs.Moves.{Move, IsMove, move}
-use Rattle.column_rotate.specs.Rotating.{Ends, beginning, heard, moved, rotating, told_of}
+use Rattle.column_rotate.specs.Rotating.{Ends, beginning, heard, moved, rotating, driver_outcome}
 use Rattle.script_run.specs.Shares.{Outside}
-use Rattle.script_run.specs.Ways.{Proceeds}
+use Rattle.script_run.specs.Progress.{Proceeds}
 use Rattle.script_run.specs.Onward.{IsBlind}
 use Rattle.script_run.specs.Rotations.{standing, next_on}
 
 module _ (law : RotationsAreNext) (trusted : List (List ℕ)) (number : ℕ) (old new : List ℕ) (k : Ends) where
-  stands_moved : (s : sends.Sent) (columns : Accepted) (outcome : Option told.Outcome) (after : Session)
+  stands_moved : (s : sends.Sent) (columns : Accepted) (outcome : Option of_driver.Outcome) (after : Session)
       → standing trusted number old new k s columns outcome after ≡ moved trusted number old new k (move old new s columns outcome) (heard trusted number old new k) after
   stands_moved s columns None after = refl
   stands_moved s columns (Some comes) after = law trusted number old new k s columns comes after
@@ -32,7 +32,7 @@ module _ (law : RotationsAreNext) (trusted : List (List ℕ)) (number : ℕ) (ol
   moves_on (next.Finished count) s m after e = ap (λ w. moved trusted number old new k w (heard trusted number old new k) after) e
   moves_on (next.Failed fault) s m after e = ap (λ w. moved trusted number old new k w (heard trusted number old new k) after) e
 
-  pub stands_next : (result : Result Next AllocError) (s t : sends.Sent) (columns : Accepted) (outcome : Option told.Outcome) (after : Session)
+  pub stands_next : (result : Result Next AllocError) (s t : sends.Sent) (columns : Accepted) (outcome : Option of_driver.Outcome) (after : Session)
       → IfOk result (λ n. IsMove n t (move old new s columns outcome))
       → IfOk result (λ n. standing trusted number old new k s columns outcome after ≡ next_on trusted number old new k t n after)
   stands_next (Ok n) s t columns outcome after h = stands_moved s columns outcome after ∙ moves_on n t (move old new s columns outcome) after h
@@ -40,7 +40,7 @@ module _ (law : RotationsAreNext) (trusted : List (List ℕ)) (number : ℕ) (ol
 
 module _ (trusted : List (List ℕ)) (number : ℕ) (old new : List ℕ) (k : Ends) where
   -- where a batch was refused, the columns aren't looked at
-  pub heard_blind : (s : sends.Sent) → IsBlind (λ comes columns after. heard trusted number old new k s columns (told_of comes) after)
+  pub heard_blind : (s : sends.Sent) → IsBlind (λ comes columns after. heard trusted number old new k s columns (driver_outcome comes) after)
   heard_blind sent.Nothing f columns after = refl
   heard_blind sent.Begin f columns after = refl
   heard_blind sent.ReadNew f columns after = refl
@@ -61,7 +61,7 @@ module _ (trusted : List (List ℕ)) (number : ℕ) (old new : List ℕ) (k : En
 
 -- the machine's session and tables are the rotation's
 pub now_on : (trusted : List (List ℕ)) (number own : ℕ) (old from new into : List ℕ) (k : Ends) (client : Client) → own ≡ number → from ≡ old → into ≡ new
-    → (t : Talk) (x y : Outside) (s r : sends.Sent) (outcome : Option told.Outcome) (n m : Next) → n ≡ m
+    → (t : Talk) (x y : Outside) (s r : sends.Sent) (outcome : Option of_driver.Outcome) (n m : Next) → n ≡ m
     → Proceeds t (standing trusted number old new k s (columns_of client number) outcome (session_of client number)) x y
     → standing trusted own from into k s (columns_of client own) outcome (session_of client number) ≡ next_on trusted own from into k r n (session_of client number)
     → Proceeds t (next_on trusted number old new k r m (session_of client number)) x y

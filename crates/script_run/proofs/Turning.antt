@@ -13,7 +13,7 @@ use Rattle.conversation.specs.declared.sessions.Session.{Session}
 use Rattle.conversation.specs.declared.sessions.Session.TheVariants.{Idle, Begun, Pending, Sent, Reading, Skipping}
 use Rattle.conversation.specs.declared.sessions.Turn.{Turn}
 use Rattle.conversation.specs.Batches.{fit_batch}
-use Rattle.conversation.specs.Pending as told
+use Rattle.conversation.specs.Pending as pendings
 use Rattle.conversation.specs.Pending.{uses_of}
 use Rattle.conversation.specs.Sessions.{begin, begun, described_params}
 use Rattle.conversation.specs.Talk.{Talk, Prints, Heard, Said, nothing_shown}
@@ -22,7 +22,7 @@ use Rattle.ae_edge.specs.Vaults.{KeyMap}
 use Rattle.driver.specs.Accepted.{accepted_begun}
 use Rattle.driver.specs.Clients.{Client, columns_of, session_of}
 use Rattle.script_run.specs.Shares.{Outside}
-use Rattle.script_run.specs.Ways.{Proceeds, Advances}
+use Rattle.script_run.specs.Progress.{Proceeds, Advances}
 use Rattle.script_run.specs.declared.stops.Stop.{Stop}
 use Rattle.script_run.proofs.Going.{leads_then}
 use Rattle.script_run.specs.declared.turns.Described.{Described}
@@ -142,13 +142,13 @@ pub begins : (session : Session) (number : ℕ) (batch : Batch) (answer : Result
 begins session number batch answer after e = subst Asks e (begin_asks session number batch)
 
 -- a batch that is refused leaves nothing pending
-pub pending_idle : (ready : told.Pending → Talk) (k : Session → Talk) (after : Session) → after ≡ Idle → pending_on ready k after ≡ k after
+pub pending_idle : (ready : pendings.Pending → Talk) (k : Session → Talk) (after : Session) → after ≡ Idle → pending_on ready k after ≡ k after
 pending_idle ready k after e = rw e refl
 
 -- ---- what is pending, once it was described
 
 module _ (after : Session) (params : List DescribedParam) (r : IsReady after (described.Ready params)) (t : Talk) (x y z : Outside) where
-  pending_ready : (ready : told.Pending → Talk) (k : Session → Talk) → pending_on ready k after ≡ ready r.0
+  pending_ready : (ready : pendings.Pending → Talk) (k : Session → Talk) → pending_on ready k after ≡ ready r.0
   pending_ready ready k = let e = r.1 in rw e refl
 
   pub then_executed : (aloud : Bool) (k : Onward) (rest : Session → Talk) (trusted : List (List ℕ)) (number : ℕ) (result : Result Outcome Stop) (on : Outcome → Talk)
@@ -157,10 +157,10 @@ module _ (after : Session) (params : List DescribedParam) (r : IsReady after (de
       leads_then result t (executing aloud trusted number after k) on x y z
       (subst (λ w. Proceeds t w x y) (pending_ready (λ p. executing aloud trusted number (Pending p) k) rest ∙ ap (λ w. executing aloud trusted number w k) (sym r.1)) g) h
 
-  pub then_told : (k rest : Session → Talk) (result : Result (Unit {0}) Stop) (on : Talk)
+  pub then_exposed : (k rest : Session → Talk) (result : Result (Unit {0}) Stop) (on : Talk)
       → Proceeds t (pending_on (λ p. Prints (outcome.Described (described_params p.keys (uses_of p))) (k (Pending p))) rest after) x y
       → Advances result (Prints (outcome.Described params) (k after)) (λ o. on) y z → Advances result t (λ o. on) x z
-  then_told k rest result on g h =
+  then_exposed k rest result on g h =
       leads_then result t (Prints (outcome.Described params) (k after)) (λ o. on) x y z
       (subst (λ w. Proceeds t w x y)
       (pending_ready (λ p. Prints (outcome.Described (described_params p.keys (uses_of p))) (k (Pending p))) rest

@@ -18,12 +18,12 @@ rotated_as (Ok count) = Rotated count
 rotated_as (Err fault) = fault_as fault
 
 module _ (trusted : List (List ℕ)) (number : ℕ) (old new : List ℕ) (k : Ends) where
-  -- behind the outcome of the batch that was sent last; without one it begins
+  -- after the outcome of the batch that was sent last; without one it begins
   abbrev pub standing : Sent → Accepted → Option Outcome → Session → Talk
   standing sent columns None after = beginning trusted number old new k after
   standing sent columns (Some comes) after = heard trusted number old new k sent columns comes after
 
-  -- a batch is run, and it goes on behind that one's outcome; or it has ended
+  -- a batch is run, and it goes on after that one's outcome; or it has ended
   abbrev pub next_on : Sent → Next → Session → Talk
   next_on sent (next.Send batch) after = runs trusted number old new k batch after (heard trusted number old new k sent)
   next_on sent (next.Finished count) after = k (rotated_as (Ok count)) after

@@ -14,7 +14,7 @@ use Rattle.wire_encoding.specs.Spelling.{request_frame}
 use Rattle.wire_frames.specs.Frames.{Placed, placed_answer}
 use Rattle.server_core.specs.Beside.{Beside, serve_beside}
 use Rattle.conversation.specs.Devices.{Devices}
-use Rattle.conversation.specs.Paths.{Event, Asked, Took, Strayed, Drew, Opened, Printed, next_of, replies_to, taken_in, drawn_in, outcome_in, OpensAll}
+use Rattle.conversation.specs.Paths.{Event, Asked, Took, GotUnexpected, Drew, Opened, Printed, next_of, replies_to, taken_in, drawn_in, outcome_in, OpensAll}
 use Rattle.outcome_text.specs.Counting.{counted}
 use Rattle.outcome_text.specs.Printing.{printed_outcome}
 use Rattle.outcome_text.specs.declared.tallies.Tally.{Tally}
@@ -34,7 +34,7 @@ devices_of d = record { entropy = d.entropy; vault = d.vault }
 abbrev pub with_devices : ClientSide → Devices → ClientSide
 with_devices d x = record d { entropy = x.entropy; vault = x.vault }
 
--- Replies that come as bytes: the place of the frame that stands first, how many of its replies were taken, the bytes that are held from
+-- Replies that come as bytes: the offset of the frame that stands first, how many of its replies were taken, the bytes that are held from
 -- there on, and the source of those that are left.
 pub record Stream : Type 0 where
   pub at : ℕ
@@ -43,8 +43,8 @@ pub record Stream : Type 0 where
   pub source : Device (List ℕ)
 
 -- The other side: the tap, and whether it is closed; what was asked and answered and the server and what others ask of it, where they are
--- told, and what else is lent; the version in which all is spelled; the replies that wait, each with the place of its frame, and the place
--- behind the frames of all that came; or the stream as which they come; and how many replies were taken.
+-- told, and what else is lent; the version in which all is spelled; the replies that wait, each with the offset of its frame, and the offset
+-- after the frames of all that came; or the stream as which they come; and how many replies were taken.
 pub record Wire : Type 0 where
   pub tap : Device (List ℕ)
   pub closed : Bool
@@ -88,7 +88,7 @@ abbrev pub AreServedBy : {State : Type 0} → (State → Request → Served Stat
 AreServedBy serving [] old new = new ≡ old
 AreServedBy {State} serving (Asked request replies ∷ events) old new = (next : State) × (serving old request ≡ record { replies = replies; after = next }) × AreServedBy serving events next new
 AreServedBy serving (Took reply ∷ events) old new = AreServedBy serving events old new
-AreServedBy serving (Strayed next ∷ events) old new = AreServedBy serving events old new
+AreServedBy serving (GotUnexpected next ∷ events) old new = AreServedBy serving events old new
 AreServedBy serving (Drew bytes ∷ events) old new = AreServedBy serving events old new
 AreServedBy serving (Opened meta key ∷ events) old new = AreServedBy serving events old new
 AreServedBy serving (Printed comes ∷ events) old new = AreServedBy serving events old new
@@ -115,7 +115,7 @@ StaysOrRose old new = Stays old new ⊎ Rose old new
 abbrev pub all_stay : Counts
 all_stay = record { out = Stays; entropy = Stays; vault = Stays; tap = Stays; replies = Stays }
 
--- ---- what was put: whole, or a front of it
+-- ---- what was written: whole, or a prefix of it
 
 abbrev pub Puts : Type 1
 Puts = List ℕ → Option (List ℕ) → Option (List ℕ) → Type 0
@@ -140,11 +140,11 @@ pub record HasPut (P : Puts) (C : Counts) (events : List Event) (old new : Outsi
 
 -- ---- replies that wait
 
--- the replies, without their places
+-- the replies, without their offsets
 abbrev pub messages_of : List (Placed Reply) → List Reply
 messages_of placed = map (λ p. p.message) placed
 
--- those that wait, and the place behind the frames of all that came
+-- those that wait, and the offset after the frames of all that came
 pub record Queue : Type 0 where
   pub waiting : List (Placed Reply)
   pub behind : ℕ
@@ -162,14 +162,14 @@ Queues version [] old new = new ≡ old
 Queues version (Asked request replies ∷ events) old new = Queues version events (with_answer version old replies) new
 Queues version (Took reply ∷ events) old new =
     (at : ℕ) × (rest : List (Placed Reply)) × (old.waiting ≡ record { at = at; message = reply } ∷ rest) × Queues version events (record { waiting = rest; behind = old.behind }) new
-Queues version (Strayed next ∷ events) old new = (next_of (messages_of old.waiting) ≡ next) × Queues version events old new
+Queues version (GotUnexpected next ∷ events) old new = (next_of (messages_of old.waiting) ≡ next) × Queues version events old new
 Queues version (Drew bytes ∷ events) old new = Queues version events old new
 Queues version (Opened meta key ∷ events) old new = Queues version events old new
 Queues version (Printed comes ∷ events) old new = Queues version events old new
 
 -- ---- replies that come as bytes
 
--- all bytes that are to come, where they are told
+-- all bytes that are to come, where they are exposed
 abbrev pub coming_behind : List ℕ → Option (List ℕ) → Option (List ℕ)
 coming_behind held (Some left) = Some (held ++ left)
 coming_behind held None = None
@@ -177,7 +177,7 @@ coming_behind held None = None
 abbrev pub coming : Stream → Option (List ℕ)
 coming s = coming_behind s.held s.source.content
 
--- the place of the frame that stands first, how many of its replies were taken, and all bytes from there on
+-- the offset of the frame that stands first, how many of its replies were taken, and all bytes from there on
 pub record Standing : Type 0 where
   pub at : ℕ
   pub skipped : ℕ
@@ -200,7 +200,7 @@ abbrev pub IsNext : FrameVersion → Option Reply → ℕ → List ℕ → Type 
 IsNext version (Some reply) skipped bytes = Begins version reply skipped bytes
 IsNext version None skipped bytes = (reply : Reply) → ¬ Begins version reply skipped bytes
 
--- behind the last reply of a frame the next frame stands first
+-- after the last reply of a frame the next frame stands first
 abbrev pub Passes : List ℕ → List Reply → Standing → Standing → Type 0
 Passes frame [] old new = (new.at ≡ old.at + length frame) × (new.skipped ≡ 0) × WhereExposed (λ before after. before ≡ frame ++ after) old.bytes new.bytes
 Passes frame (reply ∷ more) old new = (new.at ≡ old.at) × (new.skipped ≡ old.skipped + 1) × WhereExposed (λ before after. (after ≡ before) × IsPrefix frame before) old.bytes new.bytes
@@ -217,7 +217,7 @@ pub record Takes (version : FrameVersion) (reply : Reply) (old new : Standing) :
 abbrev pub Streams : FrameVersion → List Event → Standing → Standing → Type 0
 Streams version [] old new = new ≡ old
 Streams version (Took reply ∷ events) old new = (mid : Standing) × Takes version reply old mid × Streams version events mid new
-Streams version (Strayed next ∷ events) old new = IfSome old.bytes (IsNext version next old.skipped) × Streams version events old new
+Streams version (GotUnexpected next ∷ events) old new = IfSome old.bytes (IsNext version next old.skipped) × Streams version events old new
 Streams version (Asked request replies ∷ events) old new = Streams version events old new
 Streams version (Drew bytes ∷ events) old new = Streams version events old new
 Streams version (Opened meta key ∷ events) old new = Streams version events old new
@@ -244,16 +244,16 @@ pub record HasRead (C : Counts) (events : List Event) (old new : Outside) : Type
   pub tally : new.client.tally ≡ counted events old.client.tally
   pub wire : WireRead C.replies events old.wire new.wire
 
--- ---- the place of the next reply
+-- ---- the offset of the next reply
 
-abbrev pub first_place : List (Placed Reply) → ℕ → ℕ
-first_place [] behind = behind
-first_place (p ∷ ps) behind = p.at
+abbrev pub first_offset : List (Placed Reply) → ℕ → ℕ
+first_offset [] behind = behind
+first_offset (p ∷ ps) behind = p.at
 
-abbrev pub place_on : Option Stream → List (Placed Reply) → ℕ → ℕ
-place_on None waiting behind = first_place waiting behind
-place_on (Some s) waiting behind = s.at
+abbrev pub offset_on : Option Stream → List (Placed Reply) → ℕ → ℕ
+offset_on None waiting behind = first_offset waiting behind
+offset_on (Some s) waiting behind = s.at
 
--- the place of its frame, or where the next frame would begin
-abbrev pub place_of : Wire → ℕ
-place_of w = place_on w.stream w.waiting w.behind
+-- the offset of its frame, or where the next frame would begin
+abbrev pub offset_of : Wire → ℕ
+offset_of w = offset_on w.stream w.waiting w.behind

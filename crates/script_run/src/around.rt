@@ -11,8 +11,8 @@ ghost use Rattle.conversation.specs.Turns.{Onward};
 ghost use Rattle.driver.specs.Clients.{IsOfVault, columns_of, session_of};
 ghost use Rattle.script_run.specs.Closing.{closed_as};
 ghost use Rattle.script_run.specs.Shares.{Outside};
-ghost use Rattle.script_run.specs.Ways.{IsReadOut, Advances};
-ghost use Rattle.script_run.specs.Onward.{IsBegun, IsRows, IsDescribed, Keeps, Leaves, RowsStay, shown_first, said_first, told_on, first_on, row_on};
+ghost use Rattle.script_run.specs.Progress.{IsReadOut, Advances};
+ghost use Rattle.script_run.specs.Onward.{IsBegun, IsRows, IsDescribed, Keeps, Leaves, RowsStay, shown_first, said_first, description_on, first_on, row_on};
 
 use crate::stops::Stop;
 use ae_base::sessions::SessionId;
@@ -23,10 +23,10 @@ use driver::Driver;
 use std::alloc::Global;
 use wire_messages::requests::Request;
 
-/// What a reply says while rows are awaited.
+/// What a reply says while rows are expected.
 #[derive(Drop)]
 pub enum RowHeard {
-    /// More is awaited.
+    /// More is expected.
     More,
     /// That is all.
     Said(Option<Outcome>),
@@ -37,7 +37,7 @@ pub enum RowHeard {
 pub trait Around {
     ghost outside: { Self → Outside };
 
-    /// What holds of it at its end, besides what is told.
+    /// What holds of it at its end, besides what is exposed.
     ghost is_ended: { Self → Type 0 };
 
     /// Asks a request.
@@ -94,7 +94,8 @@ pub trait Around {
         requires of_vault { IsOfVault (outside self.old).client.vault.content driver.old }
         ensures leads { (aloud : Bool) (f : Heard → Talk) → Advances result
             (turns.hearing aloud (session_of driver.old number) nothing_shown f)
-            (told_on f (session_of driver.new number)) (outside self.old) (outside self.new) }
+            (description_on f (session_of driver.new number)) (outside self.old)
+            (outside self.new) }
         ensures described { IfOk result
             (λ answer. IsDescribed answer (session_of driver.new number)) }
         ensures keeps { IfOk result
@@ -120,7 +121,8 @@ pub trait Around {
         ensures leaves { IfOk result
             (λ _. Leaves number driver.old driver.new (outside self.new).client.vault.content) };
 
-    /// Hears one more reply where rows are awaited. Aloud, a listing that breaks off is printed.
+    /// Receives one more reply while rows are expected. Aloud, a listing that breaks off is
+    /// printed.
     fn hear_row(
         &mut self,
         alloc: Global,

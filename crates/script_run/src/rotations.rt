@@ -1,4 +1,4 @@
-//! The rotation of a table: its batches are run quietly, and it comes to one outcome.
+//! The rotation of a table: its batches are run quietly, and it has one outcome.
 
 ghost use Rattle.std.specs.Prelude.{◌≡◌, ℕ, List, IfOk};
 ghost use Rattle.column_rotate.specs.Rotating as rotating_as;
@@ -9,7 +9,7 @@ ghost use Rattle.conversation.specs.declared.outcomes.Listing as listings;
 ghost use Rattle.conversation.specs.declared.outcomes.Outcome.TheVariants as outcome_of;
 ghost use Rattle.conversation.specs.declared.sessions.Session.{Session};
 ghost use Rattle.driver.specs.Clients.{IsOfVault, columns_of, session_of};
-ghost use Rattle.script_run.specs.Ways.{Advances};
+ghost use Rattle.script_run.specs.Progress.{Advances};
 ghost use Rattle.script_run.specs.Onward.{Leaves};
 ghost use Rattle.script_run.specs.Rotations.{rotated_as, standing, next_on};
 
@@ -27,10 +27,10 @@ use conversation::outcomes::Outcome;
 use driver::{Driver, Fault};
 use std::alloc::{AllocError, Global};
 
-/// An answer that broke off, as the driver tells it.
-fn told_broken(fault: Option<DriverFault>) -> driver::Outcome
+/// An answer that broke off, as the driver gives it.
+fn driver_broken(fault: Option<DriverFault>) -> driver::Outcome
     ensures { (shown : listings.Listing)
-        → result ≡ rotating_as.told_of (outcome_of.Broken shown fault) }
+        → result ≡ rotating_as.driver_outcome (outcome_of.Broken shown fault) }
 {
     match fault {
         Some(fault) => driver::Outcome::Refused(Fault::OfDriver(fault)),
@@ -38,13 +38,13 @@ fn told_broken(fault: Option<DriverFault>) -> driver::Outcome
     }
 }
 
-/// The outcome of a batch, as the driver tells it.
-fn told_of(outcome: Outcome) -> driver::Outcome
-    ensures { result ≡ rotating_as.told_of outcome }
+/// The outcome of a batch, as the driver gives it.
+fn driver_outcome(outcome: Outcome) -> driver::Outcome
+    ensures { result ≡ rotating_as.driver_outcome outcome }
 {
     match outcome {
         Outcome::Rows(shown) => driver::Outcome::Rows(shown.rows),
-        Outcome::Broken(_, fault) => told_broken(fault),
+        Outcome::Broken(_, fault) => driver_broken(fault),
         Outcome::Changed(count) => driver::Outcome::Changed(count),
         Outcome::Defined | Outcome::Rotated(_) | Outcome::Described(_) => driver::Outcome::Defined,
         Outcome::Refused(fault) => driver::Outcome::Refused(Fault::OfServer(fault)),
@@ -122,7 +122,7 @@ pub(crate) fn run_rotation<A: Around>(
             Err(_) => return Err(Stop::OutOfMemory),
         };
         outcome = match run(alloc, env, driver, number, false, batch) {
-            Ok(outcome) => Some(told_of(outcome)),
+            Ok(outcome) => Some(driver_outcome(outcome)),
             Err(stop) => return Err(stop),
         };
     }

@@ -6,7 +6,7 @@ use std::alloc::AllocError;
 /// Why a conversation is followed no further.
 #[derive(Clone, Copy, PartialEq, Eq, Debug)]
 pub enum Stop {
-    /// The reply at this place among the bytes of the reply frames isn't awaited.
+    /// The reply at this offset of the reply frames is unexpected.
     BadReply(u64),
     /// The replies couldn't be read.
     ReadFault,
@@ -16,7 +16,7 @@ pub enum Stop {
     EntropyFault,
     /// The vault failed.
     VaultFault,
-    /// The text or the tap couldn't be put.
+    /// The text or the tap couldn't be written.
     WriteFault,
     OutOfMemory,
 }

@@ -2,7 +2,7 @@
 //! batch is run aloud, where its outcome is printed, or quietly; it gives its outcome back.
 
 ghost use Rattle.std.specs.Prelude.{◌≡◌, Some, None, IfOk, true};
-ghost use Rattle.conversation.specs.Pending as told;
+ghost use Rattle.conversation.specs.Pending as pendings;
 ghost use Rattle.conversation.specs.Talk.{Talk, Asks, Prints, Heard, Said, nothing_shown};
 ghost use Rattle.conversation.specs.Turns as turns;
 ghost use Rattle.conversation.specs.Turns.{Onward};
@@ -11,7 +11,7 @@ ghost use Rattle.conversation.specs.declared.outcomes.Outcome.TheVariants as out
 ghost use Rattle.conversation.specs.declared.sessions.Session.{Session};
 ghost use Rattle.conversation.specs.declared.sessions.Session.TheVariants.{Sent};
 ghost use Rattle.driver.specs.Clients.{IsOfVault, columns_of, session_of};
-ghost use Rattle.script_run.specs.Ways.{Advances};
+ghost use Rattle.script_run.specs.Progress.{Advances};
 ghost use Rattle.script_run.specs.declared.turns.Described.TheVariants as described_as;
 ghost use Rattle.script_run.specs.Onward.{IsBegun, IsBlind, IsCleared, IsRows, IsReady, Keeps, Leaves, LooksAside, SaysThen, ready_on};
 
@@ -60,7 +60,7 @@ fn say<A: Around>(
     }
 }
 
-/// Says what was heard, where that is an outcome.
+/// Prints what was received, if that is an outcome.
 fn say_heard<A: Around>(
     alloc: Global,
     env: &mut A,
@@ -141,7 +141,7 @@ fn nothing_shown(alloc: Global) -> Listing
     }
 }
 
-/// Hears to its end what is left of an answer that is no longer read, and gives its outcome back.
+/// Receives the rest of an answer that is no longer read, and gives its outcome back.
 fn rest<A: Around>(
     alloc: Global,
     env: &mut A,
@@ -167,7 +167,7 @@ fn rest<A: Around>(
     }
 }
 
-/// Hears the rows of an answer, and what is left of it.
+/// Receives the rows of an answer, and the rest of it.
 fn read<A: Around>(
     alloc: Global,
     env: &mut A,
@@ -191,7 +191,7 @@ fn read<A: Around>(
     }
 }
 
-/// Says a fault of the driver; then what is left of the answer is heard.
+/// Prints a fault of the driver; then the rest of the answer is received.
 fn say_and_rest<A: Around>(
     alloc: Global,
     env: &mut A,
@@ -313,7 +313,8 @@ fn refused<A: Around>(
     aloud: bool,
     outcome: Outcome,
 ) -> Result<Described, Stop>
-    ensures leads { (ready : told.Pending → Talk) (k : Onward) (after : Session) → Advances result
+    ensures leads { (ready : pendings.Pending → Talk) (k : Onward) (after : Session)
+        → Advances result
         (turns.saying aloud (Some outcome) (k outcome None after)) (ready_on ready k after)
         (A.outside env.old) (A.outside env.new) }
     ensures refused { IfOk result (λ described. described ≡ described_as.Refused outcome) }
@@ -337,7 +338,7 @@ fn hear_description<A: Around>(
 ) -> Result<Described, Stop>
     requires begun { IsBegun (session_of driver.old number) }
     requires of_vault { IsOfVault (A.outside env.old).client.vault.content driver.old }
-    ensures leads { (ready : told.Pending → Talk) (k : Onward) → Advances result
+    ensures leads { (ready : pendings.Pending → Talk) (k : Onward) → Advances result
         (turns.hearing aloud (session_of driver.old number) nothing_shown
         (turns.described_on aloud ready k))
         (ready_on ready k (session_of driver.new number)) (A.outside env.old) (A.outside env.new) }
@@ -365,7 +366,7 @@ fn ask_description<A: Around>(
     requires begun { IfOk answer (λ request. IsBegun (session_of driver.old number)) }
     requires columns { IfOk answer (λ request. columns_of driver.old number ≡ None) }
     requires of_vault { IsOfVault (A.outside env.old).client.vault.content driver.old }
-    ensures leads { (ready : told.Pending → Talk) (k : Onward) → Advances result
+    ensures leads { (ready : pendings.Pending → Talk) (k : Onward) → Advances result
         (turns.asked aloud (λ after. turns.hearing aloud after nothing_shown
         (turns.described_on aloud ready k)) k answer.entry (session_of driver.old number))
         (ready_on ready k (session_of driver.new number)) (A.outside env.old) (A.outside env.new) }
@@ -393,7 +394,7 @@ fn describe<A: Around>(
     batch: Batch,
 ) -> Result<Described, Stop>
     requires { IsOfVault (A.outside env.old).client.vault.content driver.old }
-    ensures leads { (ready : told.Pending → Talk) (k : Onward) → Advances result
+    ensures leads { (ready : pendings.Pending → Talk) (k : Onward) → Advances result
         (turns.describing aloud number batch (session_of driver.old number) ready k)
         (ready_on ready k (session_of driver.new number)) (A.outside env.old) (A.outside env.new) }
     ensures ready { IfOk result (IsReady (session_of driver.new number)) }

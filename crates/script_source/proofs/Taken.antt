@@ -4,7 +4,7 @@ use Rattle.ae_edge.specs.Devices.{Calls, Device, Stays, WhereExposed}
 use Rattle.ae_edge.specs.Streams.{CountsRead, Reads, ReadsAll}
 use Rattle.ae_edge.specs.declared.streams.ReadError.{ReadError}
 use Rattle.ae_edge.specs.declared.streams.ReadError.TheVariants as read
-use Rattle.ae_edge.proofs.Interface.{some_bytes, told_map, too_many_bytes, whole_bytes}
+use Rattle.ae_edge.proofs.Interface.{some_bytes, exposed_map, too_many_bytes, whole_bytes}
 use Rattle.script_lang.specs.declared.steps.Step.{Step}
 use Rattle.script_source.specs.Scripts.{CountsScript, ReadsScript, TakesScript, most_script_bytes, unread_of}
 use Rattle.script_source.specs.declared.Unread.{Unread}
@@ -32,10 +32,10 @@ pub reads_whole : (r : Result (List Step) Unread) (bytes : List ℕ) (old new : 
     → Reads (ReadsScript r) (TakesScript r) (CountsScript r) old new
 reads_whole r bytes old new f w call reads = record {
   bytes = bytes;
-  told = whole_bytes most_script_bytes old.content new.content bytes call.content;
+  exposed = whole_bytes most_script_bytes old.content new.content bytes call.content;
   holds = reads;
   taken = record {
-    content = told_map (ReadsAll most_script_bytes (Ok bytes)) (TakesScript r) (λ x y p. takes r bytes x y f w p) old.content new.content call.content;
+    content = exposed_map (ReadsAll most_script_bytes (Ok bytes)) (TakesScript r) (λ x y p. takes r bytes x y f w p) old.content new.content call.content;
     count = call.count;
     counts = counts r old.faults new.faults f call.counts;
     same = call.same;
@@ -47,6 +47,6 @@ pub unread_so : (e : ReadError) (old new : Device (List ℕ)) → Calls (WhereEx
     → Reads (ReadsScript (Err (unread_of e))) (TakesScript {A = List Step} (Err (unread_of e))) (CountsScript {A = List Step} (Err (unread_of e))) old new
 unread_so read.TooLong old new call =
     let t = too_many_bytes most_script_bytes old.content new.content call.content in
-    record { bytes = t.0; told = t.1; holds = t.2; taken = call }
-unread_so read.Failed old new call = let t = some_bytes old.content in record { bytes = t.0; told = t.1; holds = tt; taken = call }
-unread_so read.OutOfMemory old new call = let t = some_bytes old.content in record { bytes = t.0; told = t.1; holds = tt; taken = call }
+    record { bytes = t.0; exposed = t.1; holds = t.2; taken = call }
+unread_so read.Failed old new call = let t = some_bytes old.content in record { bytes = t.0; exposed = t.1; holds = tt; taken = call }
+unread_so read.OutOfMemory old new call = let t = some_bytes old.content in record { bytes = t.0; exposed = t.1; holds = tt; taken = call }

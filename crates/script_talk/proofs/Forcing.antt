@@ -54,17 +54,17 @@ open_same forced (p ∷ ps) (q ∷ qs) h (enc ∷ encs) =
 open_same forced [] (q ∷ qs) h encs = absurd h
 open_same forced (p ∷ ps) [] h encs = absurd h
 
-pub told_same : (forced : List (List ℕ)) (metas : List KeyMeta) (ps qs : List Param) → Differ forced ps qs
+pub exposed_same : (forced : List (List ℕ)) (metas : List KeyMeta) (ps qs : List Param) → Differ forced ps qs
     → (encs : List (Option Enc)) → described_params metas (uses_in qs encs) ≡ described_params metas (uses_in ps encs)
-told_same forced metas [] [] h encs = refl
-told_same forced metas (p ∷ ps) (q ∷ qs) h [] = refl
-told_same forced metas (p ∷ ps) (q ∷ qs) h (None ∷ encs) = told_same forced metas ps qs h.1 encs
-told_same forced metas (p ∷ ps) (q ∷ qs) h (Some enc ∷ encs) =
+exposed_same forced metas [] [] h encs = refl
+exposed_same forced metas (p ∷ ps) (q ∷ qs) h [] = refl
+exposed_same forced metas (p ∷ ps) (q ∷ qs) h (None ∷ encs) = exposed_same forced metas ps qs h.1 encs
+exposed_same forced metas (p ∷ ps) (q ∷ qs) h (Some enc ∷ encs) =
     let d = h.0.0 in
-    let r = told_same forced metas ps qs h.1 encs in
+    let r = exposed_same forced metas ps qs h.1 encs in
     rw (d, r) refl
-told_same forced metas [] (q ∷ qs) h encs = absurd h
-told_same forced metas (p ∷ ps) [] h encs = absurd h
+exposed_same forced metas [] (q ∷ qs) h encs = absurd h
+exposed_same forced metas (p ∷ ps) [] h encs = absurd h
 
 -- ---- values that fit
 

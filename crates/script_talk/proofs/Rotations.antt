@@ -21,9 +21,9 @@ use Rattle.conversation.specs.declared.sessions.Session.TheVariants as session
 use Rattle.driver.specs.declared.outcomes.Fault.{Fault}
 use Rattle.driver.specs.declared.outcomes.Fault.TheVariants.{OfDriver}
 use Rattle.driver.specs.declared.outcomes.Outcome.{Outcome}
-use Rattle.driver.specs.declared.outcomes.Outcome.TheVariants as told
+use Rattle.driver.specs.declared.outcomes.Outcome.TheVariants as of_driver
 use Rattle.column_rotate.specs.Headers.{are_alike, columns_in}
-use Rattle.column_rotate.specs.Moves.{is_empty, rows_told}
+use Rattle.column_rotate.specs.Moves.{is_empty, outcome_rows}
 use Rattle.column_rotate.specs.Rotating.{
   Ends,
   beginning,
@@ -38,7 +38,7 @@ use Rattle.column_rotate.specs.Rotating.{
   rolling_back,
   rotating,
   runs,
-  told_of,
+  driver_outcome,
   unless_refused,
 }
 use Rattle.column_rotate.specs.Texts.{begins, commits, puts, reads_all, replaces, rolls_back}
@@ -64,8 +64,8 @@ sent_same keys paths forced none _ _ _ _ (is_sent p q ps qs s t sent others h re
     ap (λ x. x ∷ others) same ∙ ap (λ more. s ∷ more) (sent_same keys paths forced none ps qs sent others rest)
 
 executed_same : (keys : KeyMap) (paths : List (List ℕ)) (pair : Pair) → pair.batch.forced ≡ [] → (r s : Request) → ExecutesAlike keys paths pair r s → s ≡ r
-executed_same keys paths pair none (request.Execute number version text params) (request.Execute n v t others) (one, two, is, same, told, alike) =
-    ap (λ m. request.Execute m v t others) (two ∙ sym one) ∙ ap (λ u. request.Execute number u t others) told ∙ ap (λ x. request.Execute number version x others) same
+executed_same keys paths pair none (request.Execute number version text params) (request.Execute n v t others) (one, two, is, same, known, alike) =
+    ap (λ m. request.Execute m v t others) (two ∙ sym one) ∙ ap (λ u. request.Execute number u t others) known ∙ ap (λ x. request.Execute number version x others) same
     ∙ ap (request.Execute number version text) (sent_same keys paths pair.batch.forced none pair.batch.params pair.other.params params others alike)
 executed_same keys paths pair none r s h = absurd h
 
@@ -99,21 +99,21 @@ module _ (below : CellLaws) (keys : KeyMap) (Pairs : Request → Request → Typ
       → Leads (λ s. runs paths number old new k batch s (f k)) (λ s. runs paths number old new j batch s (f j))
   runs_goes batch of none f h =
       let pair : Pair = record { session = number; batch = batch; other = batch } in
-      let onward : Ends → Onward = λ e comes columns after. f e columns (told_of comes) after in
+      let onward : Ends → Onward = λ e comes columns after. f e columns (driver_outcome comes) after in
       let asked : (r s : Request) → IsAskedAlike keys paths (pair ∷ []) number r s → Pairs r s = λ r s a. asked_so r s (batch, of, a, asked_same keys paths pair number none r s a) in
       let same : Session → Session → Type 0 = λ s t. (t ≡ s) × IsFree s in
       let onwards : (comes : printed.Outcome) (columns : Accepted) (s t : Session) → (t ≡ s) × IsFree s → Good keys Pairs (onward k comes columns s) (onward j comes columns t) =
-      λ comes columns s t e. subst (λ x. Good keys Pairs (onward k comes columns s) (onward j comes columns x)) (sym e.0) (h columns (told_of comes) s e.1) in
+      λ comes columns s t e. subst (λ x. Good keys Pairs (onward k comes columns s) (onward j comes columns x)) (sym e.0) (h columns (driver_outcome comes) s e.1) in
       free_begins below keys Pairs paths (pair ∷ []) number asked false same (λ s i. (refl, i)) (onward k) (onward j) onwards pair (0, omega arith, refl) refl (differs_in_nothing batch)
       (λ p. executing false paths number (session.Pending p) (onward k)) (λ p. executing false paths number (session.Pending p) (onward j))
       (pair_executes below keys Pairs paths (pair ∷ []) number asked false same (λ s i. (refl, i)) (onward k) (onward j) onwards)
 
   unless_goes : (fails : Ends → Fault → Session → Talk) (f : Ends → Outcome → Session → Talk) → ((x : Fault) → Leads (fails k x) (fails j x)) → ((comes : Outcome) → Leads (f k comes) (f j comes))
       → (comes : Outcome) → Leads (unless_refused (fails k) (f k) comes) (unless_refused (fails j) (f j) comes)
-  unless_goes fails f h g (told.Refused x) = h x
-  unless_goes fails f h g (told.Rows rows) = g (told.Rows rows)
-  unless_goes fails f h g (told.Changed count) = g (told.Changed count)
-  unless_goes fails f h g told.Defined = g told.Defined
+  unless_goes fails f h g (of_driver.Refused x) = h x
+  unless_goes fails f h g (of_driver.Rows rows) = g (of_driver.Rows rows)
+  unless_goes fails f h g (of_driver.Changed count) = g (of_driver.Changed count)
+  unless_goes fails f h g of_driver.Defined = g of_driver.Defined
 
   -- a batch is run, and its refusal goes one way
   goes_on : (batch : Batch) → IsOfRotation old new batch → batch.forced ≡ [] → (fails : Ends → Fault → Session → Talk) (f : Behind) → ((x : Fault) → Leads (fails k x) (fails j x))
@@ -162,14 +162,14 @@ module _ (below : CellLaws) (keys : KeyMap) (Pairs : Request → Request → Typ
   old_goes : (news : Accepted) (empty : Bool) → Leads (reading_old paths number old new k news empty) (reading_old paths number old new j news empty)
   old_goes news empty =
       goes_on (reads_all old) (inl (2, omega arith, refl)) refl (rolling_back paths number old new)
-      (λ e olds comes after. comparing paths number old new e news empty olds (rows_told comes) after) rolling_goes
-      (λ olds comes. comparing_goes news empty olds (rows_told comes))
+      (λ e olds comes after. comparing paths number old new e news empty olds (outcome_rows comes) after) rolling_goes
+      (λ olds comes. comparing_goes news empty olds (outcome_rows comes))
 
   new_goes : Leads (reading_new paths number old new k) (reading_new paths number old new j)
   new_goes =
       goes_on (reads_all new) (inl (1, omega arith, refl)) refl (rolling_back paths number old new)
-      (λ e news comes after. reading_old paths number old new e news (is_empty (rows_told comes)) after) rolling_goes
-      (λ news comes. old_goes news (is_empty (rows_told comes)))
+      (λ e news comes after. reading_old paths number old new e news (is_empty (outcome_rows comes)) after) rolling_goes
+      (λ news comes. old_goes news (is_empty (outcome_rows comes)))
 
   beginning_goes : Leads (beginning paths number old new k) (beginning paths number old new j)
   beginning_goes =

@@ -52,14 +52,14 @@ all_kept {A = A} p (x ∷ xs) = at (p x) refl (filter p xs) (all_kept p xs)
     at true e rest h = All-cons (λ y. IsTrue (p y)) x rest e h
     at false e rest h = h
 
-kept_values : (paths : List (List ℕ)) (m told : KeyMeta) (values : List KeyValue) → All (HasTrustedPath paths) values
-    → with_values m values ≡ Ok told → All (HasTrustedPath paths) (each_of told.values)
-kept_values paths m told [] all e = absurd cc
-kept_values paths m told (v ∷ []) all e =
-    let is : record { id = m.id; name = m.name; values = record { first = v; second = None } } ≡ told = cc in
+kept_values : (paths : List (List ℕ)) (m known : KeyMeta) (values : List KeyValue) → All (HasTrustedPath paths) values
+    → with_values m values ≡ Ok known → All (HasTrustedPath paths) (each_of known.values)
+kept_values paths m known [] all e = absurd cc
+kept_values paths m known (v ∷ []) all e =
+    let is : record { id = m.id; name = m.name; values = record { first = v; second = None } } ≡ known = cc in
     subst (λ (t : KeyMeta). All (HasTrustedPath paths) (each_of t.values)) is all
-kept_values paths m told (v ∷ w ∷ more) all e =
-    let is : record { id = m.id; name = m.name; values = record { first = v; second = Some w } } ≡ told = cc in
+kept_values paths m known (v ∷ w ∷ more) all e =
+    let is : record { id = m.id; name = m.name; values = record { first = v; second = Some w } } ≡ known = cc in
     let rest = All-tail (HasTrustedPath paths) v (w ∷ more) all in
     subst (λ (t : KeyMeta). All (HasTrustedPath paths) (each_of t.values)) is
     (All-cons (HasTrustedPath paths) v (w ∷ []) (All-head (HasTrustedPath paths) v (w ∷ more) all)
@@ -69,15 +69,15 @@ seen_ok : (r : Result Keys KeyFault) (found : Keys) → seen r ≡ Ok found → 
 seen_ok (Ok keys) found e = let s : keys ≡ found = cc in ap Ok s
 seen_ok (Err f) found e = absurd cc
 
-trusted_found : OpenedAreDerived → (keys : KeyMap) (paths : List (List ℕ)) (m told : KeyMeta) (found : Keys)
-    → trusted_meta paths m ≡ Ok told → open_key keys told ≡ Ok found → AreTrusted keys paths found
-trusted_found derived keys paths m told found t e =
-    let d = derived keys told found (seen_ok (store.open_key keys told) found e) in
-    let kept = kept_values paths m told (filter (λ (value : KeyValue). is_trusted paths value.path) (each_of m.values))
+trusted_found : OpenedAreDerived → (keys : KeyMap) (paths : List (List ℕ)) (m known : KeyMeta) (found : Keys)
+    → trusted_meta paths m ≡ Ok known → open_key keys known ≡ Ok found → AreTrusted keys paths found
+trusted_found derived keys paths m known found t e =
+    let d = derived keys known found (seen_ok (store.open_key keys known) found e) in
+    let kept = kept_values paths m known (filter (λ (value : KeyValue). is_trusted paths value.path) (each_of m.values))
     (all_kept (λ (value : KeyValue). is_trusted paths value.path) (each_of m.values)) t in
     record {
       value = d.3.0;
-      path = All-contains (HasTrustedPath paths) (each_of told.values) d.3.0 kept d.3.1;
+      path = All-contains (HasTrustedPath paths) (each_of known.values) d.3.0 kept d.3.1;
       key = d.0;
       gives = d.3.2;
       derived = d.2;
@@ -145,12 +145,12 @@ module _ (below : CellLaws) (keys : KeyMap) (Pairs : Request → Request → Typ
       h (plain_atom v) (plain_atom u) ((λ t. absurd (not_forced forced c t)), (λ i. ap plain_atom (same_unless forced ty v u f i)), plain_long v u)
   value_goes forced (enc.Det id) ty v u f c k j fails lacks h g =
       key_goes keys Pairs paths (meta_of metas id) (λ found. k (det_atom found ty v)) (λ found. j (det_atom found ty u)) fails lacks
-      (λ found told t e. let trusted = trusted_found below.opened keys paths (meta_of metas id) told found t e in
+      (λ found known t e. let trusted = trusted_found below.opened keys paths (meta_of metas id) known found t e in
       h (det_atom found ty v) (det_atom found ty u)
       ((λ i. (found, trusted, refl, refl)), (λ i. ap (det_atom found ty) (same_unless forced ty v u f i)), det_long below keys paths found trusted forced ty v u f)) g
   value_goes forced (enc.Rnd id) ty v u f c k j fails lacks h g =
       key_goes keys Pairs paths (meta_of metas id) (λ found. drawing found ty v k) (λ found. drawing found ty u j) fails lacks
-      (λ found told t e. drawing_goes forced id ty found (trusted_found below.opened keys paths (meta_of metas id) told found t e) v u f k j h) g
+      (λ found known t e. drawing_goes forced id ty found (trusted_found below.opened keys paths (meta_of metas id) known found t e) v u f k j h) g
 
   -- ---- the parameters of a batch
 

@@ -22,7 +22,7 @@ use Rattle.script_talk.specs.Forced.{ActsDiffer}
 use Rattle.script_talk.specs.Sent.{IsAskedByTurn, Pair, pair_of}
 use Rattle.script_talk.specs.Steps.{turn}
 use Rattle.script_talk.proofs.Alike.{Good, says}
-use Rattle.script_talk.proofs.Forcing.{told_same}
+use Rattle.script_talk.proofs.Forcing.{exposed_same}
 use Rattle.script_talk.proofs.Lengths.{CellLaws}
 use Rattle.script_talk.proofs.Rotations.{rotating_goes}
 use Rattle.script_talk.proofs.Running.{ArePending, Held, begins, executes, held_more, pair_executes}
@@ -34,11 +34,11 @@ module _ (keys : KeyMap) (Pairs : Request → Request → Type 0) (pairs : List 
       (Prints (outcome.Described (described_params q.keys (uses_of q))) (j (session.Pending q)))
   waits p q h =
       let batch = h.pair.batch in
-      let told : List (Option Enc) → List Param → outcomes.Outcome = λ encs ps. outcome.Described (described_params p.keys (uses_in ps encs)) in
+      let known : List (Option Enc) → List Param → outcomes.Outcome = λ encs ps. outcome.Described (described_params p.keys (uses_in ps encs)) in
       let is : outcome.Described (described_params q.keys (uses_of q)) ≡ outcome.Described (described_params p.keys (uses_of p)) =
       ap (λ (x : Pending). outcome.Described (described_params x.keys (uses_of x))) h.is
-      ∙ ap (λ x. outcome.Described x) (told_same batch.forced p.keys batch.params h.pair.other.params h.differ.params p.encs)
-      ∙ ap (λ (b : Batch). told p.encs b.params) (sym h.batch) in
+      ∙ ap (λ x. outcome.Described x) (exposed_same batch.forced p.keys batch.params h.pair.other.params h.differ.params p.encs)
+      ∙ ap (λ (b : Batch). known p.encs b.params) (sym h.batch) in
       subst (λ o. Good keys Pairs (Prints (outcome.Described (described_params p.keys (uses_of p))) (k (session.Pending p))) (Prints o (j (session.Pending q)))) (sym is)
       (says keys Pairs (outcome.Described (described_params p.keys (uses_of p))) (k (session.Pending p))
       (j (session.Pending q)) (go (session.Pending p) (session.Pending q) (inr (p, q, refl, refl, h))))

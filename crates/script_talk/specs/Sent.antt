@@ -57,7 +57,7 @@ cell_bytes Null = []
 cell_bytes (Plain datum) = []
 cell_bytes (Sealed cell) = cell
 
--- a parameter as it is sent for the one list and for the other: equal, but for the atoms of a forced one, which are equally long
+-- a parameter as it is sent for the one list and for the other: equal, except for the atoms of a forced one, which are equally long
 pub record IsSentAlike (keys : KeyMap) (paths forced : List (List ℕ)) (p q : Param) (sent other : SentParam) : Type 0 where
   pub name : sent.name ≡ p.declaration.name
   pub typed : sent.ty ≡ p.declaration.ty

@@ -3,13 +3,13 @@
 use ae_edge::memory::sink::MemSink;
 use ae_edge::memory::source::MemSource;
 use check_command::commands::check;
-use check_command::steps::Checked;
+use check_command::steps::CheckEnding;
 use std::alloc::Global;
 
 /// The result of a check: how it ended, and the text.
 #[derive(Drop)]
 pub(crate) struct Check {
-    pub(crate) ended: Checked,
+    pub(crate) ended: CheckEnding,
     pub(crate) text: MemSink,
 }
 

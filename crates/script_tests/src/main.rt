@@ -12,7 +12,7 @@ use ae_base::frames::FrameVersion;
 use ae_edge::memory::sink::MemSink;
 use checks::{Check, check_of};
 use kinds::kinds_of;
-use runs::{Came, Puts, come_to};
+use runs::{Puts, Run, run_script};
 use std::io::Write;
 use std::{fs, io};
 
@@ -24,7 +24,7 @@ fn main(rt: HostRuntime) -> io::Result<()> {
             print_check(&rt, script)?;
         } else {
             let (puts, version) = (puts_of(name.as_str()), version_of(name.as_str()));
-            print_came(&rt, &come_to(rt.alloc(), script, puts, version)?)?;
+            print_run(&rt, &run_script(rt.alloc(), script, puts, version)?)?;
         }
     }
     Ok(())
@@ -43,7 +43,7 @@ fn script_names(rt: &HostRuntime) -> io::Result<Vec<String>> {
     Ok(names)
 }
 
-// What the run of a script of that name puts.
+// What the run of a script of that name writes.
 fn puts_of(name: &str) -> Puts {
     if name.ends_with(".summary.sql") {
         Puts::Summary
@@ -67,7 +67,7 @@ fn print_check(rt: &HostRuntime, script: Vec<u8>) -> io::Result<()> {
     println!(rt; "ended {ended:?}")
 }
 
-fn print_came(rt: &HostRuntime, came: &Came) -> io::Result<()> {
+fn print_run(rt: &HostRuntime, came: &Run) -> io::Result<()> {
     rt.stdout().write_all(came.text.bytes())?;
     println!(rt; "status {}", came.status.number())?;
     print!(rt; "{}", came.status)?;

@@ -14,13 +14,13 @@ use std::alloc::{AllocError, Global};
 
 /// The result of a script: the status, the text, and the frames that passed.
 #[derive(Drop)]
-pub(crate) struct Came {
+pub(crate) struct Run {
     pub(crate) status: Status,
     pub(crate) text: MemSink,
     pub(crate) tap: MemSink,
 }
 
-/// What a run puts.
+/// What a run writes.
 #[derive(Clone, Copy, PartialEq, Eq, Debug)]
 pub(crate) enum Puts {
     Text,
@@ -40,12 +40,12 @@ const SPARE: [u8; 32] = [0xff; 32];
 const NEXT: [u8; 32] = [0x5a; 32];
 
 /// Runs a script over an empty server and frames of a version, with three master keys, and with random bytes for sixteen cells.
-pub(crate) fn come_to(
+pub(crate) fn run_script(
     alloc: Global,
     script: Vec<u8>,
     puts: Puts,
     version: FrameVersion,
-) -> Result<Came, AllocError> {
+) -> Result<Run, AllocError> {
     let mut script = MemSource::new(script, 4096, Vec::new(alloc));
     let mut vault = three_keys(alloc)?;
     let mut entropy = each_byte_once(alloc)?;
@@ -74,7 +74,7 @@ pub(crate) fn come_to(
             version,
         ),
     };
-    Ok(Came {
+    Ok(Run {
         status: Status::from(ran),
         text,
         tap,

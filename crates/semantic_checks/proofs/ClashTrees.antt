@@ -1,4 +1,4 @@
--- The clashes of sums and junctions as they lie in memory, put behind those found before.
+-- The clashes of sums and junctions as they lie in memory, put after those found before.
 use Rattle.std.proofs.Common.{◌≡◌, ℕ, ◌+◌, ◌<◌, List, [], ◌∷◌, ◌++◌, length, get_or, drop, ap, sym, subst, ◌∙◌, Box, Vec, Global, Result, OnOk, append_assoc}
 use Rattle.std.proofs.lemmas.List.{at_drop_more, append-nil}
 use Rattle.sql_tree.specs.Operands.{operand_of}
@@ -34,7 +34,7 @@ term_step : (types : Types) (term : code_term.Term ℕ ℕ) (terms : List (code_
 term_step types (code_term.Plus at operand) terms = ap (λ z. z ++ terms_clashes types (terms_listed terms)) (sym (append-nil _))
 term_step types (code_term.Minus at operand) terms = ap (λ z. z ++ terms_clashes types (terms_listed terms)) (sym (append-nil _))
 
--- the clashes of a term stand behind those found before
+-- the clashes of a term stand after those found before
 pub term_more : (types : Types) (whole now next : List ℕ) (terms : List (code_term.Term ℕ ℕ)) (i : ℕ) (term : code_term.Term ℕ ℕ) → i < length terms → term ≡ get_or terms i term
     → now ++ terms_clashes types (terms_listed (drop i terms)) ≡ whole → next ≡ now ++ terms_clashes types (terms_listed (term ∷ []))
     → next ++ terms_clashes types (terms_listed (drop (i + 1) terms)) ≡ whole

@@ -8,9 +8,9 @@ use Rattle.ae_base.specs.Results.{◌>>=◌}
 use Rattle.ae_base.specs.declared.types.Ty.{Ty}
 use Rattle.ae_base.specs.declared.faults.SqlFault.TheVariants as fault
 use Rattle.sql_tree.specs.declared.bound.ColumnSite.{ColumnSite}
-use Rattle.sql_tree.specs.declared.bound.PlaceAt.{PlaceAt}
+use Rattle.sql_tree.specs.declared.bound.OrdinalAt.{OrdinalAt}
 use Rattle.sql_tree.specs.declared.bound.BoundOrderKey.{BoundOrderKey}
-use Rattle.sql_tree.specs.Operands.{Operand, Terms, place_of}
+use Rattle.sql_tree.specs.Operands.{Operand, Terms, offset_of}
 use Rattle.sql_tree.specs.Operands as operands
 use Rattle.sql_tree.specs.Conditions.{Condition, Conditions}
 use Rattle.sql_tree.specs.Conditions as conditions
@@ -45,7 +45,7 @@ use Rattle.sql_tree.specs.Uses.{
 }
 use Rattle.enc_types.specs.Rules.{rules}
 use Rattle.enc_types.specs.Renamed.{renamed_rule}
-use Rattle.enc_types.proofs.Interface.{rules_renamed, place_renamed}
+use Rattle.enc_types.proofs.Interface.{rules_renamed, offset_renamed}
 use Rattle.semantic_checks.specs.declared.kinds.Kind.TheVariants.{Numbers}
 use Rattle.semantic_checks.specs.Clashes.{
   Types,
@@ -83,7 +83,7 @@ use Rattle.semantic_checks.specs.Grouping.{
   key_unselected,
   query_ungrouped,
   statement_ungrouped,
-  ungrouped_places,
+  ungrouped_offsets,
 }
 use Rattle.semantic_checks.specs.Checks.{least, none_at, is_long_statement, is_too_long, check_of}
 use Rattle.semantic_checks.specs.Laws.{ChecksKeepTheUsed}
@@ -195,9 +195,9 @@ module _ (f : ℕ → ℕ) (columns : List ColumnSite) (params others : List Ty)
 
   value : (at : ℕ) (v : Operand ℕ ℕ) → HaveTypes (λ p. uses_in p v) → value_clashes of_others at (renamed_operand f v) ≡ value_clashes of_all at v
   value at v h =
-      both (clash_at (place_of v) (column_kind of_all at) (operand_kind of_all v)) (operand_clashes of_all v) _ _
-      (ap (λ z. clash_at z (column_kind of_all at) (operand_kind of_others (renamed_operand f v))) (place_renamed f v)
-      ∙ ap (λ z. clash_at (place_of v) (column_kind of_all at) z) (kind v h)) (operand v h)
+      both (clash_at (offset_of v) (column_kind of_all at) (operand_kind of_all v)) (operand_clashes of_all v) _ _
+      (ap (λ z. clash_at z (column_kind of_all at) (operand_kind of_others (renamed_operand f v))) (offset_renamed f v)
+      ∙ ap (λ z. clash_at (offset_of v) (column_kind of_all at) z) (kind v h)) (operand v h)
 
   paired : (named : List ℕ) (vs : List (Operand ℕ ℕ)) → HaveTypes (λ p. list_any (uses_in p) vs) → paired_clashes of_others named (map (renamed_operand f) vs) ≡ paired_clashes of_all named vs
   paired [] [] h = refl
@@ -215,8 +215,8 @@ module _ (f : ℕ → ℕ) (columns : List ColumnSite) (params others : List Ty)
       (ap (λ z. r.at ∷ z) (each uses_in (renamed_operand f) (operand_clashes of_all) (operand_clashes of_others) operand r.values h))
 
   assignment : (a : BoundAssignment) → HaveTypes (λ p. uses_in_assignment p a) → assignment_clashes of_others (renamed_assignment f a) ≡ assignment_clashes of_all a
-  assignment a h = both (clash_at a.at (column_kind of_all a.place) (operand_kind of_all a.value))
-      (operand_clashes of_all a.value) _ _ (ap (λ z. clash_at a.at (column_kind of_all a.place) z) (kind a.value h)) (operand a.value h)
+  assignment a h = both (clash_at a.at (column_kind of_all a.ordinal) (operand_kind of_all a.value))
+      (operand_clashes of_all a.value) _ _ (ap (λ z. clash_at a.at (column_kind of_all a.ordinal) z) (kind a.value h)) (operand a.value h)
 
   item_value : (v : BoundItemValue) → HaveTypes (λ p. uses_in_value p v) → item_value_clashes of_others (renamed_value f v) ≡ item_value_clashes of_all v
   item_value (bound.Value o) h = operand o h
@@ -224,7 +224,7 @@ module _ (f : ℕ → ℕ) (columns : List ColumnSite) (params others : List Ty)
 
   statement : (s : BoundStatement) → HaveTypes (λ p. uses_in_statement p s) → statement_clashes of_others (renamed_statement f s) ≡ statement_clashes of_all s
   statement (bound.Definition d) h = refl
-  statement (bound.Insert insert) h = each uses_in_row (renamed_row f) (row_clashes of_all insert.named) (row_clashes of_others insert.named) (row insert.named) insert.rows h
+  statement (bound.Insert insert) h = each uses_in_row (renamed_row f) (row_clashes of_all insert.columns) (row_clashes of_others insert.columns) (row insert.columns) insert.rows h
   statement (bound.Update update) h =
       let a = left (λ p. list_any (uses_in_assignment p) update.assignments) (λ p. uses_in_filter p update.filter) h in
       let b = right (λ p. list_any (uses_in_assignment p) update.assignments) (λ p. uses_in_filter p update.filter) h in
@@ -261,21 +261,21 @@ module _ (f : ℕ → ℕ) where
   counted (bound.Value o) = refl
   counted (bound.Count at) = refl
 
-  operand_alone : (keys : List PlaceAt) (o : Operand ℕ ℕ) → operand_ungrouped keys (renamed_operand f o) ≡ operand_ungrouped keys o
+  operand_alone : (keys : List OrdinalAt) (o : Operand ℕ ℕ) → operand_ungrouped keys (renamed_operand f o) ≡ operand_ungrouped keys o
   operand_alone keys (operands.Literal at v) = refl
   operand_alone keys (operands.Param at param) = refl
   operand_alone keys (operands.Column at column) = refl
   operand_alone keys (operands.Minus at o) = refl
-  operand_alone keys (operands.Sum o terms) = ap (λ z. z ∷ []) (place_renamed f o)
+  operand_alone keys (operands.Sum o terms) = ap (λ z. z ∷ []) (offset_renamed f o)
 
-  value_alone : (keys : List PlaceAt) (v : BoundItemValue) → value_ungrouped keys (renamed_value f v) ≡ value_ungrouped keys v
+  value_alone : (keys : List OrdinalAt) (v : BoundItemValue) → value_ungrouped keys (renamed_value f v) ≡ value_ungrouped keys v
   value_alone keys (bound.Value o) = operand_alone keys o
   value_alone keys (bound.Count at) = refl
 
   operand_chosen : (column : ℕ) (o : Operand ℕ ℕ) → operand_selects column (renamed_operand f o) ≡ operand_selects column o
   operand_chosen column (operands.Literal at v) = refl
   operand_chosen column (operands.Param at param) = refl
-  operand_chosen column (operands.Column at place) = refl
+  operand_chosen column (operands.Column at ordinal) = refl
   operand_chosen column (operands.Minus at o) = refl
   operand_chosen column (operands.Sum o terms) = refl
 
@@ -284,7 +284,7 @@ module _ (f : ℕ → ℕ) where
   value_chosen column (bound.Count at) = refl
 
   unselected : (items : List BoundItem) (key : BoundOrderKey) → key_unselected (map (renamed_item f) items) key ≡ key_unselected items key
-  unselected items key = ap (λ z. cond z [] (key.at ∷ [])) (any_same (selects key.place) (renamed_item f) (λ i. value_chosen key.place i.value) items)
+  unselected items key = ap (λ z. cond z [] (key.at ∷ [])) (any_same (selects key.ordinal) (renamed_item f) (λ i. value_chosen key.ordinal i.value) items)
 
   query_alone : (q : BoundQuery) → query_ungrouped (renamed_query f q) ≡ query_ungrouped q
   query_alone q =
@@ -321,8 +321,8 @@ module _ (f : ℕ → ℕ) where
 pub checks_keep_the_used : ChecksKeepTheUsed
 unfolding check_of
 checks_keep_the_used f params b h =
-    ap (λ z. none_at fault.TypeClash (least z) >>= λ one. none_at fault.NotGrouped (least (ungrouped_places (renamed f params b)))
+    ap (λ z. none_at fault.TypeClash (least z) >>= λ one. none_at fault.NotGrouped (least (ungrouped_offsets (renamed f params b)))
     >>= λ grouped. cond (is_too_long (renamed f params b)) (Err fault.TooLong) (Ok tt)) (statement f b.columns b.params params b.statement h)
     ∙ ap (λ z. none_at fault.TypeClash (least (clashes b)) >>= λ one. none_at fault.NotGrouped (least z) >>= λ
     grouped. cond (is_too_long (renamed f params b)) (Err fault.TooLong) (Ok tt)) (statement_alone f b.statement)
-    ∙ ap (λ z. none_at fault.TypeClash (least (clashes b)) >>= λ one. none_at fault.NotGrouped (least (ungrouped_places b)) >>= λ grouped. cond z (Err fault.TooLong) (Ok tt)) (too_long f params b)
+    ∙ ap (λ z. none_at fault.TypeClash (least (clashes b)) >>= λ one. none_at fault.NotGrouped (least (ungrouped_offsets b)) >>= λ grouped. cond z (Err fault.TooLong) (Ok tt)) (too_long f params b)

@@ -1,4 +1,4 @@
--- The smallest of some places is one of them, and below all.
+-- The smallest of some offsets is one of them, and below all.
 use Rattle.std.proofs.Common.{◌≡◌, ℕ, ◌<◌, ◌≤◌, ◌⊎◌, inl, inr, List, [], ◌∷◌, refl, arith, cond, Bool, true, false, nat_le, Option, Some, None, Result, Ok, Err}
 use Rattle.std.proofs.lemmas.Bool.{leb-true, leb-false}
 use Rattle.ae_base.specs.Results.{◌>>=◌}
@@ -6,7 +6,7 @@ use Rattle.ae_base.specs.declared.faults.SqlFault.{SqlFault}
 use Rattle.ae_base.specs.declared.faults.SqlFault.TheVariants as fault
 use Rattle.sql_tree.specs.Bound.{Bound}
 use Rattle.semantic_checks.specs.Clashes.{clashes}
-use Rattle.semantic_checks.specs.Grouping.{ungrouped_places}
+use Rattle.semantic_checks.specs.Grouping.{ungrouped_offsets}
 use Rattle.semantic_checks.specs.Checks.{least, least_from, none_at, is_too_long, check_of}
 use Rattle.semantic_checks.specs.Laws.{Among, IsBelow, IsSmallest, SmallestFirst}
 
@@ -34,7 +34,7 @@ below : (m : ℕ) (xs : List ℕ) (at : ℕ) → least_from (Some m) xs ≡ Some
 below m [] at e = let h : at ≡ m = cc in record { there = inl h; under = omega (arith, h); all = tt }
 below m (x ∷ xs) at e = below-step m x xs at (λ k. below k xs at) (nat_le m x) refl e
 
-smallest : (places : List ℕ) (at : ℕ) → least places ≡ Some at → IsSmallest places at
+smallest : (offsets : List ℕ) (at : ℕ) → least offsets ≡ Some at → IsSmallest offsets at
 smallest [] at e = cc
 smallest (x ∷ xs) at e = let b = below x xs at e in record { among = b.there; below = (b.under, b.all) }
 
@@ -42,11 +42,11 @@ some-stays : (xs : List ℕ) (m : ℕ) → least_from (Some m) xs ≡ None → �
 some-stays [] m e = cc
 some-stays (x ∷ xs) m e = some-stays xs _ e
 
-no-least : (places : List ℕ) → least places ≡ None → places ≡ []
+no-least : (offsets : List ℕ) → least offsets ≡ None → offsets ≡ []
 no-least [] e = refl
 no-least (x ∷ xs) e = absurd (some-stays xs x e)
 
--- ---- the checks, over the smallest places of the passes
+-- ---- the checks, over the smallest offsets of the passes
 
 abbrev over : Option ℕ → Option ℕ → Bool → Result (Unit {0}) SqlFault
 over clash group long = none_at fault.TypeClash clash >>= λ of_one_kind. none_at fault.NotGrouped group >>= λ grouped. cond long (Err fault.TooLong) (Ok tt)
@@ -74,20 +74,20 @@ at-none None (Some g) long e = cc
 at-none None None true e = cc
 at-none None None false e = (refl, refl, refl)
 
-checked-over : (bound : Bound) → check_of bound ≡ over (least (clashes bound)) (least (ungrouped_places bound)) (is_too_long bound)
+checked-over : (bound : Bound) → check_of bound ≡ over (least (clashes bound)) (least (ungrouped_offsets bound)) (is_too_long bound)
 unfolding check_of
 checked-over bound = refl
 
 pub smallest_first : SmallestFirst
 smallest_first = record {
-  clash = λ bound at e. smallest (clashes bound) at (at-clash (least (clashes bound)) (least (ungrouped_places bound)) (is_too_long bound) at (rw (← checked-over bound) e));
+  clash = λ bound at e. smallest (clashes bound) at (at-clash (least (clashes bound)) (least (ungrouped_offsets bound)) (is_too_long bound) at (rw (← checked-over bound) e));
   group = λ bound at e.
-      let h = at-group (least (clashes bound)) (least (ungrouped_places bound)) (is_too_long bound) at (rw (← checked-over bound) e) in
-      (no-least (clashes bound) h.0, smallest (ungrouped_places bound) at h.1);
+      let h = at-group (least (clashes bound)) (least (ungrouped_offsets bound)) (is_too_long bound) at (rw (← checked-over bound) e) in
+      (no-least (clashes bound) h.0, smallest (ungrouped_offsets bound) at h.1);
   length = λ bound e.
-      let h = at-length (least (clashes bound)) (least (ungrouped_places bound)) (is_too_long bound) (rw (← checked-over bound) e) in
-      (no-least (clashes bound) h.0, no-least (ungrouped_places bound) h.1);
+      let h = at-length (least (clashes bound)) (least (ungrouped_offsets bound)) (is_too_long bound) (rw (← checked-over bound) e) in
+      (no-least (clashes bound) h.0, no-least (ungrouped_offsets bound) h.1);
   fine = λ bound e.
-      let h = at-none (least (clashes bound)) (least (ungrouped_places bound)) (is_too_long bound) (rw (← checked-over bound) e) in
-      (no-least (clashes bound) h.0, no-least (ungrouped_places bound) h.1, h.2);
+      let h = at-none (least (clashes bound)) (least (ungrouped_offsets bound)) (is_too_long bound) (rw (← checked-over bound) e) in
+      (no-least (clashes bound) h.0, no-least (ungrouped_offsets bound) h.1, h.2);
 }

@@ -1,5 +1,5 @@
--- The passes over a statement whose names are places: kinds that clash, then what isn't grouped, then its length. The
--- answer is the fault at the smallest place of the first pass that has one.
+-- The passes over a statement whose names are ordinals: kinds that clash, then what isn't grouped, then its length. The
+-- answer is the fault at the smallest offset of the first pass that has one.
 use Rattle.std.specs.Prelude.{ℕ, List, [], ◌∷◌, length, Option, Some, None, Result, Ok, Err, Bool, false, ◌||◌, ◌==◌, nat_le, nat_lt, if◌then◌else◌}
 use Rattle.ae_base.specs.Results.{◌>>=◌}
 use Rattle.ae_base.specs.declared.faults.SqlFault.{SqlFault}
@@ -9,21 +9,21 @@ use Rattle.sql_tree.specs.Bound as bound
 use Rattle.sql_tree.specs.Definitions.{uniques_in}
 use Rattle.enc_types.specs.Rules.{rules}
 use Rattle.semantic_checks.specs.Clashes.{clashes}
-use Rattle.semantic_checks.specs.Grouping.{ungrouped_places}
+use Rattle.semantic_checks.specs.Grouping.{ungrouped_offsets}
 use Rattle.ae_base.specs.Limits.{most_rules}
 
--- the smaller of two places
+-- the smaller of two offsets
 abbrev pub earlier : Option ℕ → ℕ → ℕ
 earlier None at = at
 earlier (Some before) at = if nat_le before at then before else at
 
 abbrev pub least_from : Option ℕ → List ℕ → Option ℕ
 least_from found [] = found
-least_from found (at ∷ places) = least_from (Some (earlier found at)) places
+least_from found (at ∷ offsets) = least_from (Some (earlier found at)) offsets
 
--- the smallest of some places
+-- the smallest of some offsets
 abbrev pub least : List ℕ → Option ℕ
-least places = least_from None places
+least offsets = least_from None offsets
 
 abbrev pub none_at : (ℕ → SqlFault) → Option ℕ → Result (Unit {0}) SqlFault
 none_at fault None = Ok tt
@@ -42,5 +42,5 @@ is_too_long bound = is_long_statement bound.statement || nat_lt most_rules (leng
 unfoldable pub check_of : Bound → Result (Unit {0}) SqlFault
 check_of bound =
     none_at fault.TypeClash (least (clashes bound)) >>= λ of_one_kind.
-    none_at fault.NotGrouped (least (ungrouped_places bound)) >>= λ grouped.
+    none_at fault.NotGrouped (least (ungrouped_offsets bound)) >>= λ grouped.
     if is_too_long bound then Err fault.TooLong else Ok tt

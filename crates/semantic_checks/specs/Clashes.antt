@@ -1,4 +1,4 @@
--- The places at which kinds of values clash: two sides of a comparison, a value and its column, an operand of + or - that
+-- The offsets at which kinds of values clash: two sides of a comparison, a value and its column, an operand of + or - that
 -- is no number, and a row of VALUES of another length than the named columns.
 use Rattle.std.specs.Prelude.{ℕ, List, [], ◌∷◌, ◌++◌, length, Option, Some, None, Bool, true, false, ◌==◌, if◌then◌else◌}
 use Rattle.std.specs.List.{flat_map, slice_get}
@@ -9,7 +9,7 @@ use Rattle.ae_base.specs.declared.values.Value.{Value}
 use Rattle.ae_base.specs.declared.values.Value.TheVariants as value
 use Rattle.ae_base.specs.declared.values.Datum.TheVariants as datum
 use Rattle.sql_tree.specs.declared.bound.ColumnSite.{ColumnSite}
-use Rattle.sql_tree.specs.Operands.{Operand, Terms, place_of}
+use Rattle.sql_tree.specs.Operands.{Operand, Terms, offset_of}
 use Rattle.sql_tree.specs.Operands as operands
 use Rattle.sql_tree.specs.Conditions.{Condition, Conditions}
 use Rattle.sql_tree.specs.Conditions as conditions
@@ -54,12 +54,12 @@ abbrev pub site_kind : ColumnSite → Kind
 site_kind site = kind_of site.ty
 
 abbrev pub column_kind : Types → ℕ → Option Kind
-column_kind types place = option_map site_kind (slice_get types.columns place)
+column_kind types ordinal = option_map site_kind (slice_get types.columns ordinal)
 
 abbrev pub operand_kind : Types → Operand ℕ ℕ → Option Kind
 operand_kind types (operands.Literal at v) = value_kind v
-operand_kind types (operands.Param at place) = option_map kind_of (slice_get types.params place)
-operand_kind types (operands.Column at place) = column_kind types place
+operand_kind types (operands.Param at ordinal) = option_map kind_of (slice_get types.params ordinal)
+operand_kind types (operands.Column at ordinal) = column_kind types ordinal
 operand_kind types (operands.Minus at operand) = Some Numbers
 operand_kind types (operands.Sum first terms) = Some Numbers
 
@@ -80,8 +80,8 @@ first_clash types first (operands.MinusThen at operand more) = no_number types a
 abbrev mutual
   pub operand_clashes : Types → Operand ℕ ℕ → List ℕ
   operand_clashes types (operands.Literal at v) = []
-  operand_clashes types (operands.Param at place) = []
-  operand_clashes types (operands.Column at place) = []
+  operand_clashes types (operands.Param at ordinal) = []
+  operand_clashes types (operands.Column at ordinal) = []
   operand_clashes types (operands.Minus at operand) = no_number types at operand ++ operand_clashes types operand
   operand_clashes types (operands.Sum first terms) = operand_clashes types first ++ (first_clash types first terms ++ terms_clashes types terms)
 
@@ -117,12 +117,12 @@ filter_clashes types (Some condition) = condition_clashes types condition
 
 -- a value clashes with its column at its first token
 abbrev pub value_clashes : Types → ℕ → Operand ℕ ℕ → List ℕ
-value_clashes types place v = clash_at (place_of v) (column_kind types place) (operand_kind types v) ++ operand_clashes types v
+value_clashes types ordinal v = clash_at (offset_of v) (column_kind types ordinal) (operand_kind types v) ++ operand_clashes types v
 
 abbrev pub paired_clashes : Types → List ℕ → List (Operand ℕ ℕ) → List ℕ
 paired_clashes types named [] = []
 paired_clashes types [] (v ∷ values) = []
-paired_clashes types (place ∷ named) (v ∷ values) = value_clashes types place v ++ paired_clashes types named values
+paired_clashes types (ordinal ∷ named) (v ∷ values) = value_clashes types ordinal v ++ paired_clashes types named values
 
 -- a row of another length clashes at its parenthesis, and its values then meet no columns
 abbrev pub row_clashes : Types → List ℕ → BoundRow → List ℕ
@@ -131,7 +131,7 @@ row_clashes types named row =
 
 -- a value of SET clashes with its column at the =
 abbrev pub assignment_clashes : Types → BoundAssignment → List ℕ
-assignment_clashes types a = clash_at a.at (column_kind types a.place) (operand_kind types a.value) ++ operand_clashes types a.value
+assignment_clashes types a = clash_at a.at (column_kind types a.ordinal) (operand_kind types a.value) ++ operand_clashes types a.value
 
 abbrev pub item_value_clashes : Types → BoundItemValue → List ℕ
 item_value_clashes types (bound.Value operand) = operand_clashes types operand
@@ -148,7 +148,7 @@ query_clashes types q = flat_map (item_clashes types) q.items ++ (flat_map (join
 
 abbrev pub statement_clashes : Types → BoundStatement → List ℕ
 statement_clashes types (bound.Definition d) = []
-statement_clashes types (bound.Insert insert) = flat_map (row_clashes types insert.named) insert.rows
+statement_clashes types (bound.Insert insert) = flat_map (row_clashes types insert.columns) insert.rows
 statement_clashes types (bound.Update update) = flat_map (assignment_clashes types) update.assignments ++ filter_clashes types update.filter
 statement_clashes types (bound.Delete delete) = filter_clashes types delete.filter
 statement_clashes types (bound.Select query) = query_clashes types query

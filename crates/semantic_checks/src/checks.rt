@@ -6,7 +6,7 @@ ghost use Rattle.ae_base.specs.declared.faults.SqlFault.TheVariants as fault;
 ghost use Rattle.sql_tree.specs.Bound as bound;
 ghost use Rattle.enc_types.specs.Rules.{rules};
 ghost use Rattle.semantic_checks.specs.Clashes.{clashes};
-ghost use Rattle.semantic_checks.specs.Grouping.{ungrouped_places};
+ghost use Rattle.semantic_checks.specs.Grouping.{ungrouped_offsets};
 ghost use Rattle.semantic_checks.specs.Checks.{check_of, earlier, is_long_statement, least, none_at};
 
 use crate::clashes::statement_clashes;
@@ -29,12 +29,12 @@ fn earlier(found: Option<u32>, at: u32) -> u32
     }
 }
 
-/// The smallest of some places.
-fn least(places: &[u32]) -> Option<u32>
-    ensures { result ≡ least places.now }
+/// The smallest of some offsets.
+fn least(offsets: &[u32]) -> Option<u32>
+    ensures { result ≡ least offsets.now }
 {
     let mut found = None;
-    for at in places {
+    for at in offsets {
         found = Some(earlier(found, *at));
     }
     found
@@ -57,7 +57,7 @@ fn of_one_kind(alloc: Global, made: &Bound) -> Result<(), Refusal>
 
 fn grouped(alloc: Global, made: &Bound) -> Result<(), Refusal>
     ensures { Answers result
-        (none_at fault.NotGrouped (least (ungrouped_places (bound.bound_of made.now)))) }
+        (none_at fault.NotGrouped (least (ungrouped_offsets (bound.bound_of made.now)))) }
 {
     let mut found = Seq::new(alloc);
     statement_ungrouped(&mut found, &made.statement)?;
@@ -84,7 +84,7 @@ fn has_many_rules(alloc: Global, made: &Bound) -> Result<bool, AllocError>
 }
 
 /// The passes over the kinds of values, over what isn't grouped, and over the length: the fault at
-/// the smallest place of the first pass that has one.
+/// the smallest offset of the first pass that has one.
 #[tactic(auto, unfolding(crate::specs::Checks::check_of))]
 pub fn checked(alloc: Global, made: &Bound) -> Result<(), Refusal>
     ensures { Answers result (check_of (bound.bound_of made.now)) }

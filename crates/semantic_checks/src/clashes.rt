@@ -31,7 +31,7 @@ use crate::kinds::{Kind, Types, column_kind, differ, operand_kind};
 use ae_base::lists::Seq;
 use sql_tree::bound::{
     BoundAssignment, BoundCondition, BoundItem, BoundItemValue, BoundJoin, BoundOperand,
-    BoundQuery, BoundRow, BoundStatement, place_of,
+    BoundQuery, BoundRow, BoundStatement, offset_of,
 };
 use sql_tree::conditions::Condition;
 use sql_tree::operands::{Operand, Term};
@@ -251,15 +251,15 @@ fn filter_clashes(
 fn value_clashes(
     found: &mut Seq<u32>,
     types: &Types<'_>,
-    place: usize,
+    ordinal: usize,
     value: &BoundOperand,
 ) -> Result<(), AllocError>
     ensures { OnOk result
         (found.new ≡ found.old
-        ++ value_clashes (types_seen types.now) place (operand_of value.now)) }
+        ++ value_clashes (types_seen types.now) ordinal (operand_of value.now)) }
 {
-    let kind = column_kind(types, place);
-    clash_at(found, place_of(value), kind, operand_kind(types, value))?;
+    let kind = column_kind(types, ordinal);
+    clash_at(found, offset_of(value), kind, operand_kind(types, value))?;
     operand_clashes(found, types, value)
 }
 
@@ -273,14 +273,14 @@ fn paired_clashes(
         (found.new ≡ found.old ++ paired_clashes (types_seen types.now) named.now
         (map operand_of values.now)) }
 {
-    let mut places = named;
+    let mut offsets = named;
     let mut left = values;
     while let [value, more @ ..] = left {
-        let [place, more_places @ ..] = places else {
+        let [ordinal, more_ordinals @ ..] = offsets else {
             return Ok(());
         };
-        value_clashes(found, types, *place, value)?;
-        places = more_places;
+        value_clashes(found, types, *ordinal, value)?;
+        offsets = more_ordinals;
         left = more;
     }
     Ok(())
@@ -329,7 +329,7 @@ fn assignment_clashes(
         ++ assignment_clashes (types_seen types.now) (bound.assignment_of assignment.now)) }
 {
     let value = &assignment.value;
-    let kind = column_kind(types, assignment.place);
+    let kind = column_kind(types, assignment.ordinal);
     clash_at(found, assignment.at, kind, operand_kind(types, value))?;
     operand_clashes(found, types, value)
 }
@@ -402,7 +402,7 @@ fn query_clashes(
     filter_clashes(found, types, &query.filter)
 }
 
-/// Puts the places at which kinds of values clash in a statement at the end.
+/// Appends the offsets at which kinds of values clash in a statement.
 pub(crate) fn statement_clashes(
     found: &mut Seq<u32>,
     types: &Types<'_>,
@@ -416,7 +416,7 @@ pub(crate) fn statement_clashes(
         BoundStatement::Insert(insert) => rows_clashes(
             found,
             types,
-            insert.named.as_slice(),
+            insert.columns.as_slice(),
             insert.rows.as_slice(),
         ),
         BoundStatement::Update(update) => {

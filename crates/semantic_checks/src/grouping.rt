@@ -8,21 +8,21 @@ ghost use Rattle.semantic_checks.specs.Grouping.{is_key, item_ungrouped, key_uns
 
 use ae_base::lists::Seq;
 use sql_tree::bound::{
-    BoundItem, BoundItemValue, BoundOperand, BoundOrderKey, BoundQuery, BoundStatement, PlaceAt,
-    place_of,
+    BoundItem, BoundItemValue, BoundOperand, BoundOrderKey, BoundQuery, BoundStatement, OrdinalAt,
+    offset_of,
 };
 use sql_tree::operands::Operand;
 use std::alloc::AllocError;
 
-fn is_key(keys: &[PlaceAt], place: usize) -> bool
-    ensures { result ≡ list_any (is_key place) keys.now }
+fn is_key(keys: &[OrdinalAt], ordinal: usize) -> bool
+    ensures { result ≡ list_any (is_key ordinal) keys.now }
 {
-    keys.iter().any(|key| key.place == place)
+    keys.iter().any(|key| key.ordinal == ordinal)
 }
 
 fn operand_ungrouped(
     found: &mut Seq<u32>,
-    keys: &[PlaceAt],
+    keys: &[OrdinalAt],
     operand: &BoundOperand,
 ) -> Result<(), AllocError>
     ensures { OnOk result
@@ -30,13 +30,13 @@ fn operand_ungrouped(
 {
     match operand {
         Operand::Column { column, .. } if is_key(keys, *column) => Ok(()),
-        _ => found.push(place_of(operand)),
+        _ => found.push(offset_of(operand)),
     }
 }
 
 fn item_ungrouped(
     found: &mut Seq<u32>,
-    keys: &[PlaceAt],
+    keys: &[OrdinalAt],
     item: &BoundItem,
 ) -> Result<(), AllocError>
     ensures { OnOk result
@@ -50,7 +50,7 @@ fn item_ungrouped(
 
 fn items_ungrouped(
     found: &mut Seq<u32>,
-    keys: &[PlaceAt],
+    keys: &[OrdinalAt],
     items: &[BoundItem],
 ) -> Result<(), AllocError>
     ensures { OnOk result
@@ -63,20 +63,20 @@ fn items_ungrouped(
     Ok(())
 }
 
-fn selects(place: usize, item: &BoundItem) -> bool
-    ensures { result ≡ selects place (bound.item_of item.now) }
+fn selects(ordinal: usize, item: &BoundItem) -> bool
+    ensures { result ≡ selects ordinal (bound.item_of item.now) }
 {
     match &item.value {
-        BoundItemValue::Value(Operand::Column { column, .. }) => *column == place,
+        BoundItemValue::Value(Operand::Column { column, .. }) => *column == ordinal,
         _ => false,
     }
 }
 
-fn is_selected(place: usize, items: &[BoundItem]) -> bool
-    ensures { result ≡ list_any (selects place) (map bound.item_of items.now) }
+fn is_selected(ordinal: usize, items: &[BoundItem]) -> bool
+    ensures { result ≡ list_any (selects ordinal) (map bound.item_of items.now) }
 {
     for item in items {
-        if selects(place, item) {
+        if selects(ordinal, item) {
             return true;
         }
     }
@@ -106,7 +106,7 @@ fn key_unselected(
     ensures { OnOk result
         (found.new ≡ found.old ++ key_unselected (map bound.item_of items.now) key) }
 {
-    if is_selected(key.place, items) {
+    if is_selected(key.ordinal, items) {
         Ok(())
     } else {
         found.push(key.at)
@@ -127,7 +127,7 @@ fn query_ungrouped(found: &mut Seq<u32>, query: &BoundQuery) -> Result<(), Alloc
     Ok(())
 }
 
-/// Puts the places of what isn't grouped in a statement at the end.
+/// Appends the offsets of what isn't grouped in a statement.
 pub(crate) fn statement_ungrouped(
     found: &mut Seq<u32>,
     statement: &BoundStatement,

@@ -56,10 +56,10 @@ pub(crate) fn differ(a: Option<Kind>, b: Option<Kind>) -> bool
     }
 }
 
-pub(crate) fn column_kind(types: &Types<'_>, place: usize) -> Option<Kind>
-    ensures { result ≡ column_kind (types_seen types.now) place }
+pub(crate) fn column_kind(types: &Types<'_>, ordinal: usize) -> Option<Kind>
+    ensures { result ≡ column_kind (types_seen types.now) ordinal }
 {
-    match types.columns.get(place) {
+    match types.columns.get(ordinal) {
         Some(site) => Some(kind_of(site.ty)),
         None => None,
     }

@@ -3,8 +3,8 @@
 
 ghost use Rattle.semantic_checks.specs.Laws.{ChecksKeepTheUsed, SmallestFirst};
 
-/// A kind that clashes is told at the smallest place at which one does, what isn't grouped at the
-/// smallest such place, where no kind clashes, and a length only where neither is.
+/// A kind that clashes is reported at the smallest offset at which one does, what isn't grouped at
+/// the smallest of its offsets, if no kind clashes, and a length only if neither is.
 #[tactic(auto, using(crate::proofs::Smallest::smallest_first))]
 pub fn faults_are_smallest()
     ensures { SmallestFirst }

@@ -1,4 +1,4 @@
-//! What a statement whose names are places has to meet: values of one kind where they meet, items
+//! What a statement whose names are ordinals has to meet: values of one kind where they meet, items
 //! that are grouped, and a length within the limits. And which parameters it uses.
 #![tactic(auto)]
 

@@ -6,7 +6,7 @@ use Rattle.std.specs.List.{All}
 use Rattle.std.proofs.lemmas.List.{append_cancel_left, append-nil, take-append-le, take-append-drop, flat_map_more}
 use Rattle.std.proofs.lemmas.List.Elements.{All-nil, All-cons, All-push, All-head, All-tail}
 use Rattle.ae_edge.specs.Devices.{IsPrefix}
-use Rattle.ae_edge.proofs.Interface.{front_none}
+use Rattle.ae_edge.proofs.Interface.{prefix_none}
 use Rattle.wire_messages.specs.declared.requests.Request.{Request}
 use Rattle.wire_payloads.specs.declared.versioned.Versioned.{Versioned}
 use Rattle.wire_encoding.specs.Spelling.{SpellsRequest, asked_frame}
@@ -97,67 +97,68 @@ refused_more bytes more h =
       elim h.1 [
         | inl header ↦ inl (same.0 ∙ header)
         | inr frame ↦
-            let front : take (6 + stated (bytes ++ more)) (bytes ++ more) ≡ take (6 + stated bytes) bytes =
+            let prefix : take (6 + stated (bytes ++ more)) (bytes ++ more) ≡ take (6 + stated bytes) bytes =
             ap (λ (n : ℕ). take (6 + n) (bytes ++ more)) same.1 ∙ take-append-le (6 + stated bytes) bytes more frame.0 in
-            inr (omega (arith, frame.0, long, same.1), λ (r : Versioned Request) s. frame.1 r (subst (λ (f : List ℕ). SpellsRequest r f) front s))
+            inr (omega (arith, frame.0, long, same.1), λ (r : Versioned Request) s. frame.1 r (subst (λ (f : List ℕ). SpellsRequest r f) prefix s))
       ],
     )
 
-pub refused_further : (at : ℕ) (bytes more : List ℕ) (placed : List (Placed (Versioned Request))) (place : ℕ) → ReadsAs is_request_head SpellsRequest at bytes placed (Refused place)
-    → ReadsAs is_request_head SpellsRequest at (bytes ++ more) placed (Refused place)
-refused_further at bytes more [] place h = (h.0, refused_more bytes more h.1)
-refused_further at bytes more (p ∷ placed) place h = (
+pub refused_further : (at : ℕ) (bytes more : List ℕ) (placed : List (Placed (Versioned Request))) (offset : ℕ) → ReadsAs is_request_head SpellsRequest at bytes placed (Refused offset)
+    → ReadsAs is_request_head SpellsRequest at (bytes ++ more) placed (Refused offset)
+refused_further at bytes more [] offset h = (h.0, refused_more bytes more h.1)
+refused_further at bytes more (p ∷ placed) offset h = (
   h.0,
   h.1 ++ more,
   ap (λ (l : List ℕ). l ++ more) h.2 ∙ append_assoc h.0 h.1 more,
   h.3,
   h.4,
-  refused_further (at + length h.0) h.1 more placed place h.5,
+  refused_further (at + length h.0) h.1 more placed offset h.5,
 )
 
--- ---- fronts
+-- ---- prefixes
 
--- some bytes end somehow from a place on
+-- some bytes end somehow from an offset on
 abbrev IsEnded : ℕ → List ℕ → Type 0
 IsEnded at bytes = (end : End) × EndsSo is_request_head SpellsRequest at bytes end
 
--- what is longer, and spells nothing as far as its header states, is cut at the front or refused there
-by_length : (at : ℕ) (front more : List ℕ) → 0 < length front → 6 ≤ length front → is_no_header is_request_head front ≡ false
-    → ((r : Versioned Request) → SpellsRequest r (take (6 + stated front) (front ++ more)) → ⊥) → (length front < 6 + stated front) ⊎ (6 + stated front ≤ length front) → IsEnded at front
-by_length at front more some long ok none (inl cut) = (Rest at, (refl, some, inr (long, ok, cut)))
-by_length at front more some long ok none (inr whole) =
-    (Refused at, (refl, (long, inr (whole, λ (r : Versioned Request) s. none r (subst (λ (f : List ℕ). SpellsRequest r f) (sym (take-append-le (6 + stated front) front more whole)) s)))))
+-- what is longer, and spells nothing as far as its header states, is cut at the start or refused there
+by_length : (at : ℕ) (prefix more : List ℕ) → 0 < length prefix → 6 ≤ length prefix → is_no_header is_request_head prefix ≡ false
+    → ((r : Versioned Request) → SpellsRequest r (take (6 + stated prefix) (prefix ++ more)) → ⊥) → (length prefix < 6 + stated prefix) ⊎ (6 + stated prefix ≤ length prefix) → IsEnded at prefix
+by_length at prefix more some long ok none (inl cut) = (Rest at, (refl, some, inr (long, ok, cut)))
+by_length at prefix more some long ok none (inr whole) =
+    (Refused at, (refl, (long, inr (whole, λ (r : Versioned Request) s. none r (subst (λ (f : List ℕ). SpellsRequest r f) (sym (take-append-le (6 + stated prefix) prefix more whole)) s)))))
 
-by_header : (at : ℕ) (front more : List ℕ) → 0 < length front → 6 ≤ length front → (bad : Bool) → is_no_header is_request_head front ≡ bad
-    → (end : End) → EndsSo is_request_head SpellsRequest at (front ++ more) end → IsEnded at front
-by_header at front more some long true e end h = (Refused at, (refl, (long, inl e)))
-by_header at front more some long false e Whole h = absurd (omega (arith, some, ap length h, length-append front more))
-by_header at front more some long false e (Refused place) h =
-    let same = same_header front more long in
+by_header : (at : ℕ) (prefix more : List ℕ) → 0 < length prefix → 6 ≤ length prefix → (bad : Bool) → is_no_header is_request_head prefix ≡ bad
+    → (end : End) → EndsSo is_request_head SpellsRequest at (prefix ++ more) end → IsEnded at prefix
+by_header at prefix more some long true e end h = (Refused at, (refl, (long, inl e)))
+by_header at prefix more some long false e Whole h = absurd (omega (arith, some, ap length h, length-append prefix more))
+by_header at prefix more some long false e (Refused offset) h =
+    let same = same_header prefix more long in
     elim h.1.1 [
-      | inl header ↦ absurd (both_ways (is_no_header is_request_head front) (sym same.0 ∙ header) e)
+      | inl header ↦ absurd (both_ways (is_no_header is_request_head prefix) (sym same.0 ∙ header) e)
       | inr frame ↦
-          by_length at front more some long e
-          (λ (r : Versioned Request) s. frame.1 r (subst (λ (n : ℕ). SpellsRequest r (take (6 + n) (front ++ more))) (sym same.1) s))
-          (cases_lt (length front) (6 + stated front))
+          by_length at prefix more some long e
+          (λ (r : Versioned Request) s. frame.1 r (subst (λ (n : ℕ). SpellsRequest r (take (6 + n) (prefix ++ more))) (sym same.1) s))
+          (cases_lt (length prefix) (6 + stated prefix))
     ]
-by_header at front more some long false e (Rest place) h =
-    let same = same_header front more long in
-    let longer = length-append front more in
+by_header at prefix more some long false e (Rest offset) h =
+    let same = same_header prefix more long in
+    let longer = length-append prefix more in
     elim h.2 [
       | inl short ↦ absurd (omega (arith, short, longer, long))
       | inr cut ↦ (Rest at, (refl, some, inr (long, e, omega (arith, cut.2, longer, same.1))))
     ]
 
-by_six : (at : ℕ) (front more : List ℕ) → 0 < length front → (length front < 6) ⊎ (6 ≤ length front) → (end : End) → EndsSo is_request_head SpellsRequest at (front ++ more) end → IsEnded at front
-by_six at front more some (inl short) end h = (Rest at, (refl, some, inl short))
-by_six at front more some (inr long) end h = by_header at front more some long (is_no_header is_request_head front) refl end h
+by_six : (at : ℕ) (prefix more : List ℕ) → 0 < length prefix → (length prefix < 6) ⊎ (6 ≤ length prefix) → (end : End) → EndsSo is_request_head SpellsRequest at (prefix ++ more) end
+    → IsEnded at prefix
+by_six at prefix more some (inl short) end h = (Rest at, (refl, some, inl short))
+by_six at prefix more some (inr long) end h = by_header at prefix more some long (is_no_header is_request_head prefix) refl end h
 
 -- where more bytes end so, their front ends somehow
-ends_shorter : (at : ℕ) (front more : List ℕ) (end : End) → 0 < length front → EndsSo is_request_head SpellsRequest at (front ++ more) end → IsEnded at front
-ends_shorter at front more end some h = by_six at front more some (cases_lt (length front) 6) end h
+ends_shorter : (at : ℕ) (prefix more : List ℕ) (end : End) → 0 < length prefix → EndsSo is_request_head SpellsRequest at (prefix ++ more) end → IsEnded at prefix
+ends_shorter at prefix more end some h = by_six at prefix more some (cases_lt (length prefix) 6) end h
 
--- ---- fronts
+-- ---- prefixes
 
 module _ (reading : HasOneReading SpellsRequest) (once : IsReadOnce is_request_head SpellsRequest) (back : IsReadBack is_request_head SpellsRequest IsProper asked_frame) where
   -- no stream ends where a request stands
@@ -171,24 +172,24 @@ module _ (reading : HasOneReading SpellsRequest) (once : IsReadOnce is_request_h
       let same = once at (asked_frame r) [] (placed_from asked_frame at (r ∷ [])) short.0 Whole short.1 whole in
       absurd (none_some _ _ same.0)
 
-  front_from : (at : ℕ) (requests : List (Versioned Request)) (others bytes : List ℕ) (placed : List (Placed (Versioned Request))) (end : End)
+  prefix_from : (at : ℕ) (requests : List (Versioned Request)) (others bytes : List ℕ) (placed : List (Placed (Versioned Request))) (end : End)
       → bytes ≡ flat_map asked_frame requests ++ others → All IsProper requests
       → ReadsAs is_request_head SpellsRequest at bytes placed end → IsPrefix requests (requests_of placed)
-  front_from at [] others bytes placed end whole good h = front_none (requests_of placed)
-  front_from at (r ∷ requests) others bytes [] end whole good h =
+  prefix_from at [] others bytes placed end whole good h = prefix_none (requests_of placed)
+  prefix_from at (r ∷ requests) others bytes [] end whole good h =
       let regroup = append_assoc (asked_frame r) (flat_map asked_frame requests) others in
       absurd (no_end at r (flat_map asked_frame requests ++ others) end (All-head IsProper r requests good) (subst (λ (l : List ℕ). EndsSo is_request_head SpellsRequest at l end) (whole ∙ regroup) h))
-  front_from at (r ∷ requests) others bytes (p ∷ placed) end whole good h =
+  prefix_from at (r ∷ requests) others bytes (p ∷ placed) end whole good h =
       let regroup = append_assoc (asked_frame r) (flat_map asked_frame requests) others in
       let split : asked_frame r ++ (flat_map asked_frame requests ++ others) ≡ h.0 ++ h.1 = sym regroup ∙ sym whole ∙ h.2 in
       let one = reading r p.message (asked_frame r) h.0 (flat_map asked_frame requests ++ others) h.1 (All-head IsProper r requests good, refl) h.4 split in
       let rest : h.1 ≡ flat_map asked_frame requests ++ others =
       append_cancel_left h.0 h.1 (flat_map asked_frame requests ++ others) (sym split ∙ ap (λ (l : List ℕ). l ++ (flat_map asked_frame requests ++ others)) one.1) in
-      let front = front_from (at + length h.0) requests others h.1 placed end rest (All-tail IsProper r requests good) h.5 in
-      record { rest = front.rest; is = ap (λ (x : Versioned Request). x ∷ requests_of placed) (sym one.0) ∙ ap (λ (l : List (Versioned Request)). r ∷ l) front.is }
+      let prefix = prefix_from (at + length h.0) requests others h.1 placed end rest (All-tail IsProper r requests good) h.5 in
+      record { rest = prefix.rest; is = ap (λ (x : Versioned Request). x ∷ requests_of placed) (sym one.0) ∙ ap (λ (l : List (Versioned Request)). r ∷ l) prefix.is }
 
   -- requests that the bytes begin with are the first of all
-  pub requests_front : (bytes : List ℕ) (requests : List (Versioned Request)) (others : List ℕ) (placed : List (Placed (Versioned Request))) (end : End)
+  pub requests_prefix : (bytes : List ℕ) (requests : List (Versioned Request)) (others : List ℕ) (placed : List (Placed (Versioned Request))) (end : End)
       → Begins bytes requests others → RequestFrames bytes placed end
       → IsPrefix requests (requests_of placed)
-  requests_front bytes requests others placed end b h = front_from 0 requests others bytes placed end b.whole b.proper h
+  requests_prefix bytes requests others placed end b h = prefix_from 0 requests others bytes placed end b.whole b.proper h

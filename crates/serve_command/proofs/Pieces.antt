@@ -6,11 +6,11 @@ use Rattle.ae_base.specs.Limits.{most_stream_bytes}
 use Rattle.ae_edge.specs.Devices.{WhereExposed, Removes}
 use Rattle.ae_edge.specs.Sources.{Takes}
 use Rattle.ae_edge.specs.declared.sources.Taken.TheVariants as taken
-use Rattle.ae_edge.proofs.Interface.{told_map, removes_none, removes_then}
+use Rattle.ae_edge.proofs.Interface.{exposed_map, removes_none, removes_then}
 use Rattle.wire_messages.specs.declared.requests.Request.{Request}
 use Rattle.wire_payloads.specs.declared.versioned.Versioned.{Versioned}
 use Rattle.wire_frames.specs.Frames.{Whole, Refused, Rest, IsNotYet, is_request_head}
-use Rattle.wire_frames.specs.declared.decoding.Way.TheVariants.{ToServer}
+use Rattle.wire_frames.specs.declared.decoding.Direction.TheVariants.{ToServer}
 use Rattle.frame_feed.specs.Feeding.{Feeding, empty_feed}
 use Rattle.serve_command.specs.Inputs.{CountsEnding, EndsAt, ServesInput}
 use Rattle.serve_command.specs.Requests.{AnswersEach, AnswersEachOpen, AnswersSome, StopsAfter}
@@ -37,16 +37,16 @@ goes_first answers feed source first e =
 -- ---- what a call on the input takes
 
 removes_piece : (piece : List ℕ) (left after : Option (List ℕ)) → WhereExposed (Takes (taken.Bytes piece)) left after → Removes piece left after
-removes_piece piece left after h = told_map (Takes (taken.Bytes piece)) (λ (x y : List ℕ). x ≡ piece ++ y) (λ x y e. e) left after h
+removes_piece piece left after h = exposed_map (Takes (taken.Bytes piece)) (λ (x y : List ℕ). x ≡ piece ++ y) (λ x y e. e) left after h
 
 removes_end : (left after : Option (List ℕ)) → WhereExposed (Takes taken.End) left after → Removes [] left after
-removes_end left after h = told_map (Takes taken.End) (λ (x y : List ℕ). x ≡ [] ++ y) (λ x y e. e.0 ∙ sym e.1) left after h
+removes_end left after h = exposed_map (Takes taken.End) (λ (x y : List ℕ). x ≡ [] ++ y) (λ x y e. e.0 ∙ sym e.1) left after h
 
 removes_failed : (left after : Option (List ℕ)) → WhereExposed (Takes taken.Failed) left after → Removes [] left after
-removes_failed left after h = told_map (Takes taken.Failed) (λ (x y : List ℕ). x ≡ [] ++ y) (λ x y e. sym e) left after h
+removes_failed left after h = exposed_map (Takes taken.Failed) (λ (x y : List ℕ). x ≡ [] ++ y) (λ x y e. sym e) left after h
 
 removes_unheld : (left after : Option (List ℕ)) → WhereExposed (Takes taken.OutOfMemory) left after → Removes [] left after
-removes_unheld left after h = told_map (Takes taken.OutOfMemory) (λ (x y : List ℕ). x ≡ [] ++ y) (λ x y e. sym e) left after h
+removes_unheld left after h = exposed_map (Takes taken.OutOfMemory) (λ (x y : List ℕ). x ≡ [] ++ y) (λ x y e. sym e) left after h
 
 at_end : (left after : Option (List ℕ)) → WhereExposed (Takes taken.End) left after → IsAtEnd after
 at_end (Some x) (Some y) h = h.1
@@ -93,11 +93,11 @@ module _ {V E : Type 0} (answers : V → Versioned Request → V → Type 0) (st
           waits = h.1;
         }
 
-    pub ends_refused : (place : ℕ) (new : V) → After (λ bytes begin. AnswersEach answers bytes (Refused place) begin new) → ServesInput answers stops (ending.BadFrame place) source after first new
-    ends_refused place new f = record {
+    pub ends_refused : (offset : ℕ) (new : V) → After (λ bytes begin. AnswersEach answers bytes (Refused offset) begin new) → ServesInput answers stops (ending.BadFrame offset) source after first new
+    ends_refused offset new f = record {
       taken = g.taken ++ piece;
       lost = lost_more piece after took;
-      ends = (still_within, inl (holds (λ bytes begin. AnswersEach answers bytes (Refused place) begin new) f));
+      ends = (still_within, inl (holds (λ bytes begin. AnswersEach answers bytes (Refused offset) begin new) f));
     }
 
     pub ends_unread : (new : V) → After (λ bytes begin. AnswersSome answers bytes begin new) → ServesInput answers stops ending.OutOfMemory source after first new
@@ -119,12 +119,12 @@ module _ {V E : Type 0} (answers : V → Versioned Request → V → Type 0) (st
       → length piece ≡ 1 → count ≡ 0 → ServesInput answers stops ending.TooLong source after first now
   ends_past piece after took one none =
       let all : length g.taken ≡ most_stream_bytes = omega (arith, g.few, none) in
-      let front : take most_stream_bytes (g.taken ++ piece) ≡ g.taken =
+      let prefix : take most_stream_bytes (g.taken ++ piece) ≡ g.taken =
       take-append-le most_stream_bytes g.taken piece (omega (arith, all)) ∙ take_all most_stream_bytes g.taken (omega (arith, all)) in
       record {
         taken = g.taken ++ piece;
         lost = lost_more piece after took;
-        ends = (omega (arith, all, one, length-append g.taken piece), subst (λ (l : List ℕ). AnswersEachOpen answers l first now) (sym front) so_open);
+        ends = (omega (arith, all, one, length-append g.taken piece), subst (λ (l : List ℕ). AnswersEachOpen answers l first now) (sym prefix) so_open);
       }
 
   pub ends_failed : (after : Option (List ℕ)) → WhereExposed (Takes taken.Failed) left after → ServesInput answers stops ending.ReadFault source after first now
@@ -140,10 +140,10 @@ module _ {V E : Type 0} (answers : V → Versioned Request → V → Type 0) (st
     lost = lost_same after (removes_end left after h);
     ends = (within, at_end left after h, answers_each answers g.taken feed first now g.stands Whole e);
   }
-  ends_whole (ending.BadFrame place) after h e = record {
+  ends_whole (ending.BadFrame offset) after h e = record {
     taken = g.taken;
     lost = lost_same after (removes_end left after h);
-    ends = (within, inr (at_end left after h, answers_each answers g.taken feed first now g.stands (Rest place) (e.0, e.1, g.waits)));
+    ends = (within, inr (at_end left after h, answers_each answers g.taken feed first now g.stands (Rest offset) (e.0, e.1, g.waits)));
   }
   ends_whole ending.ReadFault after h e = absurd e
   ends_whole ending.TooLong after h e = absurd e
@@ -153,7 +153,7 @@ module _ {V E : Type 0} (answers : V → Versioned Request → V → Type 0) (st
 -- where it ends there, the counts of faults stay
 pub counts_whole : {F E : Type 0} (counts : E → F → F → Type 0) (r : Ending E) (feed : Feeding) (old new : F) → EndsAt r feed → new ≡ old → CountsEnding counts r old new
 counts_whole counts ending.Done feed old new e n = n
-counts_whole counts (ending.BadFrame place) feed old new e n = n
+counts_whole counts (ending.BadFrame offset) feed old new e n = n
 counts_whole counts ending.ReadFault feed old new e n = absurd e
 counts_whole counts ending.TooLong feed old new e n = absurd e
 counts_whole counts ending.OutOfMemory feed old new e n = absurd e

@@ -2,7 +2,7 @@
 use Rattle.std.proofs.Common.{◌≡◌, ℕ, List, [], ◌∷◌, ◌++◌, length, Option, Some, None, refl, sym, ap, ◌∙◌, append_assoc, append-nil}
 use Rattle.std.specs.Prelude.{flat_map}
 use Rattle.ae_edge.specs.Devices.{Adds, AddsPrefix, IsPrefix}
-use Rattle.ae_edge.proofs.Interface.{adds_then, front_none}
+use Rattle.ae_edge.proofs.Interface.{adds_then, prefix_none}
 use Rattle.wire_messages.specs.declared.requests.Request.{Request}
 use Rattle.wire_payloads.specs.declared.versioned.Versioned.{Versioned}
 use Rattle.wire_encoding.specs.Spelling.{SpellsRequest, asked_frame}
@@ -34,18 +34,18 @@ pub frames_more : (first : State) (requests : List (Versioned Request)) (r : Ver
 frames_more first requests r =
     frames_then first requests (r ∷ []) ∙ ap (λ (l : List ℕ). reply_frames first requests ++ l) (append-nil (answer_frames (state_after first requests) r))
 
--- the frames of the replies to the first requests are a front of those to all
-pub frames_front : (first : State) (requests others : List (Versioned Request)) → IsPrefix (reply_frames first requests) (reply_frames first (requests ++ others))
-frames_front first requests others = record { rest = reply_frames (state_after first requests) others; is = frames_then first requests others }
+-- the frames of the replies to the first requests are a prefix of those to all
+pub frames_prefix : (first : State) (requests others : List (Versioned Request)) → IsPrefix (reply_frames first requests) (reply_frames first (requests ++ others))
+frames_prefix first requests others = record { rest = reply_frames (state_after first requests) others; is = frames_then first requests others }
 
--- ---- the frames of the replies were put
+-- ---- the frames of the replies were written
 
--- of what was put, the front is told
-a_front : (xs : List ℕ) (old new : Option (List ℕ)) → AddsPrefix xs old new → (front : List ℕ) × IsPrefix front xs × Adds front old new
-a_front xs (Some old) (Some new) h = (h.front, h.of_it, h.grew)
-a_front xs None None h = ([], front_none xs, tt)
-a_front xs (Some old) None h = absurd h
-a_front xs None (Some new) h = absurd h
+-- of what was written, the prefix is exposed
+a_prefix : (xs : List ℕ) (old new : Option (List ℕ)) → AddsPrefix xs old new → (prefix : List ℕ) × IsPrefix prefix xs × Adds prefix old new
+a_prefix xs (Some old) (Some new) h = (h.prefix, h.of_it, h.grew)
+a_prefix xs None None h = ([], prefix_none xs, tt)
+a_prefix xs (Some old) None h = absurd h
+a_prefix xs None (Some new) h = absurd h
 
 module _ (start : State) (taken : List ℕ) (requests : List (Versioned Request)) (old now : Option (List ℕ)) (put : Adds (reply_frames start requests) old now) where
   -- to all requests of the bytes taken, which end so
@@ -67,13 +67,13 @@ module _ (start : State) (taken : List ℕ) (requests : List (Versioned Request)
   pub breaks_off : (next : Versioned Request) (others : List ℕ) (new : Option (List ℕ)) → Begins taken (requests ++ next ∷ []) others → AddsPrefix (answer_frames (state_after start requests) next) now new
       → BreaksOff start taken old new
   breaks_off next others new begins part =
-      let front = a_front (answer_frames (state_after start requests) next) now new part in
+      let prefix = a_prefix (answer_frames (state_after start requests) next) now new part in
       record {
         answered = requests;
         next = next;
         others = others;
         begins = begins;
-        front = front.0;
-        of_next = front.1;
-        put = adds_then (reply_frames start requests) front.0 old now new put front.2;
+        prefix = prefix.0;
+        of_next = prefix.1;
+        put = adds_then (reply_frames start requests) prefix.0 old now new put prefix.2;
       }

@@ -1,4 +1,4 @@
--- What the server put for the requests of an input.
+-- What the server wrote for the requests of an input.
 use Rattle.std.proofs.Common.{◌≡◌, ℕ, List, [], ◌∷◌, Option, Result, Ok, Err, refl, sym, ap, subst, ◌∙◌, inl, inr}
 use Rattle.ae_edge.specs.Devices.{Adds, AddsPrefix, Rose}
 use Rattle.ae_edge.specs.Streams.{CountsPutAll, CountsWrite, PutsAll}
@@ -18,21 +18,21 @@ use Rattle.serve_command.specs.Requests.{Answers, AnswersEach, AnswersEachOpen, 
 use Rattle.serve_command.specs.ServeAll.{answer_frames, messages_of, reply_frames, state_after}
 use Rattle.serve_command.specs.Servers.{AnswersRequest, ServerView, StopsRequest, served_by}
 use Rattle.serve_command.specs.Serving.{AnswersAll, AnswersFirst, AnswersOpen, BreaksOff, Ends, ServesStream}
-use Rattle.serve_command.specs.declared.commands.Served.{Served}
-use Rattle.serve_command.specs.declared.commands.Served.TheVariants as served
+use Rattle.serve_command.specs.declared.commands.ServeEnding.{ServeEnding}
+use Rattle.serve_command.specs.declared.commands.ServeEnding.TheVariants as served
 use Rattle.serve_command.specs.declared.inputs.Ending.{Ending}
 use Rattle.serve_command.specs.declared.inputs.Ending.TheVariants as ending
 use Rattle.serve_command.proofs.Replying.{answers_all, breaks_off}
 
 -- ---- one request
 
--- it was served, and the frames of the replies were put, or a prefix of them
-pub answers_put : {A : Type 0} (result : Result A WriteError) (asked : Versioned Request) (old new : ServerView) (replies : List Reply)
-    → serve old.state asked.message ≡ record { replies = replies; after = new.state } → PutsAll (packed asked.version replies) result old.out new.out
-    → Answers AnswersRequest StopsRequest result asked old new
-answers_put (Ok x) asked old new replies s p =
-    (sym (ap (λ (v : exchanges.Served State). v.after) s), subst (λ (v : exchanges.Served State). Adds (packed asked.version v.replies) old.out new.out) (sym s) p)
-answers_put (Err e) asked old new replies s p = subst (λ (v : exchanges.Served State). AddsPrefix (packed asked.version v.replies) old.out new.out) (sym s) p
+-- it was served, and the frames of the replies were written, or a prefix of them
+pub answers_put : {A : Type 0} (result : Result A WriteError) (request : Versioned Request) (old new : ServerView) (replies : List Reply)
+    → serve old.state request.message ≡ record { replies = replies; after = new.state } → PutsAll (packed request.version replies) result old.out new.out
+    → Answers AnswersRequest StopsRequest result request old new
+answers_put (Ok x) request old new replies s p =
+    (sym (ap (λ (v : exchanges.ServeEnding State). v.after) s), subst (λ (v : exchanges.ServeEnding State). Adds (packed request.version v.replies) old.out new.out) (sym s) p)
+answers_put (Err e) request old new replies s p = subst (λ (v : exchanges.ServeEnding State). AddsPrefix (packed request.version v.replies) old.out new.out) (sym s) p
 
 pub counts_put : {A : Type 0} (result : Result A WriteError) (old new : ℕ) → CountsPutAll result old new → CountsAnswer CountsWrite result old new
 counts_put (Ok x) old new c = c
@@ -40,7 +40,7 @@ counts_put (Err e) old new c = c
 
 -- ---- the requests
 
--- where each was answered, the state is that after all of them, and the frames of all replies were put
+-- where each was answered, the state is that after all of them, and the frames of all replies were written
 replied : (requests : List (Versioned Request)) (first last : ServerView) → AreAnswered AnswersRequest first requests last
     → (last.state ≡ state_after first.state requests) × Adds (reply_frames first.state requests) first.out last.out
 replied [] first last a = subst (λ (v : ServerView). (v.state ≡ first.state) × Adds [] first.out v.out) (sym a) (refl, adds_none first.out)
@@ -74,7 +74,7 @@ breaks_of error taken first last b =
 ends_of : (how : Ending WriteError) (taken : List ℕ) (left : Option (List ℕ)) (first last : ServerView) → EndsAs AnswersRequest StopsRequest how taken left first last
     → Ends first.state (served_by how) taken left first.out last.out
 ends_of ending.Done taken left first last h = (h.0, h.1, all_of taken _ first last h.2)
-ends_of (ending.BadFrame place) taken left first last h =
+ends_of (ending.BadFrame offset) taken left first last h =
     (h.0, elim h.1 [ inl refused ↦ inl (all_of taken _ first last refused) | inr cut ↦ inr (cut.0, all_of taken _ first last cut.1) ])
 ends_of ending.TooLong taken left first last h = (h.0, open_of _ first last h.1)
 ends_of ending.ReadFault taken left first last h = (h.0, open_of taken first last h.1)
@@ -91,9 +91,9 @@ stream_from law how source left first last e s = record {
   serial = λ requests others b. law (messages_of requests);
 }
 
-pub stream_of : RequestsAreSerial → (how : Ending WriteError) (result : Served) (source left : Option (List ℕ)) (first last : ServerView) → result ≡ served_by how → first.state ≡ empty_state
+pub stream_of : RequestsAreSerial → (how : Ending WriteError) (result : ServeEnding) (source left : Option (List ℕ)) (first last : ServerView) → result ≡ served_by how → first.state ≡ empty_state
     → ServesInput AnswersRequest StopsRequest how source left first last → ServesStream result source left first.out last.out
-stream_of law how result source left first last r e s = subst (λ (x : Served). ServesStream x source left first.out last.out) (sym r) (stream_from law how source left first last e s)
+stream_of law how result source left first last r e s = subst (λ (x : ServeEnding). ServesStream x source left first.out last.out) (sym r) (stream_from law how source left first last e s)
 
 -- ---- faults
 
@@ -102,7 +102,7 @@ pub read_failed : (how : Ending WriteError) → served_by how ≡ served.ReadFau
 read_failed ending.Done e = cc
 read_failed ending.ReadFault e = refl
 read_failed ending.TooLong e = cc
-read_failed (ending.BadFrame place) e = cc
+read_failed (ending.BadFrame offset) e = cc
 read_failed ending.OutOfMemory e = cc
 read_failed (ending.Stopped write.Failed) e = cc
 read_failed (ending.Stopped write.OutOfMemory) e = cc
@@ -111,7 +111,7 @@ pub write_failed : (how : Ending WriteError) (old new : ℕ) → served_by how �
 write_failed ending.Done old new e c = absurd cc
 write_failed ending.ReadFault old new e c = absurd cc
 write_failed ending.TooLong old new e c = absurd cc
-write_failed (ending.BadFrame place) old new e c = absurd cc
+write_failed (ending.BadFrame offset) old new e c = absurd cc
 write_failed ending.OutOfMemory old new e c = absurd cc
 write_failed (ending.Stopped write.Failed) old new e c = c
 write_failed (ending.Stopped write.OutOfMemory) old new e c = absurd cc

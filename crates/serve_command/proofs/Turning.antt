@@ -7,8 +7,8 @@ use Rattle.wire_payloads.specs.declared.versioned.Versioned.{Versioned}
 use Rattle.wire_encoding.specs.Spelling.{SpellsRequest, asked_frame}
 use Rattle.wire_frames.specs.Decoding.{has_head}
 use Rattle.wire_frames.specs.Frames.{End, Whole, Refused, Rest, EndsSo, IsNotYet, IsRefused, is_request_head}
-use Rattle.wire_frames.specs.declared.decoding.Way.{Way}
-use Rattle.wire_frames.specs.declared.decoding.Way.TheVariants.{ToServer}
+use Rattle.wire_frames.specs.declared.decoding.Direction.{Direction}
+use Rattle.wire_frames.specs.declared.decoding.Direction.TheVariants.{ToServer}
 use Rattle.frame_feed.specs.Feeding.{Feeding, SpellsMessage, StandsWhole, behind, with_piece, empty_feed}
 use Rattle.frame_feed.specs.Steps.{Steps}
 use Rattle.frame_feed.specs.declared.feeds.Next.TheVariants as next
@@ -21,16 +21,16 @@ use Rattle.serve_command.proofs.Beginning.{begins_none, begins_more, begins_fed}
 
 -- ---- what stands next
 
-pub stands_whole : (feed : Feeding) (request : Versioned Request) (used : ℕ) → feed.way ≡ ToServer → IsNext feed request used → StandsWhole used feed
-stands_whole feed request used way next = record {
+pub stands_whole : (feed : Feeding) (request : Versioned Request) (used : ℕ) → feed.direction ≡ ToServer → IsNext feed request used → StandsWhole used feed
+stands_whole feed request used direction next = record {
   message = Asks request;
   held = next.held;
-  spelled = subst (λ (w : Way). SpellsMessage w (Asks request) (take used feed.held)) (sym way) next.spells;
+  spelled = subst (λ (w : Direction). SpellsMessage w (Asks request) (take used feed.held)) (sym direction) next.spells;
 }
 
-pub refused_so : (way : Way) (held : List ℕ) → way ≡ ToServer → IsRefused (has_head way) (SpellsMessage way) held → IsRefused is_request_head SpellsRequest held
-refused_so way held e h =
-    let asks : IsRefused is_request_head (SpellsMessage ToServer) held = subst (λ (w : Way). IsRefused (has_head w) (SpellsMessage w) held) e h in
+pub refused_so : (direction : Direction) (held : List ℕ) → direction ≡ ToServer → IsRefused (has_head direction) (SpellsMessage direction) held → IsRefused is_request_head SpellsRequest held
+refused_so direction held e h =
+    let asks : IsRefused is_request_head (SpellsMessage ToServer) held = subst (λ (w : Direction). IsRefused (has_head w) (SpellsMessage w) held) e h in
     (asks.0, elim asks.1 [ inl header ↦ inl header | inr frame ↦ inr (frame.0, λ (r : Versioned Request) s. frame.1 (Asks r) s) ])
 
 -- ---- requests that are answered one after another
@@ -65,15 +65,15 @@ held_fed : (feed : Feeding) (piece : List ℕ) → feed.failed ≡ false → fee
 held_fed feed piece waits = unless feed.failed (feed.held ++ piece) feed.held waits
 
 pub stands_first : {V : Type 0} (answers : V → Versioned Request → V → Type 0) (first : V) → Stands answers [] (empty_feed ToServer) first first
-stands_first answers first = record { requests = []; begins = begins_none []; place = refl; way = refl; waits = refl; answered = refl }
+stands_first answers first = record { requests = []; begins = begins_none []; offset = refl; direction = refl; waits = refl; answered = refl }
 
 pub stands_fed : {V : Type 0} (answers : V → Versioned Request → V → Type 0) (taken piece : List ℕ) (feed : Feeding) (first now : V)
     → Stands answers taken feed first now → Stands answers (taken ++ piece) (with_piece feed piece) first now
 stands_fed answers taken piece feed first now s = record {
   requests = s.requests;
   begins = subst (λ (l : List ℕ). Begins (taken ++ piece) s.requests l) (held_fed feed piece s.waits) (begins_fed taken s.requests feed.held piece s.begins);
-  place = s.place;
-  way = s.way;
+  offset = s.offset;
+  direction = s.direction;
   waits = s.waits;
   answered = s.answered;
 }
@@ -89,8 +89,8 @@ module _ {V : Type 0} (answers : V → Versioned Request → V → Type 0) (take
       record {
         requests = s.requests ++ a.request ∷ [];
         begins = more;
-        place = omega (arith, s.place, frame, all, fits, short);
-        way = s.way;
+        offset = omega (arith, s.offset, frame, all, fits, short);
+        direction = s.direction;
         waits = s.waits;
         answered = answered_more answers s.requests a.request first now new s.answered a.answered;
       }
@@ -101,7 +101,7 @@ module _ {V : Type 0} (answers : V → Versioned Request → V → Type 0) (take
   -- what was taken ends so
   pub answers_each : (end : End) → EndsSo is_request_head SpellsRequest feed.at feed.held end → AnswersEach answers taken end first now
   unfolding answers_some
-  answers_each end e = record { some = answers_some; ends = subst (λ (n : ℕ). EndsSo is_request_head SpellsRequest n feed.held end) s.place e }
+  answers_each end e = record { some = answers_some; ends = subst (λ (n : ℕ). EndsSo is_request_head SpellsRequest n feed.held end) s.offset e }
 
   -- less than a frame is held
   pub answers_open : IsNotYet is_request_head feed.held → AnswersEachOpen answers taken first now
@@ -125,9 +125,9 @@ module _ {V E : Type 0} (answers : V → Versioned Request → V → Type 0) (st
   pub drains_waits : Turns answers stops turn.Waits feed now new → Drains answers stops drained.Waits taken feed first new
   drains_waits t = (subst (λ (v : V). Stands answers taken feed first v) (sym t.2) s, t.0)
 
-  pub drains_refused : (place : ℕ) → Turns answers stops (turn.Refused place) feed now new → AnswersEach answers taken (Refused place) first new
-  drains_refused place t =
-      subst (λ (v : V). AnswersEach answers taken (Refused place) first v) (sym t.2) (answers_each answers taken feed first now s (Refused place) (t.0, t.1))
+  pub drains_refused : (offset : ℕ) → Turns answers stops (turn.Refused offset) feed now new → AnswersEach answers taken (Refused offset) first new
+  drains_refused offset t =
+      subst (λ (v : V). AnswersEach answers taken (Refused offset) first v) (sym t.2) (answers_each answers taken feed first now s (Refused offset) (t.0, t.1))
 
   pub drains_unread : new ≡ now → AnswersSome answers taken first new
   drains_unread e = subst (λ (v : V). AnswersSome answers taken first v) (sym e) (answers_some answers taken feed first now s)

@@ -9,4 +9,4 @@ use Rattle.wire_encoding.specs.Packing.{payloads_of}
 -- what the frames of each answer carry, to requests that are served one after another from a state on
 abbrev pub answers_to : State → List (Versioned Request) → List (List Payload)
 answers_to first [] = []
-answers_to first (asked ∷ others) = let served = serve first asked.message in payloads_of asked.version served.replies ∷ answers_to served.after others
+answers_to first (request ∷ others) = let served = serve first request.message in payloads_of request.version served.replies ∷ answers_to served.after others

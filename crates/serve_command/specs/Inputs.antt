@@ -11,18 +11,18 @@ use Rattle.serve_command.specs.Requests.{AnswersEach, AnswersEachOpen, AnswersSo
 use Rattle.serve_command.specs.declared.inputs.Ending.{Ending}
 use Rattle.serve_command.specs.declared.inputs.Ending.TheVariants as ending
 
--- at the end of the input nothing is held, or less than a frame, from this place on
+-- at the end of the input nothing is held, or less than a frame, from this offset on
 abbrev pub EndsAt : {E : Type 0} → Ending E → Feeding → Type 0
 EndsAt ending.Done feed = feed.held ≡ []
-EndsAt (ending.BadFrame place) feed = (place ≡ feed.at) × (0 < length feed.held)
+EndsAt (ending.BadFrame offset) feed = (offset ≡ feed.at) × (0 < length feed.held)
 EndsAt other feed = ⊥
 
 -- A frame that is refused ends it at once, and so does a request that isn't answered whole, a fault or out of memory; else the
 -- input is taken to its end, or to one byte past the limit, when all requests within the limit are answered.
 abbrev pub EndsAs : {V E : Type 0} → (V → Versioned Request → V → Type 0) → (E → V → Versioned Request → V → Type 0) → Ending E → List ℕ → Option (List ℕ) → V → V → Type 0
 EndsAs answers stops ending.Done taken left first last = (length taken ≤ most_stream_bytes) × IsAtEnd left × AnswersEach answers taken Whole first last
-EndsAs answers stops (ending.BadFrame place) taken left first last =
-    (length taken ≤ most_stream_bytes) × (AnswersEach answers taken (Refused place) first last ⊎ (IsAtEnd left × AnswersEach answers taken (Rest place) first last))
+EndsAs answers stops (ending.BadFrame offset) taken left first last =
+    (length taken ≤ most_stream_bytes) × (AnswersEach answers taken (Refused offset) first last ⊎ (IsAtEnd left × AnswersEach answers taken (Rest offset) first last))
 EndsAs answers stops ending.TooLong taken left first last = (length taken ≡ most_stream_bytes + 1) × AnswersEachOpen answers (take most_stream_bytes taken) first last
 EndsAs answers stops ending.ReadFault taken left first last = (length taken ≤ most_stream_bytes) × AnswersEachOpen answers taken first last
 EndsAs answers stops ending.OutOfMemory taken left first last = (length taken ≤ most_stream_bytes) × AnswersSome answers taken first last

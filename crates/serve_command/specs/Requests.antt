@@ -11,7 +11,7 @@ use Rattle.wire_frames.specs.Frames.{End, Whole, Refused, Rest, EndsSo, is_reque
 
 -- the message meets its conditions
 abbrev pub IsProper : Versioned Request → Type 0
-IsProper asked = IsRequest asked.message
+IsProper request = IsRequest request.message
 
 -- the bytes begin with the frames of these requests, and then come the others
 pub record Begins (bytes : List ℕ) (requests : List (Versioned Request)) (others : List ℕ) : Type 0 where
@@ -21,15 +21,15 @@ pub record Begins (bytes : List ℕ) (requests : List (Versioned Request)) (othe
 -- they end after a frame, or inside one
 abbrev pub IsOpen : End → Type 0
 IsOpen Whole = Unit {0}
-IsOpen (Refused place) = ⊥
-IsOpen (Rest place) = Unit {0}
+IsOpen (Refused offset) = ⊥
+IsOpen (Rest offset) = Unit {0}
 
 -- ---- requests that are answered
 
 -- one request was answered whole, or not, for a cause
 abbrev pub Answers : {V E A : Type 0} → (V → Versioned Request → V → Type 0) → (E → V → Versioned Request → V → Type 0) → Result A E → Versioned Request → V → V → Type 0
-Answers whole part (Ok x) asked old new = whole old asked new
-Answers whole part (Err e) asked old new = part e old asked new
+Answers whole part (Ok x) request old new = whole old request new
+Answers whole part (Err e) request old new = part e old request new
 
 -- the counts of faults stay, but where it wasn't answered whole
 abbrev pub CountsAnswer : {F E A : Type 0} → (E → F → F → Type 0) → Result A E → F → F → Type 0
@@ -39,7 +39,7 @@ CountsAnswer counts (Err e) old new = counts e old new
 -- requests were answered whole, one after another
 abbrev pub AreAnswered : {V : Type 0} → (V → Versioned Request → V → Type 0) → V → List (Versioned Request) → V → Type 0
 AreAnswered answers first [] last = last ≡ first
-AreAnswered {V} answers first (asked ∷ others) last = (next : V) × answers first asked next × AreAnswered answers next others last
+AreAnswered {V} answers first (request ∷ others) last = (next : V) × answers first request next × AreAnswered answers next others last
 
 -- the first requests of some bytes were
 pub record AnswersSome {V : Type 0} (answers : V → Versioned Request → V → Type 0) (bytes : List ℕ) (first last : V) : Type 0 where

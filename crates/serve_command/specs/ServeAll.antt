@@ -6,22 +6,22 @@ use Rattle.wire_encoding.specs.Packing.{packed}
 use Rattle.wire_frames.specs.Frames.{Placed, End, RequestFrames}
 use Rattle.server_core.specs.Serve.{State, serve, serve_all}
 
--- the requests of a stream, with their versions and without their places
+-- the requests of a stream, with their versions and without their offsets
 abbrev pub requests_of : List (Placed (Versioned Request)) → List (Versioned Request)
 requests_of placed = map (λ p. p.message) placed
 
 -- without their versions
 abbrev pub messages_of : List (Versioned Request) → List Request
-messages_of requests = map (λ asked. asked.message) requests
+messages_of requests = map (λ request. request.message) requests
 
 -- the frames of all replies to a request, in its version
 abbrev pub answer_frames : State → Versioned Request → List ℕ
-answer_frames state asked = packed asked.version (serve state asked.message).replies
+answer_frames state request = packed request.version (serve state request.message).replies
 
 -- the frames of all replies to some requests, served one after another from a state on
 abbrev pub reply_frames : State → List (Versioned Request) → List ℕ
 reply_frames first [] = []
-reply_frames first (asked ∷ others) = answer_frames first asked ++ reply_frames (serve first asked.message).after others
+reply_frames first (request ∷ others) = answer_frames first request ++ reply_frames (serve first request.message).after others
 
 -- the state after them
 abbrev pub state_after : State → List (Versioned Request) → State

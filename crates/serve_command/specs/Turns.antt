@@ -4,7 +4,7 @@ use Rattle.wire_messages.specs.declared.requests.Request.{Request}
 use Rattle.wire_payloads.specs.declared.versioned.Versioned.{Versioned}
 use Rattle.wire_encoding.specs.Spelling.{SpellsRequest, asked_frame}
 use Rattle.wire_frames.specs.Frames.{Refused, IsNotYet, IsRefused, is_request_head}
-use Rattle.wire_frames.specs.declared.decoding.Way.TheVariants.{ToServer}
+use Rattle.wire_frames.specs.declared.decoding.Direction.TheVariants.{ToServer}
 use Rattle.frame_feed.specs.Feeding.{Feeding}
 use Rattle.frame_feed.specs.declared.messages.Message.{Message}
 use Rattle.frame_feed.specs.declared.messages.Message.TheVariants.{Asks, Tells}
@@ -17,16 +17,16 @@ use Rattle.serve_command.specs.declared.turns.Drained.TheVariants as drained
 -- ---- one request
 
 abbrev pub IsAsked : Message → Type 0
-IsAsked (Asks asked) = Unit {0}
+IsAsked (Asks request) = Unit {0}
 IsAsked (Tells payload) = ⊥
 
 -- the request was answered, whole or not
 abbrev pub Responds : {V E : Type 0} → (V → Versioned Request → V → Type 0) → (E → V → Versioned Request → V → Type 0) → Turn E → ℕ → Message → V → V → Type 0
-Responds answers stops (turn.Answered count) used (Asks asked) old new = (count ≡ used) × answers old asked new
-Responds answers stops (turn.Stopped stop) used (Asks asked) old new = stops stop old asked new
-Responds answers stops turn.Waits used (Asks asked) old new = ⊥
-Responds answers stops (turn.Refused place) used (Asks asked) old new = ⊥
-Responds answers stops turn.OutOfMemory used (Asks asked) old new = ⊥
+Responds answers stops (turn.Answered count) used (Asks request) old new = (count ≡ used) × answers old request new
+Responds answers stops (turn.Stopped stop) used (Asks request) old new = stops stop old request new
+Responds answers stops turn.Waits used (Asks request) old new = ⊥
+Responds answers stops (turn.Refused offset) used (Asks request) old new = ⊥
+Responds answers stops turn.OutOfMemory used (Asks request) old new = ⊥
 Responds answers stops turn used (Tells payload) old new = ⊥
 
 -- a request stands next, whose frame has so many bytes
@@ -52,7 +52,7 @@ pub record StopsNext {V : Type 0} (stops : V → Versioned Request → V → Typ
 abbrev pub Turns : {V E : Type 0} → (V → Versioned Request → V → Type 0) → (E → V → Versioned Request → V → Type 0) → Turn E → Feeding → V → V → Type 0
 Turns answers stops (turn.Answered used) feed old new = AnswersNext answers feed used old new
 Turns answers stops turn.Waits feed old new = IsNotYet is_request_head feed.held × (feed.failed ≡ false) × (new ≡ old)
-Turns answers stops (turn.Refused place) feed old new = (place ≡ feed.at) × IsRefused is_request_head SpellsRequest feed.held × (new ≡ old)
+Turns answers stops (turn.Refused offset) feed old new = (offset ≡ feed.at) × IsRefused is_request_head SpellsRequest feed.held × (new ≡ old)
 Turns answers stops turn.OutOfMemory feed old new = new ≡ old
 Turns answers stops (turn.Stopped stop) feed old new = StopsNext (stops stop) feed old new
 
@@ -60,7 +60,7 @@ Turns answers stops (turn.Stopped stop) feed old new = StopsNext (stops stop) fe
 abbrev pub CountsTurn : {F E : Type 0} → (E → F → F → Type 0) → Turn E → F → F → Type 0
 CountsTurn counts (turn.Answered used) old new = new ≡ old
 CountsTurn counts turn.Waits old new = new ≡ old
-CountsTurn counts (turn.Refused place) old new = new ≡ old
+CountsTurn counts (turn.Refused offset) old new = new ≡ old
 CountsTurn counts turn.OutOfMemory old new = new ≡ old
 CountsTurn counts (turn.Stopped stop) old new = counts stop old new
 
@@ -68,7 +68,7 @@ CountsTurn counts (turn.Stopped stop) old new = counts stop old new
 abbrev pub WhereAnswered : {E : Type 0} → Turn E → Type 0 → Type 0
 WhereAnswered (turn.Answered used) P = P
 WhereAnswered turn.Waits P = Unit {0}
-WhereAnswered (turn.Refused place) P = Unit {0}
+WhereAnswered (turn.Refused offset) P = Unit {0}
 WhereAnswered turn.OutOfMemory P = Unit {0}
 WhereAnswered (turn.Stopped stop) P = Unit {0}
 
@@ -78,19 +78,19 @@ WhereAnswered (turn.Stopped stop) P = Unit {0}
 pub record Stands {V : Type 0} (answers : V → Versioned Request → V → Type 0) (taken : List ℕ) (feed : Feeding) (first now : V) : Type 0 where
   pub requests : List (Versioned Request)
   pub begins : Begins taken requests feed.held
-  pub place : feed.at ≡ length (flat_map asked_frame requests)
-  pub way : feed.way ≡ ToServer
+  pub offset : feed.at ≡ length (flat_map asked_frame requests)
+  pub direction : feed.direction ≡ ToServer
   pub waits : feed.failed ≡ false
   pub answered : AreAnswered answers first requests now
 
 abbrev pub Drains : {V E : Type 0} → (V → Versioned Request → V → Type 0) → (E → V → Versioned Request → V → Type 0) → Drained E → List ℕ → Feeding → V → V → Type 0
 Drains answers stops drained.Waits taken feed first now = Stands answers taken feed first now × IsNotYet is_request_head feed.held
-Drains answers stops (drained.Refused place) taken feed first now = AnswersEach answers taken (Refused place) first now
+Drains answers stops (drained.Refused offset) taken feed first now = AnswersEach answers taken (Refused offset) first now
 Drains answers stops drained.OutOfMemory taken feed first now = AnswersSome answers taken first now
 Drains answers stops (drained.Stopped stop) taken feed first now = StopsAfter answers (stops stop) taken first now
 
 abbrev pub CountsDrained : {F E : Type 0} → (E → F → F → Type 0) → Drained E → F → F → Type 0
 CountsDrained counts drained.Waits old new = new ≡ old
-CountsDrained counts (drained.Refused place) old new = new ≡ old
+CountsDrained counts (drained.Refused offset) old new = new ≡ old
 CountsDrained counts drained.OutOfMemory old new = new ≡ old
 CountsDrained counts (drained.Stopped stop) old new = counts stop old new

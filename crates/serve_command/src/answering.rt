@@ -39,19 +39,19 @@ pub trait Answering<D> {
     /// How they change where a request isn't answered whole.
     ghost counts: { Self.Stop → Faults → Faults → Type 0 };
 
-    /// What the device is lent.
+    /// What the device borrows.
     ghost names: { D → List GName };
 
-    /// Answers a request, and puts the frames of its replies.
+    /// Answers a request, and writes the frames of its replies.
     fn answer<W: Sink>(
         &mut self,
         alloc: Global,
-        asked: &Versioned<Request<'_>>,
+        request: &Versioned<Request<'_>>,
         out: &mut W,
         device: &mut D,
     ) -> Result<(), Self::Stop>
         requires { is_ready (seen self.old device.old (W.seen out.old).content) }
-        ensures answered { Answers answers stops result asked.now
+        ensures answered { Answers answers stops result request.now
             (seen self.old device.old (W.seen out.old).content)
             (seen self.new device.new (W.seen out.new).content) }
         ensures ready { OnOk result

@@ -12,15 +12,15 @@ use ae_edge::sinks::Sink;
 use ae_edge::streams::{WriteError, put_all};
 use server_core::server::Server;
 use std::alloc::Global;
-use wire_encoding::push_front;
+use wire_encoding::push_prefix;
 use wire_messages::replies::Reply;
 use wire_messages::requests::Request;
 use wire_payloads::versioned::Versioned;
 
-/// A buffer of frames that has so many bytes is put, and emptied.
+/// A buffer of frames that has this many bytes is written, and emptied.
 const FULL_BUFFER_BYTES: usize = 65_536;
 
-/// Puts the frames of a full buffer, and empties it; the frames of another stay in it.
+/// Writes the frames of a full buffer, and empties it; the frames of another stay in it.
 fn put_full<W: Sink>(frames: &mut Vec<u8>, out: &mut W) -> Result<(), WriteError>
     ensures call { Calls (PutsOrKeeps frames.old.items frames.new.items result)
         (CountsPutAll result) (W.seen out.old) (W.seen out.new) }
@@ -34,7 +34,7 @@ fn put_full<W: Sink>(frames: &mut Vec<u8>, out: &mut W) -> Result<(), WriteError
     put
 }
 
-/// Puts the frames of an answer, in a version. Of these at most a full buffer and one frame are
+/// Writes the frames of an answer, in a version. Of these at most a full buffer and one frame are
 /// held.
 pub fn put_replies<W: Sink>(
     alloc: Global,
@@ -48,7 +48,7 @@ pub fn put_replies<W: Sink>(
     let mut frames = Vec::new(alloc);
     let mut done = 0;
     'frames: while done < replies.len() {
-        let Ok(count) = push_front(&mut frames, version, &replies[done..]) else {
+        let Ok(count) = push_prefix(&mut frames, version, &replies[done..]) else {
             return Err(WriteError::OutOfMemory);
         };
         done += count;
@@ -85,12 +85,12 @@ impl Answering<()> for Server {
     fn answer<W: Sink>(
         &mut self,
         alloc: Global,
-        asked: &Versioned<Request<'_>>,
+        request: &Versioned<Request<'_>>,
         out: &mut W,
         _device: &mut (),
     ) -> Result<(), WriteError> {
-        match self.serve(alloc, &asked.message) {
-            Ok(replies) => put_replies(alloc, asked.version, replies.as_slice(), out),
+        match self.serve(alloc, &request.message) {
+            Ok(replies) => put_replies(alloc, request.version, replies.as_slice(), out),
             Err(_) => Err(WriteError::OutOfMemory),
         }
     }

@@ -18,7 +18,7 @@ use wire_frames::{frames_are_read_back, one_reading, streams_are_read_once};
 
 /// How the command ended.
 #[derive(Clone, Copy, PartialEq, Eq, Debug)]
-pub enum Served {
+pub enum ServeEnding {
     /// The input was read to its end, and each of its requests answered.
     Done,
     /// A call of the input failed.
@@ -32,35 +32,35 @@ pub enum Served {
     BadFrame(u64),
 }
 
-impl From<Ending<WriteError>> for Served {
+impl From<Ending<WriteError>> for ServeEnding {
     ghost use Rattle.std.specs.Prelude.{◌≡◌};
     ghost use Rattle.serve_command.specs.Servers.{served_by};
 
     ghost from_gives = { λ ending served. served ≡ served_by ending };
 
-    fn from(ending: Ending<WriteError>) -> Served {
+    fn from(ending: Ending<WriteError>) -> ServeEnding {
         match ending {
-            Ending::Done => Served::Done,
-            Ending::ReadFault => Served::ReadFault,
-            Ending::TooLong => Served::TooLong,
-            Ending::BadFrame(place) => Served::BadFrame(place),
-            Ending::OutOfMemory => Served::OutOfMemory,
-            Ending::Stopped(WriteError::Failed) => Served::WriteFault,
-            Ending::Stopped(WriteError::OutOfMemory) => Served::OutOfMemory,
+            Ending::Done => ServeEnding::Done,
+            Ending::ReadFault => ServeEnding::ReadFault,
+            Ending::TooLong => ServeEnding::TooLong,
+            Ending::BadFrame(offset) => ServeEnding::BadFrame(offset),
+            Ending::OutOfMemory => ServeEnding::OutOfMemory,
+            Ending::Stopped(WriteError::Failed) => ServeEnding::WriteFault,
+            Ending::Stopped(WriteError::OutOfMemory) => ServeEnding::OutOfMemory,
         }
     }
 }
 
-/// Reads requests from the input, frame after frame, and puts the frames of the replies of a server
-/// that begins with nothing defined to the output: all those of one request before the next request
-/// is looked at. Of the input at most a frame and a piece are held. Up to the limit all whole
+/// Reads requests from the input, frame after frame, and writes the frames of the replies of a
+/// server that begins with nothing defined to the output: all those of one request before the next
+/// request is read. Of the input at most a frame and a piece are held. Up to the limit all whole
 /// frames are answered, before a byte past it is asked for.
-pub fn serve_stream<S: Source, W: Sink>(alloc: Global, input: &mut S, out: &mut W) -> Served
-    // What was taken of the input, and what was put for it, by how it ended; and that transactions
-    // took effect one after another.
+pub fn serve_stream<S: Source, W: Sink>(alloc: Global, input: &mut S, out: &mut W) -> ServeEnding
+    // What was taken of the input, and what was written for it, by how it ended; and that
+    // transactions took effect one after another.
     ensures content { ServesStream result (S.seen input.old).content (S.seen input.new).content
         (W.seen out.old).content (W.seen out.new).content }
-    // Where the input tells its bytes: by how those within the limit end, and the frames of their
+    // Where the input exposes its bytes: by how those within the limit end, and the frames of their
     // replies. So whole frames within the limit end with `Done` and all frames, unless memory or a
     // device fails.
     ensures exact { (bytes frames : List ℕ) (end : End) (after : State)
@@ -68,9 +68,9 @@ pub fn serve_stream<S: Source, W: Sink>(alloc: Global, input: &mut S, out: &mut 
         → ServeAll empty_state (take most_stream_bytes bytes) end frames after
         → IsServed result bytes end frames (W.seen out.old).content (W.seen out.new).content }
     // The faults of the outside come only where a count rose.
-    ensures read { result ≡ Served.ReadFault
+    ensures read { result ≡ ServeEnding.ReadFault
         → Rose (S.seen input.old).faults (S.seen input.new).faults }
-    ensures write { result ≡ Served.WriteFault
+    ensures write { result ≡ ServeEnding.WriteFault
         → Rose (W.seen out.old).faults (W.seen out.new).faults }
 {
     one_reading();
@@ -80,5 +80,5 @@ pub fn serve_stream<S: Source, W: Sink>(alloc: Global, input: &mut S, out: &mut 
     let mut server = Server::new(alloc);
     let ending = serve_input(alloc, input, out, &mut (), &mut server);
     drop(server);
-    Served::from(ending)
+    ServeEnding::from(ending)
 }

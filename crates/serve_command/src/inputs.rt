@@ -2,7 +2,7 @@
 
 ghost use Rattle.std.specs.Prelude.{◌≡◌, ◌++◌, ◌<◌, ◌^◌, List, ℕ, length};
 ghost use Rattle.ae_edge.specs.Devices.{Rose};
-ghost use Rattle.wire_frames.specs.declared.decoding.Way.TheVariants.{ToServer};
+ghost use Rattle.wire_frames.specs.declared.decoding.Direction.TheVariants.{ToServer};
 ghost use Rattle.serve_command.specs.Inputs.{CountsEnding, EndsAt, ServesInput};
 ghost use Rattle.serve_command.specs.Turns.{CountsDrained, Drains, Stands};
 
@@ -14,7 +14,7 @@ use ae_edge::sinks::Sink;
 use ae_edge::sources::{Source, Taken};
 use frame_feed::FrameFeed;
 use std::alloc::Global;
-use wire_frames::Way;
+use wire_frames::Direction;
 
 /// The most bytes that one call asks the input for.
 const MOST_PIECE_BYTES: usize = 65_536;
@@ -42,7 +42,7 @@ fn at_end<E>(feed: &FrameFeed) -> Ending<E>
 {
     match feed.finish() {
         None => Ending::Done,
-        Some(place) => Ending::BadFrame(place),
+        Some(offset) => Ending::BadFrame(offset),
     }
 }
 
@@ -55,9 +55,9 @@ fn answer_piece<W: Sink, D, A: Answering<D>>(
     out: &mut W,
     device: &mut D,
 ) -> Drained<A::Stop>
-    requires way { feed.old.way ≡ ToServer }
+    requires direction { feed.old.direction ≡ ToServer }
     requires ready { A.is_ready (A.seen answering.old device.old (W.seen out.old).content) }
-    ensures way { feed.new.way ≡ ToServer }
+    ensures direction { feed.new.direction ≡ ToServer }
     ensures drains { (taken : List ℕ) (first : A.View) → length (taken ++ piece.now) < 2 ^ 64
         → Stands A.answers taken feed.old first
         (A.seen answering.old device.old (W.seen out.old).content)
@@ -98,7 +98,7 @@ pub fn serve_input<S: Source, W: Sink, D, A: Answering<D>>(
     ensures counts { CountsEnding A.counts result (A.failed device.old (W.seen out.old).faults)
         (A.failed device.new (W.seen out.new).faults) }
 {
-    let mut feed = FrameFeed::new(alloc, Way::ToServer);
+    let mut feed = FrameFeed::new(alloc, Direction::ToServer);
     let mut left = MOST_STREAM_BYTES;
     'pieces: loop {
         match input.take(alloc, left.min(MOST_PIECE_BYTES).max(1)) {
@@ -109,7 +109,7 @@ pub fn serve_input<S: Source, W: Sink, D, A: Answering<D>>(
                 left -= piece.len();
                 match answer_piece(alloc, &piece, &mut feed, answering, out, device) {
                     Drained::Waits => {}
-                    Drained::Refused(place) => return Ending::BadFrame(place),
+                    Drained::Refused(offset) => return Ending::BadFrame(offset),
                     Drained::OutOfMemory => return Ending::OutOfMemory,
                     Drained::Stopped(stop) => return Ending::Stopped(stop),
                 }

@@ -1,7 +1,7 @@
 //! The requests that a feed holds, one after another.
 
 ghost use Rattle.std.specs.Prelude.{◌≡◌, ◌<◌, ◌^◌, List, ℕ, length};
-ghost use Rattle.wire_frames.specs.declared.decoding.Way.TheVariants.{ToServer};
+ghost use Rattle.wire_frames.specs.declared.decoding.Direction.TheVariants.{ToServer};
 ghost use Rattle.serve_command.specs.Turns.{CountsDrained, CountsTurn, Drains, IsAsked, Responds, Stands, Turns, WhereAnswered};
 
 use crate::answering::Answering;
@@ -12,11 +12,11 @@ use std::alloc::Global;
 /// The result of one step of the loop.
 #[derive(Clone, Copy)]
 enum Turn<E> {
-    /// A request was answered, whose frame has so many bytes.
+    /// A request was answered, whose frame has this many bytes.
     Answered(usize),
-    /// Less than a frame stands there.
+    /// Less than a frame is held.
     Waits,
-    /// What stands at this place is no request.
+    /// The bytes at this offset aren't a request.
     Refused(u64),
     /// No memory is left to read a request.
     OutOfMemory,
@@ -24,7 +24,7 @@ enum Turn<E> {
     Stopped(E),
 }
 
-/// Answers the request that a message is, whose frame has so many bytes.
+/// Answers the request of a message, whose frame has `used` bytes.
 fn answer_message<W: Sink, D, A: Answering<D>>(
     alloc: Global,
     message: &Message<'_>,
@@ -33,7 +33,7 @@ fn answer_message<W: Sink, D, A: Answering<D>>(
     out: &mut W,
     device: &mut D,
 ) -> Turn<A::Stop>
-    requires asked { IsAsked message.now }
+    requires request { IsAsked message.now }
     requires ready { A.is_ready (A.seen answering.old device.old (W.seen out.old).content) }
     ensures responds { Responds A.answers A.stops result used message.now
         (A.seen answering.old device.old (W.seen out.old).content)
@@ -45,7 +45,7 @@ fn answer_message<W: Sink, D, A: Answering<D>>(
         (A.failed device.new (W.seen out.new).faults) }
 {
     match message {
-        Message::Asks(asked) => match answering.answer(alloc, asked, out, device) {
+        Message::Asks(request) => match answering.answer(alloc, request, out, device) {
             Ok(()) => Turn::Answered(used),
             Err(stop) => Turn::Stopped(stop),
         },
@@ -53,7 +53,7 @@ fn answer_message<W: Sink, D, A: Answering<D>>(
     }
 }
 
-/// Answers the request that stands next. It stays in the feed.
+/// Answers the next request. It stays in the feed.
 fn answer_next<W: Sink, D, A: Answering<D>>(
     alloc: Global,
     feed: &FrameFeed,
@@ -61,7 +61,7 @@ fn answer_next<W: Sink, D, A: Answering<D>>(
     out: &mut W,
     device: &mut D,
 ) -> Turn<A::Stop>
-    requires way { feed.now.way ≡ ToServer }
+    requires direction { feed.now.direction ≡ ToServer }
     requires ready { A.is_ready (A.seen answering.old device.old (W.seen out.old).content) }
     ensures turns { Turns A.answers A.stops result feed.now
         (A.seen answering.old device.old (W.seen out.old).content)
@@ -72,12 +72,12 @@ fn answer_next<W: Sink, D, A: Answering<D>>(
     ensures counts { CountsTurn A.counts result (A.failed device.old (W.seen out.old).faults)
         (A.failed device.new (W.seen out.new).faults) }
 {
-    match feed.front(alloc) {
+    match feed.peek(alloc) {
         Next::One { message, used, .. } => {
             answer_message(alloc, &message, used, answering, out, device)
         }
         Next::NotYet => Turn::Waits,
-        Next::Bad { place } => Turn::Refused(place),
+        Next::Bad { offset } => Turn::Refused(offset),
         Next::OutOfMemory => Turn::OutOfMemory,
     }
 }
@@ -87,7 +87,7 @@ fn answer_next<W: Sink, D, A: Answering<D>>(
 pub(crate) enum Drained<E> {
     /// Each request was answered, and less than a frame is left.
     Waits,
-    /// Each request was answered up to this place, where none is.
+    /// Each request was answered up to this offset, where none is.
     Refused(u64),
     /// No memory is left to read a request.
     OutOfMemory,
@@ -95,7 +95,7 @@ pub(crate) enum Drained<E> {
     Stopped(E),
 }
 
-/// Answers the requests that are held, one after another; the bytes of each are let go.
+/// Answers the requests that are held, one after another; the bytes of each are consumed.
 pub(crate) fn answer_held<W: Sink, D, A: Answering<D>>(
     alloc: Global,
     feed: &mut FrameFeed,
@@ -103,9 +103,9 @@ pub(crate) fn answer_held<W: Sink, D, A: Answering<D>>(
     out: &mut W,
     device: &mut D,
 ) -> Drained<A::Stop>
-    requires way { feed.old.way ≡ ToServer }
+    requires direction { feed.old.direction ≡ ToServer }
     requires ready { A.is_ready (A.seen answering.old device.old (W.seen out.old).content) }
-    ensures way { feed.new.way ≡ ToServer }
+    ensures direction { feed.new.direction ≡ ToServer }
     ensures drains { (taken : List ℕ) (first : A.View) → length taken < 2 ^ 64
         → Stands A.answers taken feed.old first
         (A.seen answering.old device.old (W.seen out.old).content)
@@ -121,7 +121,7 @@ pub(crate) fn answer_held<W: Sink, D, A: Answering<D>>(
         match answer_next(alloc, feed, answering, out, device) {
             Turn::Answered(used) => feed.advance(used),
             Turn::Waits => return Drained::Waits,
-            Turn::Refused(place) => return Drained::Refused(place),
+            Turn::Refused(offset) => return Drained::Refused(offset),
             Turn::OutOfMemory => return Drained::OutOfMemory,
             Turn::Stopped(stop) => return Drained::Stopped(stop),
         }

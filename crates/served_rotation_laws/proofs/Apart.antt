@@ -8,8 +8,8 @@ use Rattle.ae_base.specs.declared.faults.SqlFault.{SqlFault}
 use Rattle.ae_base.specs.declared.faults.SqlFault.TheVariants as fault
 use Rattle.catalog.specs.Catalogs.{Catalog}
 use Rattle.engine.specs.Step.{Answer, Defined}
-use Rattle.sql_tree.specs.Sorts.{is_definition}
-use Rattle.statement_analysis.specs.Describing.{Meant, describe}
+use Rattle.sql_tree.specs.Kinds.{is_definition}
+use Rattle.statement_analysis.specs.Describing.{Analysis, describe}
 use Rattle.transactions.specs.Counted.{Counted, Execution, alone, counted_step}
 use Rattle.transactions.specs.Stores.{
   Ask,
@@ -152,7 +152,7 @@ module _ (number : ℕ) where
 
   -- ---- requests
 
-  abbrev pub after_by : State → ℕ → Result (Meant × List Atom) SqlFault → State
+  abbrev pub after_by : State → ℕ → Result (Analysis × List Atom) SqlFault → State
   after_by state session (Ok ready) = (transact state session (ask_of ready)).after
   after_by state session (Err f) = state
 
@@ -160,7 +160,7 @@ module _ (number : ℕ) where
   answered_after catalog (Ok a) state = refl
   answered_after catalog (Err f) state = refl
 
-  pub executed_after : (state : State) (session : ℕ) (r : Result (Meant × List Atom) SqlFault) → (executed state session r).after ≡ after_by state session r
+  pub executed_after : (state : State) (session : ℕ) (r : Result (Analysis × List Atom) SqlFault) → (executed state session r).after ≡ after_by state session r
   executed_after state session (Ok ready) = let t = transact state session (ask_of ready) in answered_after (catalog_of state session) t.answer t.after
   executed_after state session (Err f) = refl
 
@@ -171,7 +171,8 @@ module _ (number : ℕ) where
   catalog_alike : (s t : State) (session : ℕ) → number - 1 ≢ session - 1 → AlikeBut number s t → catalog_of s session ≡ catalog_of t session
   catalog_alike s t session n h = ap (λ (c : Counted). (seen_by c (transaction_at s session)).world.catalog) h.shared ∙ ap (λ o. (seen_by t.shared o).world.catalog) (h.others (session - 1) n)
 
-  after_alike : (s t : State) (session : ℕ) (r : Result (Meant × List Atom) SqlFault) → number - 1 ≢ session - 1 → AlikeBut number s t → AlikeBut number (after_by s session r) (after_by t session r)
+  after_alike : (s t : State) (session : ℕ) (r : Result (Analysis × List Atom) SqlFault) → number - 1 ≢ session - 1 → AlikeBut number s t
+      → AlikeBut number (after_by s session r) (after_by t session r)
   after_alike s t session (Ok ready) n h = transact_alike s t session (ask_of ready) n h
   after_alike s t session (Err f) n h = h
 
@@ -273,7 +274,7 @@ module _ (number : ℕ) where
       by None = record { slot = refl; long = refl }
       by (Some x) = record { slot = set_other s.sessions (session - 1) (number - 1) x n; long = set_long s.sessions (session - 1) x }
 
-  after_keeps : (s : State) (session : ℕ) (r : Result (Meant × List Atom) SqlFault) → session - 1 ≢ number - 1 → IsKept s (after_by s session r)
+  after_keeps : (s : State) (session : ℕ) (r : Result (Analysis × List Atom) SqlFault) → session - 1 ≢ number - 1 → IsKept s (after_by s session r)
   after_keeps s session (Ok ready) n =
       subst (λ (x : Transacted). IsKept s x.after) (sym (effect_of s session (ask_of ready))) (kept_by s session (effect_by s.shared (transaction_at s session) (ask_of ready)) n)
   after_keeps s session (Err f) n = record { slot = refl; long = refl }
@@ -310,7 +311,7 @@ module _ (number : ℕ) where
       by None = refl
       by (Some x) = set_long s.sessions (number - 1) x
 
-  pub after_long : (s : State) (r : Result (Meant × List Atom) SqlFault) → length (after_by s number r).sessions ≡ length s.sessions
+  pub after_long : (s : State) (r : Result (Analysis × List Atom) SqlFault) → length (after_by s number r).sessions ≡ length s.sessions
   after_long s (Ok ready) = own_long s (ask_of ready)
   after_long s (Err f) = refl
 
@@ -352,7 +353,7 @@ module _ (number : ℕ) where
 
   -- ---- any requests
 
-  every_long : (s : State) (session : ℕ) (r : Result (Meant × List Atom) SqlFault) → length (after_by s session r).sessions ≡ length s.sessions
+  every_long : (s : State) (session : ℕ) (r : Result (Analysis × List Atom) SqlFault) → length (after_by s session r).sessions ≡ length s.sessions
   every_long s session (Ok ready) =
       subst (λ (x : Transacted). length x.after.sessions ≡ length s.sessions) (sym (effect_of s session (ask_of ready))) (by (effect_by s.shared (transaction_at s session) (ask_of ready)).slot)
     where

@@ -51,7 +51,7 @@ use Rattle.aes_block.specs.Bytes.{AreBytes}
 use Rattle.catalog.specs.Catalogs.{Catalog}
 use Rattle.engine.specs.Step.{Answer, Rows, Changed, Defined}
 use Rattle.hmac_kdf.specs.Keys.{Keys}
-use Rattle.statement_analysis.specs.Describing.{Meant, describe}
+use Rattle.statement_analysis.specs.Describing.{Analysis, describe}
 use Rattle.transactions.specs.Stores.{transact}
 use Rattle.wire_messages.specs.Messages.{Description, Header}
 use Rattle.wire_messages.specs.declared.params.SentParam.{SentParam}
@@ -188,8 +188,8 @@ module _ (keys : KeyMap) (R : Walk → Passed Beside → Type 0) where
         on_key (Ok ks) e = h ks e
         on_key (Err f) e = g f
 
-        at : (t : Result KeyMeta DriverFault) → trusted_meta trusted (meta_of metas id) ≡ t → Goes w queue (on_result (λ told. Opens told (on_result k fails)) (λ e. on_result k fails (Err e)) t)
-        at (Ok told) e taken entropy bytes = on_key (open_key keys told) (ap (λ t. t >>= open_key keys) e) taken entropy bytes
+        at : (t : Result KeyMeta DriverFault) → trusted_meta trusted (meta_of metas id) ≡ t → Goes w queue (on_result (λ known. Opens known (on_result k fails)) (λ e. on_result k fails (Err e)) t)
+        at (Ok known) e taken entropy bytes = on_key (open_key keys known) (ap (λ t. t >>= open_key keys) e) taken entropy bytes
         at (Err fault) e taken entropy bytes = g fault taken entropy bytes
 
     draws : (f : List ℕ → Talk) → ((iv : List ℕ) → IsBlock iv → Goes w queue (f iv)) → Goes w queue (Draws f)
@@ -321,7 +321,7 @@ module _ (keys : KeyMap) (R : Walk → Passed Beside → Type 0) where
     OnAnswer w catalog (Ok Defined) = Goes w [] (k outcome.Defined None session.Idle)
     OnAnswer w catalog (Err f) = Goes w [] (k (outcome.Refused f) None session.Idle)
 
-    abbrev pub OnServed : Walk → State → Result (Meant × List Atom) SqlFault → Type 0
+    abbrev pub OnServed : Walk → State → Result (Analysis × List Atom) SqlFault → Type 0
     OnServed w state (Ok ready) = OnAnswer w (catalog_of state number) (transact state number (ask_of ready)).answer
     OnServed w state (Err f) = Goes w [] (k (outcome.Refused f) None session.Idle)
 
@@ -342,7 +342,7 @@ module _ (keys : KeyMap) (R : Walk → Passed Beside → Type 0) where
     answer_heard w catalog after (Ok Defined) h taken entropy bytes = h (suc taken) entropy bytes
     answer_heard w catalog after (Err f) h taken entropy bytes = h (suc taken) entropy bytes
 
-    served_heard : (w : Walk) (state : State) (r : Result (Meant × List Atom) SqlFault) → OnServed w state r → Goes w (executed state number r).replies hears
+    served_heard : (w : Walk) (state : State) (r : Result (Analysis × List Atom) SqlFault) → OnServed w state r → Goes w (executed state number r).replies hears
     served_heard w state (Ok ready) h taken entropy bytes = let t = transact state number (ask_of ready) in answer_heard w (catalog_of state number) t.after t.answer h taken entropy bytes
     served_heard w state (Err f) h taken entropy bytes = h (suc taken) entropy bytes
 
@@ -394,8 +394,8 @@ module _ (keys : KeyMap) (R : Walk → Passed Beside → Type 0) where
         readied_goes d encs e n None = pending_goes d encs e n
         readied_goes d encs e n (Some name) = h.failed (NotEncrypted name)
 
-        abbrev tells : Talk
-        tells = Notes (session.Begun batch) nothing_shown (described_on false ready k)
+        abbrev gives : Talk
+        gives = Notes (session.Begun batch) nothing_shown (described_on false ready k)
 
         description_heard : (d : Description) → describe (catalog_of (now w) number) batch.text declared ≡ Ok d → (o : Option (List (Option Enc))) → sessions.encs_of batch.params d.params ≡ o
             → (taken : ℕ) (entropy : List ℕ) → AreBytes entropy
@@ -405,7 +405,7 @@ module _ (keys : KeyMap) (R : Walk → Passed Beside → Type 0) where
         description_heard d e (Some encs) n taken entropy bytes = readied_goes d encs e n (sessions.first_open batch.forced batch.params encs) (suc taken) entropy bytes
         description_heard d e None n taken entropy bytes = h.stops entropy (BadReply taken)
 
-        described_goes : (r : Result Description SqlFault) → describe (catalog_of (now w) number) batch.text declared ≡ r → Goes (next w describe_of) (described (now w) r).replies tells
+        described_goes : (r : Result Description SqlFault) → describe (catalog_of (now w) number) batch.text declared ≡ r → Goes (next w describe_of) (described (now w) r).replies gives
         described_goes (Ok d) e taken entropy bytes = description_heard d e (sessions.encs_of batch.params d.params) refl taken entropy bytes
         described_goes (Err f) e taken entropy bytes = h.refused f (suc taken) entropy bytes
 

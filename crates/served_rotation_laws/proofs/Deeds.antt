@@ -40,17 +40,17 @@ use Rattle.resolve.specs.Bind.{bind}
 use Rattle.rotation_laws.specs.Deeds.{IsDeedOf, IsRead, IsRowPut, IsSwap}
 use Rattle.rotation_laws.specs.Laws.{AreColumnsOf, AreIdentifiers, IsPut, ReadingIsWhole, ReplacingIsReplacement, TextsParse, declared, shown_column}
 use Rattle.row_changes.specs.Rows.{new_rows}
-use Rattle.server_core.specs.Serve.{ask_of, prepared, sent_column, understood_at}
+use Rattle.server_core.specs.Serve.{ask_of, prepared, sent_column, analyzed_at}
 use Rattle.sql_tree.specs.Bound.{Bound, BoundInsert, BoundQuery, BoundRow, BoundStatement}
 use Rattle.sql_tree.specs.Bound as bound
 use Rattle.sql_tree.specs.Operands as operands
-use Rattle.sql_tree.specs.Sorts.{is_defining, target}
+use Rattle.sql_tree.specs.Kinds.{is_defining, target}
 use Rattle.sql_tree.specs.Uses.{uses, uses_in_row}
-use Rattle.sql_tree.specs.Uses as places
+use Rattle.sql_tree.specs.Uses as ordinals
 use Rattle.sql_tree.specs.declared.bound.BoundDefinition.{BoundDefinition}
 use Rattle.sql_tree.specs.declared.bound.BoundDefinition.TheVariants as made
-use Rattle.statement_analysis.specs.Describing.{Meant, describe, description, understood, used_from}
-use Rattle.statement_analysis.specs.Params.{declaration_of, suited}
+use Rattle.statement_analysis.specs.Describing.{Analysis, describe, description, analyzed, used_from}
+use Rattle.statement_analysis.specs.Params.{declaration_of, checked_params}
 use Rattle.transactions.specs.Counted.{Counted, CountedOutcome, Execution, counted, counted_step, counts_behind, execution, is_at_last_count, step_of}
 use Rattle.transactions.specs.Rotating.{ArePut, IsRowInsert}
 use Rattle.transactions.specs.Serial.{deed}
@@ -60,7 +60,7 @@ use Rattle.wire_messages.specs.Messages.{Description}
 use Rattle.wire_messages.specs.declared.columns.SentColumn.{SentColumn}
 use Rattle.wire_messages.specs.declared.params.SentParam.{SentParam}
 use Rattle.served_rotation_laws.proofs.Batches.{AreSent}
-use Rattle.served_rotation_laws.proofs.Reading.{IsTold, read_meant, read_told}
+use Rattle.served_rotation_laws.proofs.Reading.{IsKnown, read_analysis, read_known}
 
 -- ---- answers
 
@@ -104,10 +104,10 @@ module _ (c : Counted) (e : Execution) (a : Answer) (answers : (counted_step c e
   one_row : (i : BoundInsert) (row : BoundRow) (rows : List (List Atom)) → i.rows ≡ row ∷ [] → rows_to_insert c.world i e.params ≡ Ok rows → length rows ≡ 1
   one_row i row rows is h =
       let old = rows_of c.world i.table in
-      let m = came (new_rows (columns_of c.world i.table) i.named e.params (length old) i.rows) (λ rows. unless_twins (first_twins 1 (uniques_of c.world i.table) (old ++ rows)) rows) rows h in
+      let m = came (new_rows (columns_of c.world i.table) i.columns e.params (length old) i.rows) (λ rows. unless_twins (first_twins 1 (uniques_of c.world i.table) (old ++ rows)) rows) rows h in
       let same = untwinned (first_twins 1 (uniques_of c.world i.table) (old ++ m.value)) m.value rows m.then in
       ap length (sym same)
-      ∙ one_made _ m.value (subst (λ rs. new_rows (columns_of c.world i.table) i.named e.params (length old) rs ≡ Ok m.value) is m.is)
+      ∙ one_made _ m.value (subst (λ rs. new_rows (columns_of c.world i.table) i.columns e.params (length old) rs ≡ Ok m.value) is m.is)
 
   pub insert_answer : (table : List ℕ) (width : ℕ) (i : BoundInsert) → e.bound.statement ≡ bound.Insert i → IsRowInsert table width i → a ≡ Changed 1
   insert_answer table width i is r =
@@ -116,37 +116,37 @@ module _ (c : Counted) (e : Execution) (a : Answer) (answers : (counted_step c e
 
 -- ---- what is prepared
 
-pub prepared_means : (catalog : Catalog) (version : ℕ) (text : List ℕ) (sent : List SentParam) (ready : Meant × List Atom)
-    → prepared catalog version text sent ≡ Ok ready → understood catalog text (map declaration_of sent) ≡ Ok ready.0
+pub prepared_means : (catalog : Catalog) (version : ℕ) (text : List ℕ) (sent : List SentParam) (ready : Analysis × List Atom)
+    → prepared catalog version text sent ≡ Ok ready → analyzed catalog text (map declaration_of sent) ≡ Ok ready.0
 prepared_means catalog version text sent ready e =
-    let c = came (understood_at catalog version text sent) (λ meant. suited meant.encs sent >>= λ atoms. Ok (meant, atoms)) ready e in
-    let d = came (suited c.value.encs sent) (λ atoms. Ok (c.value, atoms)) ready c.then in
+    let c = came (analyzed_at catalog version text sent) (λ analysis. checked_params analysis.encs sent >>= λ atoms. Ok (analysis, atoms)) ready e in
+    let d = came (checked_params c.value.encs sent) (λ atoms. Ok (c.value, atoms)) ready c.then in
     let h = d.then in
     let f : (c.value, d.value) ≡ ready = cc in
-    at (version == catalog.version) c.is ∙ ap (λ (r : Meant × List Atom). Ok r.0) f
+    at (version == catalog.version) c.is ∙ ap (λ (r : Analysis × List Atom). Ok r.0) f
   where
-    at : {meant : Meant} (b : Bool)
-        → (if b then understood catalog text (map declaration_of sent) else Err (fault.Moved (record { seen = version; now = catalog.version }))) ≡ Ok meant
-        → understood catalog text (map declaration_of sent) ≡ Ok meant
+    at : {analysis : Analysis} (b : Bool)
+        → (if b then analyzed catalog text (map declaration_of sent) else Err (fault.Moved (record { seen = version; now = catalog.version }))) ≡ Ok analysis
+        → analyzed catalog text (map declaration_of sent) ≡ Ok analysis
     at true h = h
     at false h = absurd cc
 
 -- what a text is described as
 pub described_means : (catalog : Catalog) (text : List ℕ) (declarations : List ParamDecl) (d : Description) → describe catalog text declarations ≡ Ok d
-    → (meant : Meant) × (understood catalog text declarations ≡ Ok meant) × (d ≡ description catalog declarations meant)
+    → (analysis : Analysis) × (analyzed catalog text declarations ≡ Ok analysis) × (d ≡ description catalog declarations analysis)
 described_means catalog text declarations d e =
-    let c = came (understood catalog text declarations) (λ meant. Ok (description catalog declarations meant)) d e in
+    let c = came (analyzed catalog text declarations) (λ analysis. Ok (description catalog declarations analysis)) d e in
     let h = c.then in
     let f : description catalog declarations c.value ≡ d = cc in
     (c.value, c.is, sym f)
 
 -- how a deed was prepared
-pub record IsDone (catalog : Catalog) (batch : Batch) (sent : List SentParam) (ready : Meant × List Atom) (e : Execution) : Type 0 where
+pub record IsDone (catalog : Catalog) (batch : Batch) (sent : List SentParam) (ready : Analysis × List Atom) (e : Execution) : Type 0 where
   pub ready_at : prepared catalog catalog.version batch.text sent ≡ Ok ready
   pub asks : ask_of ready ≡ Executes e
   pub is : e ≡ execution ready.0.bound ready.0.encs ready.1
 
-pub deed_of : (catalog : Catalog) (batch : Batch) (sent : List SentParam) (ready : Meant × List Atom) (e : Execution) (a : Result Answer SqlFault)
+pub deed_of : (catalog : Catalog) (batch : Batch) (sent : List SentParam) (ready : Analysis × List Atom) (e : Execution) (a : Result Answer SqlFault)
     → IsDone catalog batch sent ready e → map declaration_of sent ≡ declared batch
     → IsDeedOf catalog batch (deed e a)
 deed_of catalog batch sent ready e a h k = record {
@@ -164,17 +164,17 @@ pub record ReadSays (catalog : Catalog) (name : List ℕ) (e : Execution) (a : A
   pub columns : List ResultColumn
   pub rows : List (List Atom)
   pub is : a ≡ Rows columns rows
-  pub told : IsTold catalog name columns
+  pub known : IsKnown catalog name columns
   pub works : is_defining e.bound.statement ≡ false
   pub read : IsRead catalog name rows (deed e (Ok a))
 
 pub read_says : TextsParse → ReadingIsWhole → (catalog : Catalog) (name : List ℕ) → IsIdentifier name
-    → HasProperTables catalog → (ready : Meant × List Atom) (e : Execution) → IsDone catalog (reads_all name) [] ready e
+    → HasProperTables catalog → (ready : Analysis × List Atom) (e : Execution) → IsDone catalog (reads_all name) [] ready e
     → (c : Counted) (a : Answer) → (counted_step c e).answer ≡ Ok a → ReadSays catalog name e a
 read_says parse whole catalog name named proper ready e h c a k =
-    let m = read_meant parse whole catalog name named proper catalog.version ready h.ready_at in
+    let m = read_analysis parse whole catalog name named proper catalog.version ready h.ready_at in
     let r = m.3.0 in
-    let s : e.bound.statement ≡ bound.Select r.query = ap (λ (e : Execution). e.bound.statement) h.is ∙ ap (λ (x : Meant). x.bound.statement) (sym m.3.1) ∙ r.is in
+    let s : e.bound.statement ≡ bound.Select r.query = ap (λ (e : Execution). e.bound.statement) h.is ∙ ap (λ (x : Analysis). x.bound.statement) (sym m.3.1) ∙ r.is in
     let x = select_answer c e a k r.query s in
     let columns = map (result_column e.bound.columns e.bound.params e.encs) r.query.items in
     let j : (counted_step c (execution ready.0.bound ready.0.encs ready.1)).answer ≡ Ok (Rows columns x.0) = ap (λ e. (counted_step c e).answer) (sym h.is) ∙ k ∙ ap Ok x.1 in
@@ -183,7 +183,7 @@ read_says parse whole catalog name named proper ready e h c a k =
       rows = x.0;
       is = x.1;
       works = ap is_defining s;
-      told = read_told parse whole catalog name named proper catalog.version ready h.ready_at c columns x.0 j;
+      known = read_known parse whole catalog name named proper catalog.version ready h.ready_at c columns x.0 j;
       read = record { deed = deed_of catalog (reads_all name) [] ready e (Ok a) h refl; columns = columns; answer = ap Ok x.1 };
     }
 
@@ -260,14 +260,14 @@ pub record AreBoth (catalog : Catalog) (old new : List ℕ) (columns : List Sent
   pub few : length columns ≤ 64
   pub columns_named : AreIdentifiers columns
 
-pub both_alike : (catalog : Catalog) (old new : List ℕ) (olds news : List ResultColumn) → IsTold catalog old olds
-    → IsTold catalog new news → are_alike (Some (map sent_column olds)) (Some (map sent_column news)) ≡ true
+pub both_alike : (catalog : Catalog) (old new : List ℕ) (olds news : List ResultColumn) → IsKnown catalog old olds
+    → IsKnown catalog new news → are_alike (Some (map sent_column olds)) (Some (map sent_column news)) ≡ true
     → AreBoth catalog old new (map sent_column olds)
 both_alike catalog old new olds news o n h =
     let p = and_parts (are_same_columns (map sent_column olds) (map sent_column news)) (nat_le (length (map sent_column olds)) 64) h in
     let s = same_columns (map sent_column olds) (map sent_column news) p.0 in
-    let shown : map sent_column olds ≡ map sent_column (map shown_column o.def.columns) = ap (map sent_column) o.told in
-    let shown_new : map sent_column news ≡ map sent_column (map shown_column n.def.columns) = ap (map sent_column) n.told in
+    let shown : map sent_column olds ≡ map sent_column (map shown_column o.def.columns) = ap (map sent_column) o.known in
+    let shown_new : map sent_column news ≡ map sent_column (map shown_column n.def.columns) = ap (map sent_column) n.known in
     let titles : map (λ (c : SentColumn). c.title) (map sent_column olds) ≡ map (λ (column : ColumnDef). column.name)
     o.def.columns = ap (map (λ (c : SentColumn). c.title)) shown ∙ shown_titles o.def.columns in
     let long : length (map sent_column olds) ≡ length o.def.columns =
@@ -297,8 +297,8 @@ both_alike catalog old new olds news o n h =
 
 -- each parameter from a place on is used
 abbrev pub AreUsed : ℕ → Bound → List Param → Type 0
-AreUsed place b [] = Unit {0}
-AreUsed place b (p ∷ params) = (uses place b ≡ true) × AreUsed (place + 1) b params
+AreUsed ordinal b [] = Unit {0}
+AreUsed ordinal b (p ∷ params) = (uses ordinal b ≡ true) × AreUsed (ordinal + 1) b params
 
 same_declaration : (u : Use) (a : Atom) → u.param.declaration ≡ record { name = u.param.declaration.name; ty = u.param.declaration.ty }
 same_declaration u a = refl
@@ -308,24 +308,24 @@ with_some e (Some more) encs h = let f : e ∷ more ≡ encs = cc in (more, refl
 with_some e None encs h = absurd cc
 
 module _ (keys : KeyMap) (trusted : List (List ℕ)) (metas : List KeyMeta) where
-  all_sent : (place : ℕ) (b : Bound) (params : List Param) (es : List Enc) (encs : List (Option Enc)) (sent : List SentParam) → AreUsed place b params → length es ≡ length params
-      → encs_of params (used_from place b (map (λ (p : Param). p.declaration) params) es) ≡ Some encs
+  all_sent : (ordinal : ℕ) (b : Bound) (params : List Param) (es : List Enc) (encs : List (Option Enc)) (sent : List SentParam) → AreUsed ordinal b params → length es ≡ length params
+      → encs_of params (used_from ordinal b (map (λ (p : Param). p.declaration) params) es) ≡ Some encs
       → AreSent keys trusted metas (uses_in params encs) sent → map declaration_of sent ≡ map (λ (p : Param). p.declaration) params
-  all_sent place b [] es encs [] used long h all = refl
-  all_sent place b [] [] encs (p ∷ sent) used long h all = let f : [] ≡ encs = cc in absurd (subst (λ encs. AreSent keys trusted metas (uses_in [] encs) (p ∷ sent)) (sym f) all)
-  all_sent place b [] (e ∷ es) encs (p ∷ sent) used long h all = absurd (omega arith)
-  all_sent place b (p ∷ params) [] encs sent used long h all = absurd (omega arith)
-  all_sent place b (p ∷ params) (e ∷ es) encs sent used long h all =
+  all_sent ordinal b [] es encs [] used long h all = refl
+  all_sent ordinal b [] [] encs (p ∷ sent) used long h all = let f : [] ≡ encs = cc in absurd (subst (λ encs. AreSent keys trusted metas (uses_in [] encs) (p ∷ sent)) (sym f) all)
+  all_sent ordinal b [] (e ∷ es) encs (p ∷ sent) used long h all = absurd (omega arith)
+  all_sent ordinal b (p ∷ params) [] encs sent used long h all = absurd (omega arith)
+  all_sent ordinal b (p ∷ params) (e ∷ es) encs sent used long h all =
       let name = p.declaration.name in
       let same : bytes_eq name name ≡ true = (bytes_eq-Decides name name).1 refl in
-      let rest = used_from (place + 1) b (map (λ (p : Param). p.declaration) params) es in
-      let one : encs_of (p ∷ params) (used_from place b (map (λ (p : Param). p.declaration) (p ∷ params)) (e ∷ es)) ≡ with_enc (Some e) (encs_of params rest) = rw (used.0, same) refl in
+      let rest = used_from (ordinal + 1) b (map (λ (p : Param). p.declaration) params) es in
+      let one : encs_of (p ∷ params) (used_from ordinal b (map (λ (p : Param). p.declaration) (p ∷ params)) (e ∷ es)) ≡ with_enc (Some e) (encs_of params rest) = rw (used.0, same) refl in
       let w = with_some (Some e) (encs_of params rest) encs (sym one ∙ h) in
-      by (λ sent more k all. all_sent (place + 1) b params es more sent used.1 (omega arith) k all) sent w.0 w.1 (subst (λ encs. AreSent keys trusted metas (uses_in (p ∷ params) encs) sent) w.2 all)
+      by (λ sent more k all. all_sent (ordinal + 1) b params es more sent used.1 (omega arith) k all) sent w.0 w.1 (subst (λ encs. AreSent keys trusted metas (uses_in (p ∷ params) encs) sent) w.2 all)
     where
-      by : ((sent : List SentParam) (more : List (Option Enc)) → encs_of params (used_from (place + 1) b (map (λ (p : Param). p.declaration) params) es) ≡ Some more
+      by : ((sent : List SentParam) (more : List (Option Enc)) → encs_of params (used_from (ordinal + 1) b (map (λ (p : Param). p.declaration) params) es) ≡ Some more
           → AreSent keys trusted metas (uses_in params more) sent → map declaration_of sent ≡ map (λ (p : Param). p.declaration) params)
-          → (sent : List SentParam) (more : List (Option Enc)) → encs_of params (used_from (place + 1) b (map (λ (p : Param). p.declaration) params) es) ≡ Some more
+          → (sent : List SentParam) (more : List (Option Enc)) → encs_of params (used_from (ordinal + 1) b (map (λ (p : Param). p.declaration) params) es) ≡ Some more
           → AreSent keys trusted metas (uses_in (p ∷ params) (Some e ∷ more)) sent → map declaration_of sent ≡ map (λ (p : Param). p.declaration) (p ∷ params)
       by again [] more k all = absurd all
       by again (s ∷ sent) more k all =
@@ -333,27 +333,28 @@ module _ (keys : KeyMap) (trusted : List (List ℕ)) (metas : List KeyMeta) wher
           ap (λ d. d ∷ map declaration_of sent) one ∙ ap (λ ds. p.declaration ∷ ds) (again sent more k all.1)
 
 -- the parameters of a row are each in its place
-row_uses : (i place : ℕ) (named : List ℕ) (values : List (operands.Operand ℕ ℕ)) → ArePut place named values → place ≤ i → i < place + length named → list_any (places.uses_in i) values ≡ true
-row_uses i place [] values h a b = absurd (omega (arith, a, b))
-row_uses i place (n ∷ named) [] h a b = absurd h
-row_uses i place (n ∷ named) (v ∷ values) h a b =
-    subst (λ v. list_any (places.uses_in i) (v ∷ values) ≡ true) (sym h.1.1) (by (λ c. row_uses i (place + 1) named values h.2 c (omega (arith, b))) (place == i) refl)
+row_uses : (i ordinal : ℕ) (named : List ℕ) (values : List (operands.Operand ℕ ℕ)) → ArePut ordinal named values → ordinal ≤ i → i < ordinal + length named
+    → list_any (ordinals.uses_in i) values ≡ true
+row_uses i ordinal [] values h a b = absurd (omega (arith, a, b))
+row_uses i ordinal (n ∷ named) [] h a b = absurd h
+row_uses i ordinal (n ∷ named) (v ∷ values) h a b =
+    subst (λ v. list_any (ordinals.uses_in i) (v ∷ values) ≡ true) (sym h.1.1) (by (λ c. row_uses i (ordinal + 1) named values h.2 c (omega (arith, b))) (ordinal == i) refl)
   where
-    by : (place + 1 ≤ i → list_any (places.uses_in i) values ≡ true) → (t : Bool) → (place == i) ≡ t → (place == i) || list_any (places.uses_in i) values ≡ true
+    by : (ordinal + 1 ≤ i → list_any (ordinals.uses_in i) values ≡ true) → (t : Bool) → (ordinal == i) ≡ t → (ordinal == i) || list_any (ordinals.uses_in i) values ≡ true
     by again true e = rw e refl
     by again false e =
-        let off : place ≢ i = λ f. let g : false ≡ true = sym e ∙ eq-eqb place i f in absurd cc in
+        let off : ordinal ≢ i = λ f. let g : false ≡ true = sym e ∙ eq-eqb ordinal i f in absurd cc in
         rw e (again (omega (arith, a, off)))
 
-pub all_used : (place : ℕ) (b : Bound) (params : List Param) → ((i : ℕ) → place ≤ i → i < place + length params → uses i b ≡ true) → AreUsed place b params
-all_used place b [] h = tt
-all_used place b (p ∷ params) h = (h place (omega arith) (omega arith), all_used (place + 1) b params (λ i a c. h i (omega (arith, a)) (omega (arith, c))))
+pub all_used : (ordinal : ℕ) (b : Bound) (params : List Param) → ((i : ℕ) → ordinal ≤ i → i < ordinal + length params → uses i b ≡ true) → AreUsed ordinal b params
+all_used ordinal b [] h = tt
+all_used ordinal b (p ∷ params) h = (h ordinal (omega arith) (omega arith), all_used (ordinal + 1) b params (λ i a c. h i (omega (arith, a)) (omega (arith, c))))
 
 pub insert_uses : (b : Bound) (table : List ℕ) (width : ℕ) (insert : BoundInsert) → b.statement ≡ bound.Insert insert → IsRowInsert table width insert → (i : ℕ) → i < width → uses i b ≡ true
 insert_uses b table width insert is r i lt =
     let row : BoundRow = record { at = r.at; values = r.values } in
     let wide = r.wide in
-    ap (places.uses_in_statement i) (is ∙ ap bound.Insert r.is) ∙ rw (row_uses i 0 r.named r.values r.put (omega arith) (omega (arith, lt, wide))) refl
+    ap (ordinals.uses_in_statement i) (is ∙ ap bound.Insert r.is) ∙ rw (row_uses i 0 r.named r.values r.put (omega arith) (omega (arith, lt, wide))) refl
 
 pub params_long : (n : ℕ) (columns : List SentColumn) (row : List Value) → length row ≡ length columns → length (params_from n columns row) ≡ length columns
 params_long n [] row h = refl
@@ -372,23 +373,23 @@ module _ (keys : KeyMap) (trusted : List (List ℕ)) (metas : List KeyMeta) (cat
       → map declaration_of sent ≡ declared (puts table columns row)
   put_declares d encs sent e h all =
       let m = described_means catalog (puts table columns row).text (declared (puts table columns row)) d e in
-      let same : p.meant ≡ m.0 = same_ok p.meant m.0 (sym p.means ∙ m.1) in
+      let same : p.analysis ≡ m.0 = same_ok p.analysis m.0 (sym p.means ∙ m.1) in
       let params = params_from 1 columns row in
       let long = params_long 1 columns row wide in
-      let ds : d.params ≡ used_from 0 p.meant.bound (declared (puts table columns row)) p.meant.encs =
-      ap (λ (d : Description). d.params) m.2 ∙ ap (λ (x : Meant). used_from 0 x.bound (declared (puts table columns row)) x.encs) (sym same) in
+      let ds : d.params ≡ used_from 0 p.analysis.bound (declared (puts table columns row)) p.analysis.encs =
+      ap (λ (d : Description). d.params) m.2 ∙ ap (λ (x : Analysis). used_from 0 x.bound (declared (puts table columns row)) x.encs) (sym same) in
       let typed = p.typed in
-      all_sent keys trusted metas 0 p.meant.bound params p.meant.encs encs sent
-      (all_used 0 p.meant.bound params (λ i a b. insert_uses p.meant.bound table (length columns) p.insert p.is p.put i (omega (arith, b, long)))) (omega (arith, typed, long))
+      all_sent keys trusted metas 0 p.analysis.bound params p.analysis.encs encs sent
+      (all_used 0 p.analysis.bound params (λ i a b. insert_uses p.analysis.bound table (length columns) p.insert p.is p.put i (omega (arith, b, long)))) (omega (arith, typed, long))
       (ap (encs_of params) (sym ds) ∙ h) all
 
-  pub put_says : (sent : List SentParam) (ready : Meant × List Atom) (e : Execution)
+  pub put_says : (sent : List SentParam) (ready : Analysis × List Atom) (e : Execution)
       → map declaration_of sent ≡ declared (puts table columns row) → IsDone catalog (puts table columns row) sent ready e
       → (c : Counted) (a : Answer) → (counted_step c e).answer ≡ Ok a → PutSays catalog table columns row e a
   put_says sent ready e k h c a answers =
       let means = prepared_means catalog catalog.version (puts table columns row).text sent ready h.ready_at in
-      let same : p.meant ≡ ready.0 = same_ok p.meant ready.0 (sym p.means ∙ sym (ap (understood catalog (puts table columns row).text) k) ∙ means) in
-      let s : e.bound.statement ≡ bound.Insert p.insert = ap (λ (e : Execution). e.bound.statement) h.is ∙ ap (λ (x : Meant). x.bound.statement) (sym same) ∙ p.is in
+      let same : p.analysis ≡ ready.0 = same_ok p.analysis ready.0 (sym p.means ∙ sym (ap (analyzed catalog (puts table columns row).text) k) ∙ means) in
+      let s : e.bound.statement ≡ bound.Insert p.insert = ap (λ (e : Execution). e.bound.statement) h.is ∙ ap (λ (x : Analysis). x.bound.statement) (sym same) ∙ p.is in
       let is = insert_answer c e a answers table (length columns) p.insert s p.put in
       record { is = is; works = ap is_defining s; put = record { deed = deed_of catalog (puts table columns row) sent ready e (Ok a) h k; wide = wide; answer = ap Ok is } }
 
@@ -401,20 +402,20 @@ pub record SwapSays (catalog : Catalog) (old new : List ℕ) (e : Execution) (a 
 
 module _ (parse : TextsParse) (replacing : ReplacingIsReplacement) (catalog : Catalog) (old new : List ℕ) (old_named : IsIdentifier old) (new_named : IsIdentifier new) (from into : TableDef)
     (old_there : table_named catalog old ≡ Some from) (new_there : table_named catalog new ≡ Some into) where
-  not_itself : bytes_eq old new ≡ true → (meant : Meant) → understood catalog (replaces old new).text [] ≡ Ok meant → ⊥
-  unfolding understood bind
-  not_itself e meant h =
-      let f : understood catalog (replaces old new).text [] ≡ Err (fault.Ambiguous old) = rw (parse.replaced old new old_named new_named, old_there, new_there, e) refl in
-      let g : Err (fault.Ambiguous old) ≡ Ok meant = sym f ∙ h in
+  not_itself : bytes_eq old new ≡ true → (analysis : Analysis) → analyzed catalog (replaces old new).text [] ≡ Ok analysis → ⊥
+  unfolding analyzed bind
+  not_itself e analysis h =
+      let f : analyzed catalog (replaces old new).text [] ≡ Err (fault.Ambiguous old) = rw (parse.replaced old new old_named new_named, old_there, new_there, e) refl in
+      let g : Err (fault.Ambiguous old) ≡ Ok analysis = sym f ∙ h in
       absurd cc
 
-  pub swap_says : (ready : Meant × List Atom) (e : Execution) → IsDone catalog (replaces old new) [] ready e
+  pub swap_says : (ready : Analysis × List Atom) (e : Execution) → IsDone catalog (replaces old new) [] ready e
       → (c : Counted) (a : Answer) → (counted_step c e).answer ≡ Ok a → SwapSays catalog old new e a
   swap_says ready e h c a answers =
       let means = prepared_means catalog catalog.version (replaces old new).text [] ready h.ready_at in
       let two : old ≢ new = λ same. not_itself ((bytes_eq-Decides old new).1 same) ready.0 means in
       let r = replacing catalog old new old_named new_named (rw old_there refl) (rw new_there refl) two in
-      let same : r.meant ≡ ready.0 = same_ok r.meant ready.0 (sym r.means ∙ means) in
-      let s : e.bound.statement ≡ bound.Definition (made.ReplaceTable old new) = ap (λ (e : Execution). e.bound.statement) h.is ∙ ap (λ (x : Meant). x.bound.statement) (sym same) ∙ r.is in
+      let same : r.analysis ≡ ready.0 = same_ok r.analysis ready.0 (sym r.means ∙ means) in
+      let s : e.bound.statement ≡ bound.Definition (made.ReplaceTable old new) = ap (λ (e : Execution). e.bound.statement) h.is ∙ ap (λ (x : Analysis). x.bound.statement) (sym same) ∙ r.is in
       let is = define_answer c e a answers (made.ReplaceTable old new) s in
       record { is = is; two = two; swap = record { deed = deed_of catalog (replaces old new) [] ready e (Ok a) h refl; answer = ap Ok is } }

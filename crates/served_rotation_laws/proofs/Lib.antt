@@ -4,10 +4,10 @@ mod Deeds
 mod Meanings
 mod Moving
 mod Nothing
-mod Places
+mod Ordinals
 mod Reading
 mod Requests
 mod Sound
-mod Told
+mod Received
 mod Traceless
 mod Whole

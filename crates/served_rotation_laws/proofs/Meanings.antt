@@ -19,17 +19,17 @@ use Rattle.semantic_checks.specs.Checks.{check_of}
 use Rattle.sql_grammar.specs.Texts.{statement_in}
 use Rattle.sql_tree.specs.Bound.{Bound}
 use Rattle.sql_tree.specs.Bound as bound
-use Rattle.sql_tree.specs.Sorts.{control_in}
+use Rattle.sql_tree.specs.Kinds.{control_in}
 use Rattle.sql_tree.specs.Statements.{Statement}
 use Rattle.sql_tree.specs.Statements as tree
 use Rattle.sql_tree.specs.declared.statements.TransactionControl.{TransactionControl}
 use Rattle.sql_tree.specs.declared.statements.TransactionControl.TheVariants as control
-use Rattle.statement_analysis.specs.Describing.{Meant, binding_of, typed, understood, with_encs}
-use Rattle.statement_analysis.specs.Params.{declaration_of, suited}
+use Rattle.statement_analysis.specs.Describing.{Analysis, binding_of, typed, analyzed, with_encs}
+use Rattle.statement_analysis.specs.Params.{declaration_of, checked_params}
 use Rattle.transactions.specs.Counted.{Execution, execution}
 use Rattle.transactions.specs.Stores.{Ask, Begins, Commits, Executes, RollsBack, asked}
 use Rattle.wire_messages.specs.declared.params.SentParam.{SentParam}
-use Rattle.server_core.specs.Serve.{ask_of, prepared, understood_at}
+use Rattle.server_core.specs.Serve.{ask_of, prepared, analyzed_at}
 
 -- the control that a statement is
 abbrev pub control_of : Statement → Option TransactionControl
@@ -80,20 +80,20 @@ module _ (catalog : Catalog) (declarations : List ParamDecl) where
       let f : c.value ≡ b = cc in
       subst (λ (b : Bound). control_in b.statement ≡ control_of s) f (resolved s c.value c.is)
 
-  typed_same : (b : Bound) (r : Result (List Enc) ℕ) (meant : Meant) → with_encs b r ≡ Ok meant → meant.bound ≡ b
-  typed_same b (Ok encs) meant e = let f : record { bound = b; encs = encs } ≡ meant = cc in ap (λ (m : Meant). m.bound) (sym f)
-  typed_same b (Err at) meant e = absurd cc
+  typed_same : (b : Bound) (r : Result (List Enc) ℕ) (analysis : Analysis) → with_encs b r ≡ Ok analysis → analysis.bound ≡ b
+  typed_same b (Ok encs) analysis e = let f : record { bound = b; encs = encs } ≡ analysis = cc in ap (λ (m : Analysis). m.bound) (sym f)
+  typed_same b (Err at) analysis e = absurd cc
 
   -- what a text is understood as is the control that it parses to, or none
-  understood_control : (text : List ℕ) (s : Statement) (meant : Meant) → statement_in (encode_utf8_all text) ≡ Ok s
-      → understood catalog text declarations ≡ Ok meant → control_in meant.bound.statement ≡ control_of s
-  unfolding understood
-  understood_control text s meant p e =
-      let c = came (binding_of catalog text declarations) typed meant e in
+  analyzed_control : (text : List ℕ) (s : Statement) (analysis : Analysis) → statement_in (encode_utf8_all text) ≡ Ok s
+      → analyzed catalog text declarations ≡ Ok analysis → control_in analysis.bound.statement ≡ control_of s
+  unfolding analyzed
+  analyzed_control text s analysis p e =
+      let c = came (binding_of catalog text declarations) typed analysis e in
       let d = came (statement_in (encode_utf8_all text)) (λ statement. bind catalog statement declarations) c.value c.is in
       let h : Ok s ≡ Ok d.value = sym p ∙ d.is in
       let f : s ≡ d.value = cc in
-      ap (λ (b : Bound). control_in b.statement) (typed_same c.value (inferred_encs c.value) meant c.then)
+      ap (λ (b : Bound). control_in b.statement) (typed_same c.value (inferred_encs c.value) analysis c.then)
       ∙ binds_control d.value c.value d.then ∙ ap control_of (sym f)
 
 -- what a session asks by the text is that control, or an execution
@@ -109,24 +109,24 @@ asked_so (Some control.Begin) o e h = rw h refl
 asked_so (Some control.Commit) o e h = rw h refl
 asked_so (Some control.Rollback) o e h = rw h refl
 
-pub asks : (catalog : Catalog) (version : ℕ) (text : List ℕ) (params : List SentParam) (s : Statement) (ready : Meant × List Atom) → statement_in (encode_utf8_all text) ≡ Ok s
+pub asks : (catalog : Catalog) (version : ℕ) (text : List ℕ) (params : List SentParam) (s : Statement) (ready : Analysis × List Atom) → statement_in (encode_utf8_all text) ≡ Ok s
     → prepared catalog version text params ≡ Ok ready → IsAsked (control_of s) (ask_of ready)
 asks catalog version text params s ready p e =
-    let c = came (understood_at catalog version text params) (λ meant. suited meant.encs params >>= λ atoms. Ok (meant, atoms)) ready e in
-    let d = came (suited c.value.encs params) (λ atoms. Ok (c.value, atoms)) ready c.then in
+    let c = came (analyzed_at catalog version text params) (λ analysis. checked_params analysis.encs params >>= λ atoms. Ok (analysis, atoms)) ready e in
+    let d = came (checked_params c.value.encs params) (λ atoms. Ok (c.value, atoms)) ready c.then in
     let h = d.then in
     let f : (c.value, d.value) ≡ ready = cc in
-    subst (λ (r : Meant × List Atom). IsAsked (control_of s) (ask_of r)) f
+    subst (λ (r : Analysis × List Atom). IsAsked (control_of s) (ask_of r)) f
     (asked_so (control_of s) (control_in c.value.bound.statement) (execution c.value.bound c.value.encs d.value) (at (version == catalog.version) c.is))
   where
-    at : {meant : Meant} (b : Bool)
-        → (if b then understood catalog text (map declaration_of params) else Err (fault.Moved (record { seen = version; now = catalog.version }))) ≡ Ok meant
-        → control_in meant.bound.statement ≡ control_of s
-    at {meant} true h = understood_control catalog (map declaration_of params) text s meant p h
-    at {meant} false h = absurd cc
+    at : {analysis : Analysis} (b : Bool)
+        → (if b then analyzed catalog text (map declaration_of params) else Err (fault.Moved (record { seen = version; now = catalog.version }))) ≡ Ok analysis
+        → control_in analysis.bound.statement ≡ control_of s
+    at {analysis} true h = analyzed_control catalog (map declaration_of params) text s analysis p h
+    at {analysis} false h = absurd cc
 
 -- what is executed is what was understood
-pub same_execution : (ready : Meant × List Atom) (e : Execution) → ask_of ready ≡ Executes e → e ≡ execution ready.0.bound ready.0.encs ready.1
+pub same_execution : (ready : Analysis × List Atom) (e : Execution) → ask_of ready ≡ Executes e → e ≡ execution ready.0.bound ready.0.encs ready.1
 same_execution ready e h = by (control_in ready.0.bound.statement) h
   where
     by : (o : Option TransactionControl) → asked o (execution ready.0.bound ready.0.encs ready.1) ≡ Executes e → e ≡ execution ready.0.bound ready.0.encs ready.1

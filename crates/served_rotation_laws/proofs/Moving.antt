@@ -11,7 +11,7 @@ use Rattle.ae_base.specs.declared.keys.KeyMeta.{KeyMeta}
 use Rattle.ae_base.specs.declared.types.Enc.{Enc}
 use Rattle.ae_edge.specs.Vaults.{KeyMap}
 use Rattle.catalog.specs.Catalogs.{Catalog}
-use Rattle.column_rotate.specs.Rotating.{fails_with, rolling_back, told_of, unless_refused}
+use Rattle.column_rotate.specs.Rotating.{fails_with, rolling_back, driver_outcome, unless_refused}
 use Rattle.column_rotate.specs.Texts.{rolls_back}
 use Rattle.conversation.specs.Drive.{Passed, requests_in}
 use Rattle.conversation.specs.Pending.{uses_in, uses_of}
@@ -24,17 +24,17 @@ use Rattle.conversation.specs.declared.sessions.Session.{Session}
 use Rattle.conversation.specs.declared.sessions.Session.TheVariants as session
 use Rattle.driver.specs.declared.outcomes.Fault.{Fault}
 use Rattle.driver.specs.declared.outcomes.Fault.TheVariants.{OfDriver, OfServer}
-use Rattle.driver.specs.declared.outcomes.Outcome as told_of_driver
-use Rattle.driver.specs.declared.outcomes.Outcome.TheVariants as told
+use Rattle.driver.specs.declared.outcomes.Outcome as known_of_driver
+use Rattle.driver.specs.declared.outcomes.Outcome.TheVariants as of_driver
 use Rattle.engine.specs.Step.{Answer, Changed, Defined, Rows}
 use Rattle.proper_value_laws.specs.Proper.{IsProperAnswer, IsProperStore}
 use Rattle.server_core.specs.Serve.{State, asked, ask_of, called, catalog_of, empty_state, prepared, serve, serve_all}
 use Rattle.sql_grammar.specs.Texts.{statement_in}
 use Rattle.sql_tree.specs.OnTables.{columns_among}
-use Rattle.sql_tree.specs.Sorts.{is_definition}
+use Rattle.sql_tree.specs.Kinds.{is_definition}
 use Rattle.sql_tree.specs.Statements.{Statement}
 use Rattle.sql_tree.specs.declared.statements.TransactionControl.TheVariants as control
-use Rattle.statement_analysis.specs.Describing.{Meant, describe}
+use Rattle.statement_analysis.specs.Describing.{Analysis, describe}
 use Rattle.transactions.specs.Counted.{Execution, counted_step}
 use Rattle.transactions.specs.Rotating.{IsRotated}
 use Rattle.transactions.specs.Serial.{Deed, deed}
@@ -53,11 +53,11 @@ use Rattle.served_rotation_laws.proofs.Meanings.{IsAsked, asks, control_of, same
 use Rattle.served_rotation_laws.proofs.Sound.{IsProperRequest, IsProperSent, Sound, all_proper, answers_proper, requests_proper, served_proper}
 use Rattle.served_rotation_laws.proofs.Requests.{Inside, behind_more, inside_begun, inside_executed, inside_others, inside_same, own_call, state_of, step_in}
 
-abbrev pub Told : Type 0
-Told = told_of_driver.Outcome
+abbrev pub Received : Type 0
+Received = known_of_driver.Outcome
 
-abbrev pub IsRefusal : Told → Type 0
-IsRefusal (told.Refused f) = Unit {0}
+abbrev pub IsRefusal : Received → Type 0
+IsRefusal (of_driver.Refused f) = Unit {0}
 IsRefusal other = ⊥
 
 module _ (history : List Request) (old new : List ℕ) (keys : KeyMap) (key_for : ℕ → List ℕ) where
@@ -122,17 +122,17 @@ module _ (history : List Request) (old new : List ℕ) (keys : KeyMap) (key_for 
         answers w catalog (Ok Defined) = fails w f
         answers w catalog (Err g) = fails w f
 
-        served : (w : Walk) (state : State) (r : Result (Meant × List Atom) SqlFault) → OnServed keys Moves moves_pass trusted number k w state r
+        served : (w : Walk) (state : State) (r : Result (Analysis × List Atom) SqlFault) → OnServed keys Moves moves_pass trusted number k w state r
         served w state (Ok ready) = answers w (catalog_of state number) (transact state number (ask_of ready)).answer
         served w state (Err g) = fails w f
 
     -- a refusal goes the way of failures
-    pub refused : (w : Walk) (F : Fault → Session → Talk) (G : Told → Session → Talk) (t : Told) → IsRefusal t
+    pub refused : (w : Walk) (F : Fault → Session → Talk) (G : Received → Session → Talk) (t : Received) → IsRefusal t
         → ((f : Fault) → Ready w (F f session.Idle)) → Ready w (unless_refused F G t session.Idle)
-    refused w F G (told.Refused f) r a = a f
-    refused w F G (told.Rows rows) r a = absurd r
-    refused w F G (told.Changed count) r a = absurd r
-    refused w F G told.Defined r a = absurd r
+    refused w F G (of_driver.Refused f) r a = a f
+    refused w F G (of_driver.Rows rows) r a = absurd r
+    refused w F G (of_driver.Changed count) r a = absurd r
+    refused w F G of_driver.Defined r a = absurd r
 
     -- ---- what stands on the way
 
@@ -207,26 +207,26 @@ module _ (history : List Request) (old new : List ℕ) (keys : KeyMap) (key_for 
         abbrev pub executed_walk : Walk → ℕ → List SentParam → Walk
         executed_walk w version sent = next w (executing_it version sent)
 
-        abbrev pub ready_at : Walk → ℕ → List SentParam → Result (Meant × List Atom) SqlFault
+        abbrev pub ready_at : Walk → ℕ → List SentParam → Result (Analysis × List Atom) SqlFault
         ready_at w version sent = prepared (catalog_of (now w) number) version batch.text sent
 
         pub within_described : (w : Walk) (catalog : Catalog) (t : Transaction) (log : List Deed) → Within w catalog t log → Within (described_walk w) catalog t log
         within_described w catalog t log h = within_same w _ catalog t log tt refl h
 
-        called_so : (w : Walk) (s : Stands w) (version : ℕ) (sent : List SentParam) (ready : Meant × List Atom) (ask : Ask) → ready_at w version sent ≡ Ok ready → ask_of ready ≡ ask
+        called_so : (w : Walk) (s : Stands w) (version : ℕ) (sent : List SentParam) (ready : Analysis × List Atom) (ask : Ask) → ready_at w version sent ≡ Ok ready → ask_of ready ≡ ask
             → called (state_of (up_to w)) (executing_it version sent) ≡ own_call number is_session ask
         called_so w s version sent ready ask e a =
             ap (λ (x : State). asked number (prepared (catalog_of x number) version batch.text sent)) (sym (now_at w s)) ∙ ap (asked number) e ∙ ap (λ ask. own_call number is_session ask) a
 
         module _ (statement : Statement) (parses : statement_in (encode_utf8_all batch.text) ≡ Ok statement) where
-          asked_at : (w : Walk) (version : ℕ) (sent : List SentParam) (ready : Meant × List Atom) → ready_at w version sent ≡ Ok ready → IsAsked (control_of statement) (ask_of ready)
+          asked_at : (w : Walk) (version : ℕ) (sent : List SentParam) (ready : Analysis × List Atom) → ready_at w version sent ≡ Ok ready → IsAsked (control_of statement) (ask_of ready)
           asked_at w version sent ready e = asks (catalog_of (now w) number) version batch.text sent statement ready parses e
 
           -- ---- a statement in the transaction
 
           module _ (control : control_of statement ≡ None) (catalog : Catalog) (w : Walk) (t : Transaction) (log : List Deed) (h : Within w catalog t log) (own : t.own.world.catalog ≡ catalog)
-              (fails : (comes : Outcome) (columns : Accepted) (w : Walk) → IsRefusal (told_of comes) → Ready w (k comes columns session.Idle))
-              (goes : (d : Description) (encs : List (Option Enc)) (sent : List SentParam) (ready : Meant × List Atom) (e : Execution) (a : Answer) (w : Walk)
+              (fails : (comes : Outcome) (columns : Accepted) (w : Walk) → IsRefusal (driver_outcome comes) → Ready w (k comes columns session.Idle))
+              (goes : (d : Description) (encs : List (Option Enc)) (sent : List SentParam) (ready : Analysis × List Atom) (e : Execution) (a : Answer) (w : Walk)
               → describe catalog batch.text (map (λ p. p.declaration) batch.params) ≡ Ok d → sessions.encs_of batch.params d.params ≡ Some encs
               → AreSent keys trusted d.keys (uses_of (pending_of keys Moves moves_pass trusted number k batch d encs)) sent
               → IsDone catalog batch sent ready e → IsProperAnswer (Ok a) → (counted_step t.own e).answer ≡ Ok a
@@ -252,7 +252,7 @@ module _ (history : List Request) (old new : List ℕ) (keys : KeyMap) (key_for 
               version_of : d.version ≡ catalog.version
               version_of = let m = described_means catalog batch.text (map (λ p. p.declaration) batch.params) d described_there in ap (λ (d : Description). d.version) m.2
 
-              answered : (ready : Meant × List Atom) (e : Execution) → ready_at wd d.version sent ≡ Ok ready
+              answered : (ready : Analysis × List Atom) (e : Execution) → ready_at wd d.version sent ≡ Ok ready
                   → ask_of ready ≡ Executes e → (x : Result Answer SqlFault) → (transact (now wd) number (Executes e)).answer ≡ x
                   → OnAnswer keys Moves moves_pass trusted number k we catalog x
               answered ready e r a (Err f) g = fails (outcome.Refused f) _ we tt
@@ -287,7 +287,7 @@ module _ (history : List Request) (old new : List ℕ) (keys : KeyMap) (key_for 
                             (subst (λ a. Inside number is_session catalog (up_to wd ++ executing_it d.version sent ∷ []) (stepped_in t e (counted_step t.own e)) (log ++ deed e a ∷ [])) step inside);
                       })
 
-              served : (r : Result (Meant × List Atom) SqlFault) → ready_at wd d.version sent ≡ r → OnServed keys Moves moves_pass trusted number k we (now wd) r
+              served : (r : Result (Analysis × List Atom) SqlFault) → ready_at wd d.version sent ≡ r → OnServed keys Moves moves_pass trusted number k we (now wd) r
               served (Err f) r = fails (outcome.Refused f) _ we tt
               served (Ok ready) r =
                   let a : IsAsked None (ask_of ready) = subst (λ o. IsAsked o (ask_of ready)) control (asked_at wd d.version sent ready r) in
@@ -308,7 +308,7 @@ module _ (history : List Request) (old new : List ℕ) (keys : KeyMap) (key_for 
           -- ---- BEGIN
 
           module _ (control : control_of statement ≡ Some control.Begin) (w : Walk) (s : Stands w)
-              (fails : (comes : Outcome) (columns : Accepted) (w : Walk) → IsRefusal (told_of comes) → Ready w (k comes columns session.Idle))
+              (fails : (comes : Outcome) (columns : Accepted) (w : Walk) → IsRefusal (driver_outcome comes) → Ready w (k comes columns session.Idle))
               (goes : (requests : List Request) (w : Walk) → let shared = (state_of requests).shared in Within w shared.world.catalog (begun_over shared) []
               → Ready w (k outcome.Defined None session.Idle)) where
             abbrev wb : Walk
@@ -317,7 +317,7 @@ module _ (history : List Request) (old new : List ℕ) (keys : KeyMap) (key_for 
             sb : Stands wb
             sb = stands_next w (describe_of keys Moves moves_pass trusted number k batch) tt s
 
-            begun : (version : ℕ) (sent : List SentParam) → All IsProperSent sent → (ready : Meant × List Atom)
+            begun : (version : ℕ) (sent : List SentParam) → All IsProperSent sent → (ready : Analysis × List Atom)
                 → ready_at wb version sent ≡ Ok ready → ask_of ready ≡ Begins → (o : Option Transaction) → transaction_at (now wb) number ≡ o
                 → OnAnswer keys Moves moves_pass trusted number k (executed_walk wb version sent) (catalog_of (now wb) number) (transacted (now wb) number o Begins).answer
             begun version sent p ready r a (Some t) q = fails (outcome.Refused fault.InTransaction) _ (executed_walk wb version sent) tt
@@ -333,7 +333,7 @@ module _ (history : List Request) (old new : List ℕ) (keys : KeyMap) (key_for 
                 })
 
             begin_served : (version : ℕ) (sent : List SentParam) → All IsProperSent sent
-                → (r : Result (Meant × List Atom) SqlFault) → ready_at wb version sent ≡ r → OnServed keys Moves moves_pass trusted number k (executed_walk wb version sent) (now wb) r
+                → (r : Result (Analysis × List Atom) SqlFault) → ready_at wb version sent ≡ r → OnServed keys Moves moves_pass trusted number k (executed_walk wb version sent) (now wb) r
             begin_served version sent p (Err f) r = fails (outcome.Refused f) _ (executed_walk wb version sent) tt
             begin_served version sent p (Ok ready) r =
                 let a : ask_of ready ≡ Begins = subst (λ o. IsAsked o (ask_of ready)) control (asked_at wb version sent ready r) in
@@ -353,7 +353,7 @@ module _ (history : List Request) (old new : List ℕ) (keys : KeyMap) (key_for 
           -- ---- COMMIT
 
           module _ (control : control_of statement ≡ Some control.Commit) (catalog : Catalog) (w : Walk) (t : Transaction) (log : List Deed) (h : Within w catalog t log)
-              (fails : (comes : Outcome) (columns : Accepted) (w : Walk) → IsRefusal (told_of comes) → Ready w (k comes columns session.Idle))
+              (fails : (comes : Outcome) (columns : Accepted) (w : Walk) → IsRefusal (driver_outcome comes) → Ready w (k comes columns session.Idle))
               (goes : (w : Walk) (request : Request) → Within w catalog t log → (transact (now w) number Commits).answer ≡ Ok Defined
               → (serve (now w) request).after ≡ (transact (now w) number Commits).after
               → Ready (next w request) (k outcome.Defined None session.Idle)) where
@@ -363,7 +363,7 @@ module _ (history : List Request) (old new : List ℕ) (keys : KeyMap) (key_for 
             hc : Within wc catalog t log
             hc = within_described w catalog t log h
 
-            after_commit : (version : ℕ) (sent : List SentParam) (ready : Meant × List Atom) → ready_at wc version sent ≡ Ok ready → ask_of ready ≡ Commits
+            after_commit : (version : ℕ) (sent : List SentParam) (ready : Analysis × List Atom) → ready_at wc version sent ≡ Ok ready → ask_of ready ≡ Commits
                 → (serve (now wc) (executing_it version sent)).after ≡ (transact (now wc) number Commits).after
             after_commit version sent ready r a =
                 executed_after number (now wc) number (ready_at wc version sent) ∙ ap (after_by number (now wc) number) r ∙ ap (λ ask. (transact (now wc) number ask).after) a
@@ -375,7 +375,7 @@ module _ (history : List Request) (old new : List ℕ) (keys : KeyMap) (key_for 
             committed_answer version sent a None e =
                 goes wc (executing_it version sent) hc (ap (λ o. (transacted (now wc) number o Commits).answer) (slot_now wc catalog t log hc) ∙ ap (λ o. (committed (now wc) number t o).answer) e) a
 
-            commit_served : (version : ℕ) (sent : List SentParam) (r : Result (Meant × List Atom) SqlFault)
+            commit_served : (version : ℕ) (sent : List SentParam) (r : Result (Analysis × List Atom) SqlFault)
                 → ready_at wc version sent ≡ r → OnServed keys Moves moves_pass trusted number k (executed_walk wc version sent) (now wc) r
             commit_served version sent (Err f) r = fails (outcome.Refused f) _ (executed_walk wc version sent) tt
             commit_served version sent (Ok ready) r =

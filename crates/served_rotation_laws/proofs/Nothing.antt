@@ -45,7 +45,7 @@ use Rattle.engine.specs.Step.{Answer, Rows, Changed, Defined}
 use Rattle.sql_grammar.specs.Texts.{statement_in}
 use Rattle.sql_tree.specs.Statements.{Statement}
 use Rattle.sql_tree.specs.declared.statements.TransactionControl.TheVariants as control
-use Rattle.statement_analysis.specs.Describing.{Meant, describe}
+use Rattle.statement_analysis.specs.Describing.{Analysis, describe}
 use Rattle.transactions.specs.Stores.{Begins, Commits, Executes, RollsBack, Transacted, transact, transaction_at}
 use Rattle.wire_messages.specs.declared.columns.SentColumn.{SentColumn}
 use Rattle.wire_messages.specs.declared.params.SentParam.{SentParam}
@@ -61,11 +61,11 @@ use Rattle.conversation.specs.declared.sessions.Session.{Session}
 use Rattle.conversation.specs.declared.sessions.Session.TheVariants as session
 use Rattle.driver.specs.declared.outcomes.Fault.{Fault}
 use Rattle.driver.specs.declared.outcomes.Fault.TheVariants.{OfDriver}
-use Rattle.driver.specs.declared.outcomes.Outcome as told_of_driver
-use Rattle.driver.specs.declared.outcomes.Outcome.TheVariants as told
+use Rattle.driver.specs.declared.outcomes.Outcome as known_of_driver
+use Rattle.driver.specs.declared.outcomes.Outcome.TheVariants as of_driver
 use Rattle.column_rotate.specs.Headers.{are_alike, columns_in}
-use Rattle.column_rotate.specs.Moves.{is_empty, rows_told}
-use Rattle.column_rotate.specs.Rotating.{committing, comparing, fails_with, fault_as, putting_each, reading_new, reading_old, replacing, rolling_back, told_of, unless_refused}
+use Rattle.column_rotate.specs.Moves.{is_empty, outcome_rows}
+use Rattle.column_rotate.specs.Rotating.{committing, comparing, fails_with, fault_as, putting_each, reading_new, reading_old, replacing, rolling_back, driver_outcome, unless_refused}
 use Rattle.column_rotate.specs.Texts.{begins, commits, puts, reads_all, replaces, rolls_back}
 use Rattle.server_core.specs.Beside.{Beside, first_of, rest_of}
 use Rattle.served_rotation_laws.specs.Beside.{all_asked, others_asked, rotation}
@@ -81,7 +81,7 @@ use Rattle.transactions.specs.Counted.{counted_step}
 use Rattle.proper_value_laws.specs.Laws.{HasProperCatalogs, ProperTablesStay}
 use Rattle.proper_value_laws.specs.Proper.{HasProperTables, IsIdentifier, IsProperColumn}
 use Rattle.rotation_laws.specs.Laws.{AreIdentifiers, BeginsCommitsAndRollsBack, ReadingIsWhole, TextsParse, shown_column}
-use Rattle.served_rotation_laws.proofs.Reading.{IsTold, read_told}
+use Rattle.served_rotation_laws.proofs.Reading.{IsKnown, read_known}
 use Rattle.served_rotation_laws.proofs.Apart.{
   AlikeBut,
   answered_within,
@@ -167,11 +167,11 @@ module _ (stay : ProperTablesStay) (keys : KeyMap) (trusted : List (List ℕ)) (
   tidy_all s [] h = h
   tidy_all s (request ∷ requests) h = tidy_all (serve s request).after requests (stay s request h.0 h.1)
 
-  abbrev pub Told : Type 0
-  Told = told_of_driver.Outcome
+  abbrev pub Received : Type 0
+  Received = known_of_driver.Outcome
 
-  abbrev pub IsRefusal : Told → Type 0
-  IsRefusal (told.Refused f) = Unit {0}
+  abbrev pub IsRefusal : Received → Type 0
+  IsRefusal (of_driver.Refused f) = Unit {0}
   IsRefusal other = ⊥
 
   -- what holds on the way
@@ -210,7 +210,7 @@ module _ (stay : ProperTablesStay) (keys : KeyMap) (trusted : List (List ℕ)) (
         same = k.slot;
       }
 
-  -- behind a request of the session that leaves the others alike
+  -- after a request of the session that leaves the others alike
   stands_next : (w : Walk) (request : Request) → Stands w → AlikeBut number (serve (now w) request).after (serve_all w.alone (first_of w.beside.between)).1
       → length (serve (now w) request).after.sessions ≡ length (now w).sessions
       → Stands (next w request)
@@ -240,17 +240,17 @@ module _ (stay : ProperTablesStay) (keys : KeyMap) (trusted : List (List ℕ)) (
     begun_now : (w : Walk) → Stands w → HasBegun number w.beside.state → HasBegun number (now w)
     begun_now w s h = subst IsSome (sym (stands_now w s).same) h
 
-    -- behind the execution
+    -- after the execution
     abbrev executed_walk : Walk → ℕ → List SentParam → Walk
     executed_walk w version sent = next w (execute_of keys IsFine fine_passes trusted number k version batch.text sent)
 
-    abbrev ready_at : Walk → ℕ → List SentParam → Result (Meant × List Atom) SqlFault
+    abbrev ready_at : Walk → ℕ → List SentParam → Result (Analysis × List Atom) SqlFault
     ready_at w version sent = prepared (catalog_of (now w) number) version batch.text sent
 
     executed_state : (w : Walk) (version : ℕ) (sent : List SentParam) → (executed_walk w version sent).beside.state ≡ after_by number (now w) number (ready_at w version sent)
     executed_state w version sent = executed_after number (now w) number (ready_at w version sent)
 
-    stands_executed : (w : Walk) (version : ℕ) (sent : List SentParam) (r : Result (Meant × List Atom) SqlFault) → ready_at w version sent ≡ r → Stands w
+    stands_executed : (w : Walk) (version : ℕ) (sent : List SentParam) (r : Result (Analysis × List Atom) SqlFault) → ready_at w version sent ≡ r → Stands w
         → AlikeBut number (after_by number (now w) number r) (serve_all w.alone (first_of w.beside.between)).1 → Stands (executed_walk w version sent)
     stands_executed w version sent r e s h =
         let f = executed_state w version sent ∙ ap (after_by number (now w) number) e in
@@ -264,18 +264,18 @@ module _ (stay : ProperTablesStay) (keys : KeyMap) (trusted : List (List ℕ)) (
         → ((columns : List ResultColumn) (rows : List (List Atom)) → x ≡ Ok (Rows columns rows) → C (Some (map sent_column columns)))
         → Stands w → ((comes : Outcome) (columns : Accepted) → C columns → Goes keys IsFine w [] (k comes columns session.Idle))
         → OnAnswer keys IsFine fine_passes trusted number k w catalog x
-    answers C none w catalog (Ok (Rows columns rows)) told s h = record {
+    answers C none w catalog (Ok (Rows columns rows)) known s h = record {
       stops = stops_fine w s;
-      read = λ os values own all. h _ _ (told columns rows refl);
-      broken = λ shown f. h _ _ (told columns rows refl);
-      failed = λ f. h _ _ (told columns rows refl);
+      read = λ os values own all. h _ _ (known columns rows refl);
+      broken = λ shown f. h _ _ (known columns rows refl);
+      failed = λ f. h _ _ (known columns rows refl);
     }
-    answers C none w catalog (Ok (Changed count)) told s h = h _ _ none
-    answers C none w catalog (Ok Defined) told s h = h _ _ none
-    answers C none w catalog (Err f) told s h = h _ _ none
+    answers C none w catalog (Ok (Changed count)) known s h = h _ _ none
+    answers C none w catalog (Ok Defined) known s h = h _ _ none
+    answers C none w catalog (Err f) known s h = h _ _ none
 
     module _ (statement : Statement) (parses : statement_in (encode_utf8_all batch.text) ≡ Ok statement) where
-      asked_at : (w : Walk) (version : ℕ) (sent : List SentParam) (ready : Meant × List Atom) → ready_at w version sent ≡ Ok ready → IsAsked (control_of statement) (ask_of ready)
+      asked_at : (w : Walk) (version : ℕ) (sent : List SentParam) (ready : Analysis × List Atom) → ready_at w version sent ≡ Ok ready → IsAsked (control_of statement) (ask_of ready)
       asked_at w version sent ready e = asks (catalog_of (now w) number) version batch.text sent statement ready parses e
 
       -- the calls that are asked are these
@@ -285,12 +285,12 @@ module _ (stay : ProperTablesStay) (keys : KeyMap) (trusted : List (List ℕ)) (
       -- ---- a statement in the transaction
 
       -- where rows are answered, the columns are such ones
-      abbrev pub AreTold : (Accepted → Type 0) → Type 0
-      AreTold C = (state : State) (version : ℕ) (metas : List KeyMeta) (encs : List (Option Enc)) (sent : List SentParam) (ready : Meant × List Atom) → IsTidy state → HasBegun number state
+      abbrev pub AreKnown : (Accepted → Type 0) → Type 0
+      AreKnown C = (state : State) (version : ℕ) (metas : List KeyMeta) (encs : List (Option Enc)) (sent : List SentParam) (ready : Analysis × List Atom) → IsTidy state → HasBegun number state
           → AreSent keys trusted metas (uses_in batch.params encs) sent → prepared (catalog_of state number) version batch.text sent ≡ Ok ready
           → (columns : List ResultColumn) (rows : List (List Atom)) → (transact state number (ask_of ready)).answer ≡ Ok (Rows columns rows) → C (Some (map sent_column columns))
 
-      module _ (control : control_of statement ≡ None) (C : Accepted → Type 0) (none : C None) (told : AreTold C) (w : Walk) (s : Stands w) (b : HasBegun number w.beside.state)
+      module _ (control : control_of statement ≡ None) (C : Accepted → Type 0) (none : C None) (known : AreKnown C) (w : Walk) (s : Stands w) (b : HasBegun number w.beside.state)
           (h : (comes : Outcome) (columns : Accepted) (w : Walk) → C columns → Stands w → HasBegun number w.beside.state → Goes keys IsFine w [] (k comes columns session.Idle)) where
         abbrev wd : Walk
         wd = described_walk w
@@ -302,7 +302,7 @@ module _ (stay : ProperTablesStay) (keys : KeyMap) (trusted : List (List ℕ)) (
         bd = begun_described w s b
 
         served : (version : ℕ) (metas : List KeyMeta) (encs : List (Option Enc)) (sent : List SentParam) → AreSent keys trusted metas (uses_in batch.params encs) sent
-            → (r : Result (Meant × List Atom) SqlFault) → ready_at wd version sent ≡ r → OnServed keys IsFine fine_passes trusted number k (executed_walk wd version sent) (now wd) r
+            → (r : Result (Analysis × List Atom) SqlFault) → ready_at wd version sent ≡ r → OnServed keys IsFine fine_passes trusted number k (executed_walk wd version sent) (now wd) r
         served version metas encs sent all (Err f) e =
             h _ _ (executed_walk wd version sent) none (refused_walk wd version sent f e sd)
             (subst (HasBegun number) (sym (executed_state wd version sent ∙ ap (after_by number (now wd) number) e)) (begun_now wd sd bd))
@@ -316,7 +316,7 @@ module _ (stay : ProperTablesStay) (keys : KeyMap) (trusted : List (List ℕ)) (
             let se = stands_executed wd version sent (Ok ready) e sd quiet in
             let be = subst (HasBegun number) (sym (executed_state wd version sent ∙ ap (after_by number (now wd) number) e)) stays in
             answers C none (executed_walk wd version sent) (catalog_of (now wd) number) (transact (now wd) number (ask_of ready)).answer
-            (told (now wd) version metas encs sent ready (stands_now wd sd).tidy there all e) se (λ comes columns c. h comes columns (executed_walk wd version sent) c se be)
+            (known (now wd) version metas encs sent ready (stands_now wd sd).tidy there all e) se (λ comes columns c. h comes columns (executed_walk wd version sent) c se be)
 
         pub statement_goes : Goes keys IsFine w [] (running false trusted number batch session.Idle k)
         statement_goes = batch_goes keys IsFine fine_passes trusted number k batch w (record {
@@ -331,7 +331,7 @@ module _ (stay : ProperTablesStay) (keys : KeyMap) (trusted : List (List ℕ)) (
       -- ---- BEGIN, ROLLBACK and COMMIT
 
       module _ (control : control_of statement ≡ Some control.Begin) (w : Walk) (s : Stands w)
-          (fails : (comes : Outcome) (columns : Accepted) (w : Walk) → IsRefusal (told_of comes) → Stands w → Goes keys IsFine w [] (k comes columns session.Idle))
+          (fails : (comes : Outcome) (columns : Accepted) (w : Walk) → IsRefusal (driver_outcome comes) → Stands w → Goes keys IsFine w [] (k comes columns session.Idle))
           (h : (comes : Outcome) (columns : Accepted) (w : Walk) → Stands w → HasBegun number w.beside.state → Goes keys IsFine w [] (k comes columns session.Idle)) where
         abbrev wb : Walk
         wb = described_walk w
@@ -351,7 +351,7 @@ module _ (stay : ProperTablesStay) (keys : KeyMap) (trusted : List (List ℕ)) (
         begun_answers w catalog (Ok Defined) s b = h _ _ w s (b _ refl)
         begun_answers w catalog (Err f) s b = fails (outcome.Refused f) _ w tt s
 
-        begin_served : (version : ℕ) (sent : List SentParam) (r : Result (Meant × List Atom) SqlFault)
+        begin_served : (version : ℕ) (sent : List SentParam) (r : Result (Analysis × List Atom) SqlFault)
             → ready_at wb version sent ≡ r → OnServed keys IsFine fine_passes trusted number k (executed_walk wb version sent) (now wb) r
         begin_served version sent (Err f) e = fails (outcome.Refused f) _ (executed_walk wb version sent) tt (refused_walk wb version sent f e sb)
         begin_served version sent (Ok ready) e =
@@ -384,7 +384,7 @@ module _ (stay : ProperTablesStay) (keys : KeyMap) (trusted : List (List ℕ)) (
         sr : Stands wr
         sr = stands_described w s
 
-        roll_served : (version : ℕ) (sent : List SentParam) (r : Result (Meant × List Atom) SqlFault)
+        roll_served : (version : ℕ) (sent : List SentParam) (r : Result (Analysis × List Atom) SqlFault)
             → ready_at wr version sent ≡ r → OnServed keys IsFine fine_passes trusted number k (executed_walk wr version sent) (now wr) r
         roll_served version sent (Err f) e = h _ _ (executed_walk wr version sent) (refused_walk wr version sent f e sr)
         roll_served version sent (Ok ready) e =
@@ -406,7 +406,7 @@ module _ (stay : ProperTablesStay) (keys : KeyMap) (trusted : List (List ℕ)) (
         })
 
       module _ (control : control_of statement ≡ Some control.Commit) (w : Walk) (s : Stands w)
-          (fails : (comes : Outcome) (columns : Accepted) (w : Walk) → IsRefusal (told_of comes) → Stands w → Goes keys IsFine w [] (k comes columns session.Idle))
+          (fails : (comes : Outcome) (columns : Accepted) (w : Walk) → IsRefusal (driver_outcome comes) → Stands w → Goes keys IsFine w [] (k comes columns session.Idle))
           (ends : (w : Walk) → Goes keys IsFine w [] (k outcome.Defined None session.Idle)) where
         abbrev wc : Walk
         wc = described_walk w
@@ -414,7 +414,7 @@ module _ (stay : ProperTablesStay) (keys : KeyMap) (trusted : List (List ℕ)) (
         sc : Stands wc
         sc = stands_described w s
 
-        committed_answer : (version : ℕ) (sent : List SentParam) (ready : Meant × List Atom)
+        committed_answer : (version : ℕ) (sent : List SentParam) (ready : Analysis × List Atom)
             → ready_at wc version sent ≡ Ok ready → (x : Transacted) → transact (now wc) number (ask_of ready) ≡ x → Committing number (now wc) (alone_now wc) x
             → OnAnswer keys IsFine fine_passes trusted number k (executed_walk wc version sent) (catalog_of (now wc) number) x.answer
         committed_answer version sent ready e _ f (Granted after) = ends (executed_walk wc version sent)
@@ -422,7 +422,7 @@ module _ (stay : ProperTablesStay) (keys : KeyMap) (trusted : List (List ℕ)) (
             fails (outcome.Refused why) _ (executed_walk wc version sent) tt
             (stands_executed wc version sent (Ok ready) e sc (subst (λ (x : Transacted). AlikeBut number x.after (alone_now wc)) (sym f) alike))
 
-        commit_served : (version : ℕ) (sent : List SentParam) (r : Result (Meant × List Atom) SqlFault)
+        commit_served : (version : ℕ) (sent : List SentParam) (r : Result (Analysis × List Atom) SqlFault)
             → ready_at wc version sent ≡ r → OnServed keys IsFine fine_passes trusted number k (executed_walk wc version sent) (now wc) r
         commit_served version sent (Err f) e = fails (outcome.Refused f) _ (executed_walk wc version sent) tt (refused_walk wc version sent f e sc)
         commit_served version sent (Ok ready) e =
@@ -452,18 +452,19 @@ module _ (stay : ProperTablesStay) (keys : KeyMap) (trusted : List (List ℕ)) (
     ends : (w : Walk) → Stands w → (comes : Outcome) → Ready w (ending comes session.Idle)
     ends w s comes taken entropy bytes = record { one = omega arith; fine = inr s.alike; before = λ asked next left e. absurd (none_asked asked next left e) }
 
-    either : (w : Walk) (F : Fault → Session → Talk) (G : Told → Session → Talk) (t : Told)
-        → ((f : Fault) → Ready w (F f session.Idle)) → ((t : Told) → Ready w (G t session.Idle)) → Ready w (unless_refused F G t session.Idle)
-    either w F G (told.Refused f) a b = a f
-    either w F G (told.Rows rows) a b = b (told.Rows rows)
-    either w F G (told.Changed count) a b = b (told.Changed count)
-    either w F G told.Defined a b = b told.Defined
+    either : (w : Walk) (F : Fault → Session → Talk) (G : Received → Session → Talk) (t : Received)
+        → ((f : Fault) → Ready w (F f session.Idle)) → ((t : Received) → Ready w (G t session.Idle)) → Ready w (unless_refused F G t session.Idle)
+    either w F G (of_driver.Refused f) a b = a f
+    either w F G (of_driver.Rows rows) a b = b (of_driver.Rows rows)
+    either w F G (of_driver.Changed count) a b = b (of_driver.Changed count)
+    either w F G of_driver.Defined a b = b of_driver.Defined
 
-    refused : (w : Walk) (F : Fault → Session → Talk) (G : Told → Session → Talk) (t : Told) → IsRefusal t → ((f : Fault) → Ready w (F f session.Idle)) → Ready w (unless_refused F G t session.Idle)
-    refused w F G (told.Refused f) r a = a f
-    refused w F G (told.Rows rows) r a = absurd r
-    refused w F G (told.Changed count) r a = absurd r
-    refused w F G told.Defined r a = absurd r
+    refused : (w : Walk) (F : Fault → Session → Talk) (G : Received → Session → Talk) (t : Received) → IsRefusal t → ((f : Fault) → Ready w (F f session.Idle))
+        → Ready w (unless_refused F G t session.Idle)
+    refused w F G (of_driver.Refused f) r a = a f
+    refused w F G (of_driver.Rows rows) r a = absurd r
+    refused w F G (of_driver.Changed count) r a = absurd r
+    refused w F G of_driver.Defined r a = absurd r
 
     fails : (w : Walk) → Stands w → (f : Fault) → Ready w (fails_with trusted number old new ending f session.Idle)
     fails w s f = ends w s (fault_as f)
@@ -478,8 +479,8 @@ module _ (stay : ProperTablesStay) (keys : KeyMap) (trusted : List (List ℕ)) (
     commits_so : (w : Walk) → Stands w → (all : ℕ) → Ready w (committing trusted number old new ending all session.Idle)
     commits_so w s all =
         commit_goes commits
-        (λ comes columns. unless_refused (fails_with trusted number old new ending) (λ told after. ending (outcome.Rotated all) after) (told_of comes)) _ controls.committed refl w s
-        (λ comes columns w r s. refused w (fails_with trusted number old new ending) (λ told after. ending (outcome.Rotated all) after) (told_of comes) r (fails w s)) (λ w. finishes w all)
+        (λ comes columns. unless_refused (fails_with trusted number old new ending) (λ known after. ending (outcome.Rotated all) after) (driver_outcome comes)) _ controls.committed refl w s
+        (λ comes columns w r s. refused w (fails_with trusted number old new ending) (λ known after. ending (outcome.Rotated all) after) (driver_outcome comes) r (fails w s)) (λ w. finishes w all)
 
     abbrev anything : Accepted → Type 0
     anything columns = Unit {0}
@@ -487,10 +488,10 @@ module _ (stay : ProperTablesStay) (keys : KeyMap) (trusted : List (List ℕ)) (
     replaces_so : (w : Walk) → Stands w → HasBegun number w.beside.state → (all : ℕ) → Ready w (replacing trusted number old new ending all session.Idle)
     replaces_so w s b all =
         statement_goes (replaces old new)
-        (λ comes columns. unless_refused (rolling_back trusted number old new ending) (λ told after. committing trusted number old new ending all after) (told_of comes))
+        (λ comes columns. unless_refused (rolling_back trusted number old new ending) (λ known after. committing trusted number old new ending all after) (driver_outcome comes))
         _ (parse.replaced old new old_named new_named) refl anything tt (λ state version metas encs sent ready t g all e columns rows a. tt) w s b
         (λ comes columns w c s b. either w (rolling_back trusted number old new ending)
-        (λ told after. committing trusted number old new ending all after) (told_of comes) (rolls w s) (λ t. commits_so w s all))
+        (λ known after. committing trusted number old new ending all after) (driver_outcome comes) (rolls w s) (λ t. commits_so w s all))
 
     puts_so : (columns : List SentColumn) → AreIdentifiers columns → 1 ≤ length columns → length columns ≤ 64
         → (all : ℕ) (rows : List (List Value)) (w : Walk) → Stands w → HasBegun number w.beside.state
@@ -498,10 +499,10 @@ module _ (stay : ProperTablesStay) (keys : KeyMap) (trusted : List (List ℕ)) (
     puts_so columns ids least most all [] w s b = replaces_so w s b all
     puts_so columns ids least most all (row ∷ rows) w s b =
         statement_goes (puts new columns row)
-        (λ comes others. unless_refused (rolling_back trusted number old new ending) (λ told after. putting_each trusted number old new ending columns all rows after) (told_of comes))
+        (λ comes others. unless_refused (rolling_back trusted number old new ending) (λ known after. putting_each trusted number old new ending columns all rows after) (driver_outcome comes))
         _ (parse.put new columns row new_named ids least most).2 refl anything tt (λ state version metas encs sent ready t g all e columns rows a. tt) w s b
         (λ comes others w c s b. either w (rolling_back trusted number old new ending)
-        (λ told after. putting_each trusted number old new ending columns all rows after) (told_of comes) (rolls w s) (λ t. puts_so columns ids least most all rows w s b))
+        (λ known after. putting_each trusted number old new ending columns all rows after) (driver_outcome comes) (rolls w s) (λ t. puts_so columns ids least most all rows w s b))
 
     -- the columns that were accepted are those of a proper table
     abbrev AreProper : Accepted → Type 0
@@ -525,9 +526,9 @@ module _ (stay : ProperTablesStay) (keys : KeyMap) (trusted : List (List ℕ)) (
     named_columns [] h = tt
     named_columns (c ∷ cs) h = ((All-head IsProperColumn c cs h).named, named_columns cs (All-tail IsProperColumn c cs h))
 
-    told_proper : (catalog : Catalog) (name : List ℕ) (columns : List ResultColumn) → IsTold catalog name columns → AreProper (Some (map sent_column columns))
-    told_proper catalog name columns t =
-        subst (λ cs. AreProper (Some (map sent_column cs))) (sym t.told)
+    known_proper : (catalog : Catalog) (name : List ℕ) (columns : List ResultColumn) → IsKnown catalog name columns → AreProper (Some (map sent_column columns))
+    known_proper catalog name columns t =
+        subst (λ cs. AreProper (Some (map sent_column cs))) (sym t.known)
         (let long : length (map sent_column (map shown_column t.def.columns)) ≡ length t.def.columns = length-map
         (map shown_column t.def.columns) sent_column ∙ length-map t.def.columns shown_column in
         let p = t.proper in
@@ -540,40 +541,44 @@ module _ (stay : ProperTablesStay) (keys : KeyMap) (trusted : List (List ℕ)) (
     none_sent metas (p ∷ sent) h = absurd h
 
     -- of a read the columns are
-    reads_told : (name : List ℕ) → IsIdentifier name
-        → (state : State) (version : ℕ) (metas : List KeyMeta) (encs : List (Option Enc)) (sent : List SentParam) (ready : Meant × List Atom) → IsTidy state → HasBegun number state
+    reads_known : (name : List ℕ) → IsIdentifier name
+        → (state : State) (version : ℕ) (metas : List KeyMeta) (encs : List (Option Enc)) (sent : List SentParam) (ready : Analysis × List Atom) → IsTidy state → HasBegun number state
         → AreSent keys trusted metas [] sent → prepared (catalog_of state number) version (reads_all name).text sent ≡ Ok ready
         → (columns : List ResultColumn) (rows : List (List Atom)) → (transact state number (ask_of ready)).answer ≡ Ok (Rows columns rows) → AreProper (Some (map sent_column columns))
-    reads_told name named state version metas encs sent ready t b all e columns rows a =
+    reads_known name named state version metas encs sent ready t b all e columns rows a =
         let none = none_sent metas sent all in
         let e : prepared (catalog_of state number) version (reads_all name).text [] ≡ Ok ready = subst (λ s. prepared (catalog_of state number) version (reads_all name).text s ≡ Ok ready) none e in
         let p = parse.reads name named in
         let asked : IsAsked None (ask_of ready) = asks (catalog_of state number) version (reads_all name).text [] _ ready p.1 e in
         let executed : (transact state number (Executes asked.0)).answer ≡ Ok (Rows columns rows) = subst (λ ask. (transact state number ask).answer ≡ Ok (Rows columns rows)) asked.1 a in
         let c = answered_within number state asked.0 (Rows columns rows) b executed in
-        told_proper (catalog_of state number) name columns
-        (read_told parse whole (catalog_of state number) name named (t.1 number) version ready e c.0 columns
+        known_proper (catalog_of state number) name columns
+        (read_known parse whole (catalog_of state number) name named (t.1 number) version ready e c.0 columns
         rows (subst (λ x. (counted_step c.0 x).answer ≡ Ok (Rows columns rows)) (same_execution ready asked.0 asked.1) c.1))
 
     reads_old : (news : Accepted) (empty : Bool) (w : Walk) → Stands w → HasBegun number w.beside.state → Ready w (reading_old trusted number old new ending news empty session.Idle)
     reads_old news empty w s b =
         statement_goes (reads_all old)
-        (λ comes olds. unless_refused (rolling_back trusted number old new ending) (λ told after. comparing trusted number old new ending news empty olds (rows_told told) after) (told_of comes))
-        _ (parse.reads old old_named).1 refl AreProper tt (reads_told old old_named) w s b
+        (λ comes olds. unless_refused (rolling_back trusted number old new ending) (λ known after. comparing trusted number old new ending news empty olds (outcome_rows known) after)
+        (driver_outcome comes))
+        _ (parse.reads old old_named).1 refl AreProper tt (reads_known old old_named) w s b
         (λ comes olds w c s b. either w (rolling_back trusted number old new ending)
-        (λ told after. comparing trusted number old new ending news empty olds (rows_told told) after) (told_of comes) (rolls w s) (λ t. compares news olds c empty (rows_told t) w s b))
+        (λ known after. comparing trusted number old new ending news empty olds (outcome_rows known) after) (driver_outcome comes) (rolls w s) (λ t. compares news olds c empty (outcome_rows t) w s b))
 
     reads_new : (w : Walk) → Stands w → HasBegun number w.beside.state → Ready w (reading_new trusted number old new ending session.Idle)
     reads_new w s b =
         statement_goes (reads_all new)
-        (λ comes news. unless_refused (rolling_back trusted number old new ending) (λ told after. reading_old trusted number old new ending news (is_empty (rows_told told)) after) (told_of comes))
+        (λ comes news. unless_refused (rolling_back trusted number old new ending) (λ known after. reading_old trusted number old new ending news (is_empty (outcome_rows known)) after)
+        (driver_outcome comes))
         _ (parse.reads new new_named).1 refl anything tt (λ state version metas encs sent ready t g all e columns rows a. tt) w s b
         (λ comes news w c s b. either w (rolling_back trusted number old new ending)
-        (λ told after. reading_old trusted number old new ending news (is_empty (rows_told told)) after) (told_of comes) (rolls w s) (λ t. reads_old news (is_empty (rows_told t)) w s b))
+        (λ known after. reading_old trusted number old new ending news (is_empty (outcome_rows known)) after) (driver_outcome comes) (rolls w s)
+        (λ t. reads_old news (is_empty (outcome_rows t)) w s b))
 
     pub rotation_fine : (w : Walk) → Stands w → Ready w (rotation trusted number old new)
     rotation_fine w s =
-        begin_goes begins (λ comes columns. unless_refused (fails_with trusted number old new ending) (λ told after. reading_new trusted number old new ending after) (told_of comes))
+        begin_goes begins (λ comes columns. unless_refused (fails_with trusted number old new ending) (λ known after. reading_new trusted number old new ending after) (driver_outcome comes))
         _ controls.begun refl w s
-        (λ comes columns w r s. refused w (fails_with trusted number old new ending) (λ told after. reading_new trusted number old new ending after) (told_of comes) r (fails w s))
-        (λ comes columns w s b. either w (fails_with trusted number old new ending) (λ told after. reading_new trusted number old new ending after) (told_of comes) (fails w s) (λ t. reads_new w s b))
+        (λ comes columns w r s. refused w (fails_with trusted number old new ending) (λ known after. reading_new trusted number old new ending after) (driver_outcome comes) r (fails w s))
+        (λ comes columns w s b. either w (fails_with trusted number old new ending) (λ known after. reading_new trusted number old new ending after) (driver_outcome comes) (fails w s)
+        (λ t. reads_new w s b))

@@ -17,10 +17,10 @@ use Rattle.operators.proofs.Interface.{came}
 use Rattle.resolve.specs.Bind.{bind}
 use Rattle.sql_tree.specs.Bound.{BoundQuery}
 use Rattle.sql_tree.specs.Bound as bound
-use Rattle.statement_analysis.specs.Describing.{Meant, understood}
-use Rattle.statement_analysis.specs.Params.{suited}
+use Rattle.statement_analysis.specs.Describing.{Analysis, analyzed}
+use Rattle.statement_analysis.specs.Params.{checked_params}
 use Rattle.transactions.specs.Counted.{Counted, Execution, counted, counted_step, execution}
-use Rattle.server_core.specs.Serve.{prepared, understood_at}
+use Rattle.server_core.specs.Serve.{prepared, analyzed_at}
 use Rattle.column_rotate.specs.Texts.{reads_all}
 use Rattle.proper_value_laws.specs.Proper.{HasProperTables, IsIdentifier, IsProperTable}
 use Rattle.rotation_laws.specs.Laws.{IsReadWhole, ReadingIsWhole, TextsParse, shown_column}
@@ -51,63 +51,63 @@ module _ (c : Counted) (e : Execution) (q : BoundQuery) (columns : List ResultCo
 -- ---- a table that is read whole
 
 -- the table is there, is proper, and its columns are told
-pub record IsTold (catalog : Catalog) (name : List ℕ) (columns : List ResultColumn) : Type 0 where
+pub record IsKnown (catalog : Catalog) (name : List ℕ) (columns : List ResultColumn) : Type 0 where
   pub def : TableDef
   pub there : table_named catalog name ≡ Some def
   pub proper : IsProperTable def
-  pub told : columns ≡ map shown_column def.columns
+  pub known : columns ≡ map shown_column def.columns
 
 module _ (parse : TextsParse) (whole : ReadingIsWhole) (catalog : Catalog) (name : List ℕ) (named : IsIdentifier name) where
-  not_there : table_named catalog name ≡ None → (meant : Meant) → understood catalog (reads_all name).text [] ≡ Ok meant → ⊥
-  unfolding understood bind
-  not_there e meant h =
+  not_there : table_named catalog name ≡ None → (analysis : Analysis) → analyzed catalog (reads_all name).text [] ≡ Ok analysis → ⊥
+  unfolding analyzed bind
+  not_there e analysis h =
       let p = (parse.reads name named).1 in
-      let f : understood catalog (reads_all name).text [] ≡ Err (fault.NoTable name) = rw (p, e) refl in
-      let g : Err (fault.NoTable name) ≡ Ok meant = sym f ∙ h in
+      let f : analyzed catalog (reads_all name).text [] ≡ Err (fault.NoTable name) = rw (p, e) refl in
+      let g : Err (fault.NoTable name) ≡ Ok analysis = sym f ∙ h in
       absurd cc
 
-  prepared_meant : (version : ℕ) (ready : Meant × List Atom) → prepared catalog version (reads_all name).text [] ≡ Ok ready → understood catalog (reads_all name).text [] ≡ Ok ready.0
-  prepared_meant version ready e =
-      let c = came (understood_at catalog version (reads_all name).text []) (λ meant. suited meant.encs [] >>= λ atoms. Ok (meant, atoms)) ready e in
-      let d = came (suited c.value.encs []) (λ atoms. Ok (c.value, atoms)) ready c.then in
+  prepared_analysis : (version : ℕ) (ready : Analysis × List Atom) → prepared catalog version (reads_all name).text [] ≡ Ok ready → analyzed catalog (reads_all name).text [] ≡ Ok ready.0
+  prepared_analysis version ready e =
+      let c = came (analyzed_at catalog version (reads_all name).text []) (λ analysis. checked_params analysis.encs [] >>= λ atoms. Ok (analysis, atoms)) ready e in
+      let d = came (checked_params c.value.encs []) (λ atoms. Ok (c.value, atoms)) ready c.then in
       let h = d.then in
       let f : (c.value, d.value) ≡ ready = cc in
-      at (version == catalog.version) c.is ∙ ap (λ (r : Meant × List Atom). Ok r.0) f
+      at (version == catalog.version) c.is ∙ ap (λ (r : Analysis × List Atom). Ok r.0) f
     where
-      at : {meant : Meant} (b : Bool)
-          → (if b then understood catalog (reads_all name).text [] else Err (fault.Moved (record { seen = version; now = catalog.version }))) ≡ Ok meant
-          → understood catalog (reads_all name).text [] ≡ Ok meant
+      at : {analysis : Analysis} (b : Bool)
+          → (if b then analyzed catalog (reads_all name).text [] else Err (fault.Moved (record { seen = version; now = catalog.version }))) ≡ Ok analysis
+          → analyzed catalog (reads_all name).text [] ≡ Ok analysis
       at true h = h
       at false h = absurd cc
 
   -- how it is meant
-  pub read_meant : HasProperTables catalog → (version : ℕ) (ready : Meant × List Atom) → prepared catalog version (reads_all name).text [] ≡ Ok ready
-      → (def : TableDef) × (table_named catalog name ≡ Some def) × IsProperTable def × ((r : IsReadWhole catalog name def) × (r.meant ≡ ready.0))
-  read_meant proper version ready e = by (table_named catalog name) refl
+  pub read_analysis : HasProperTables catalog → (version : ℕ) (ready : Analysis × List Atom) → prepared catalog version (reads_all name).text [] ≡ Ok ready
+      → (def : TableDef) × (table_named catalog name ≡ Some def) × IsProperTable def × ((r : IsReadWhole catalog name def) × (r.analysis ≡ ready.0))
+  read_analysis proper version ready e = by (table_named catalog name) refl
     where
       by : (o : Option TableDef) → table_named catalog name ≡ o
-          → (def : TableDef) × (table_named catalog name ≡ Some def) × IsProperTable def × ((r : IsReadWhole catalog name def) × (r.meant ≡ ready.0))
-      by None t = absurd (not_there t ready.0 (prepared_meant version ready e))
+          → (def : TableDef) × (table_named catalog name ≡ Some def) × IsProperTable def × ((r : IsReadWhole catalog name def) × (r.analysis ≡ ready.0))
+      by None t = absurd (not_there t ready.0 (prepared_analysis version ready e))
       by (Some def) t =
           let own = found_all IsProperTable _ catalog.tables def proper t in
           let r = whole catalog name def named t own.some own.few in
-          let h : Ok r.meant ≡ Ok ready.0 = sym r.means ∙ prepared_meant version ready e in
-          let f : r.meant ≡ ready.0 = cc in
+          let h : Ok r.analysis ≡ Ok ready.0 = sym r.means ∙ prepared_analysis version ready e in
+          let f : r.analysis ≡ ready.0 = cc in
           (def, t, own, (r, f))
 
   -- in a transaction its columns are told so
-  pub read_told : HasProperTables catalog → (version : ℕ) (ready : Meant × List Atom)
+  pub read_known : HasProperTables catalog → (version : ℕ) (ready : Analysis × List Atom)
       → prepared catalog version (reads_all name).text [] ≡ Ok ready → (c : Counted) (columns : List ResultColumn) (rows : List (List Atom))
-      → (counted_step c (execution ready.0.bound ready.0.encs ready.1)).answer ≡ Ok (Rows columns rows) → IsTold catalog name columns
-  read_told proper version ready e c columns rows h =
-      let m = read_meant proper version ready e in
+      → (counted_step c (execution ready.0.bound ready.0.encs ready.1)).answer ≡ Ok (Rows columns rows) → IsKnown catalog name columns
+  read_known proper version ready e c columns rows h =
+      let m = read_analysis proper version ready e in
       let r = m.3.0 in
-      let s : ready.0.bound.statement ≡ bound.Select r.query = ap (λ (x : Meant). x.bound.statement) (sym m.3.1) ∙ r.is in
+      let s : ready.0.bound.statement ≡ bound.Select r.query = ap (λ (x : Analysis). x.bound.statement) (sym m.3.1) ∙ r.is in
       let shows : map (result_column ready.0.bound.columns ready.0.bound.params ready.0.encs) r.query.items ≡ map shown_column m.0.columns =
-      subst (λ (x : Meant). map (result_column x.bound.columns x.bound.params x.encs) r.query.items ≡ map shown_column m.0.columns) m.3.1 r.shows in
+      subst (λ (x : Analysis). map (result_column x.bound.columns x.bound.params x.encs) r.query.items ≡ map shown_column m.0.columns) m.3.1 r.shows in
       record {
         def = m.0;
         there = m.1;
         proper = m.2;
-        told = query_columns c (execution ready.0.bound ready.0.encs ready.1) r.query columns rows s h ∙ shows;
+        known = query_columns c (execution ready.0.bound ready.0.encs ready.1) r.query columns rows s h ∙ shows;
       }

@@ -38,8 +38,8 @@ use Rattle.ae_base.specs.Sessions.{IsSession}
 use Rattle.ae_base.specs.declared.faults.SqlFault.{SqlFault}
 use Rattle.catalog.specs.Catalogs.{Catalog}
 use Rattle.engine.specs.Step.{Answer}
-use Rattle.sql_tree.specs.Sorts.{is_definition}
-use Rattle.statement_analysis.specs.Describing.{Meant, describe}
+use Rattle.sql_tree.specs.Kinds.{is_definition}
+use Rattle.statement_analysis.specs.Describing.{Analysis, describe}
 use Rattle.transactions.proofs.Interface.{AreBegun, IsLater, none_begun, transact_begun, transact_later}
 use Rattle.transactions.specs.Counted.{Execution, counted_step, nothing_counted}
 use Rattle.transactions.specs.Rotating.{logs_behind}
@@ -79,7 +79,7 @@ pub behind_more : (s : State) (xs ys : List Request) → (serve_all s (xs ++ ys)
 behind_more s [] ys = refl
 behind_more s (x ∷ xs) ys = behind_more (serve s x).after xs ys
 
-executed_calls : (state : State) (session : ℕ) (r : Result (Meant × List Atom) SqlFault) → (executed state session r).after ≡ all_after state (asked session r)
+executed_calls : (state : State) (session : ℕ) (r : Result (Analysis × List Atom) SqlFault) → (executed state session r).after ≡ all_after state (asked session r)
 executed_calls state session (Ok ready) =
     let t = transact state session (ask_of ready) in
     answered_after (catalog_of state session) t.answer t.after
@@ -164,7 +164,7 @@ long_by : (n : ℕ) → length (replicate n (let none : List Deed = [] in none))
 long_by zero = refl
 long_by (suc n) = ap suc (long_by n)
 
--- behind requests from the state in which nothing is defined
+-- after requests from the state in which nothing is defined
 abbrev pub state_of : List Request → State
 state_of requests = (serve_all empty_state requests).1
 
@@ -176,7 +176,7 @@ module _ (number : ℕ) (session : IsSession number) where
   some = session.0
 
   -- those of the others leave the session's
-  asked_others : (s : State) (logs : List (List Deed)) (other : ℕ) (r : Result (Meant × List Atom) SqlFault)
+  asked_others : (s : State) (logs : List (List Deed)) (other : ℕ) (r : Result (Analysis × List Atom) SqlFault)
       → other - 1 ≢ number - 1 → log_at (logs_behind s logs (asked other r)) number ≡ log_at logs number
   asked_others s logs other (Ok ready) n = slot_other [] logs (other - 1) (number - 1) (record_of s (record { session = other; ask = ask_of ready }) logs).log n
   asked_others s logs other (Err f) n = refl
@@ -238,7 +238,7 @@ module _ (number : ℕ) (session : IsSession number) where
         logged = ap (λ ls. log_at ls number) (logs_more empty_state no_logs requests more) ∙ logs_others s (logs_of requests) more o ∙ h.logged;
       }
 
-  -- behind a request that asks these calls
+  -- after a request that asks these calls
   state_next : (requests : List Request) (request : Request) (calls : List Call) → called (state_of requests) request ≡ calls
       → state_of (requests ++ request ∷ []) ≡ all_after (state_of requests) calls
   state_next requests request calls e = behind_more empty_state requests (request ∷ []) ∙ after_one (state_of requests) request ∙ ap (all_after (state_of requests)) e

@@ -26,7 +26,7 @@ use Rattle.cell_codec.specs.Cells.{content_of}
 use Rattle.cell_codec.specs.declared.faults.CellFault.{CellFault}
 use Rattle.cell_codec.specs.declared.faults.CellFault.TheVariants as cell_fault
 use Rattle.column_rotate.specs.Texts.{params_from}
-use Rattle.conversation.specs.Cells.{at_place, det_atom, normal, read_atom, read_atoms, value_in}
+use Rattle.conversation.specs.Cells.{at_position, det_atom, normal, read_atom, read_atoms, value_in}
 use Rattle.conversation.specs.Pending.{uses_in}
 use Rattle.conversation.specs.declared.faults.CellFailure.{CellFailure}
 use Rattle.conversation.specs.declared.sessions.ColumnType.{ColumnType}
@@ -34,12 +34,12 @@ use Rattle.hmac_kdf.specs.Keys.{Keys}
 use Rattle.operators.proofs.Interface.{came}
 use Rattle.proper_value_laws.specs.Laws.{ProperValuesStay, TextsAreProper}
 use Rattle.proper_value_laws.specs.Proper.{AreProperRows, HasProperTables, IsProperAnswer, IsProperAsk, IsProperAtom, IsProperExecution, IsProperStore, IsProperTable, IsProperWorld}
-use Rattle.server_core.specs.Serve.{State, ask_of, catalog_of, empty_state, prepared, serve, serve_all, understood_at}
-use Rattle.sql_tree.specs.Sorts.{control_in}
+use Rattle.server_core.specs.Serve.{State, ask_of, catalog_of, empty_state, prepared, serve, serve_all, analyzed_at}
+use Rattle.sql_tree.specs.Kinds.{control_in}
 use Rattle.sql_tree.specs.declared.statements.TransactionControl.{TransactionControl}
 use Rattle.sql_tree.specs.declared.statements.TransactionControl.TheVariants as control
-use Rattle.statement_analysis.specs.Describing.{Meant, describe}
-use Rattle.statement_analysis.specs.Params.{declaration_of, is_encrypted_so, is_shaped, suited, suited_atom}
+use Rattle.statement_analysis.specs.Describing.{Analysis, describe}
+use Rattle.statement_analysis.specs.Params.{declaration_of, is_encrypted_so, is_shaped, checked_params, checked_atom}
 use Rattle.transactions.proofs.Interface.{all_at}
 use Rattle.transactions.specs.Counted.{Counted, Execution, execution}
 use Rattle.transactions.specs.Stores.{Ask, Executes, Store, Transaction, seen_by, transact, transaction_at}
@@ -84,8 +84,8 @@ pub requests_proper : (request : Request) → IsRequest request → IsProperRequ
 requests_proper (Describe session text declarations) h = tt
 requests_proper (Execute session version text params) h = All-weaker IsSent IsProperSent (λ p k. record { typed = k.ty; atom = wire_atom p.atom k.atom.0 }) params h.3.0
 
-suited_one : (e : Enc) (p : SentParam) (a : Atom) → suited_atom e p ≡ Ok a → a ≡ p.atom
-suited_one e p a h = by (is_encrypted_so e p.enc p.ty p.atom) h
+checked_one : (e : Enc) (p : SentParam) (a : Atom) → checked_atom e p ≡ Ok a → a ≡ p.atom
+checked_one e p a h = by (is_encrypted_so e p.enc p.ty p.atom) h
   where
     shaped : (b : Bool) → (let r : Result Atom SqlFault = if b then Ok p.atom else Err (fault.BadCell p.name) in r) ≡ Ok a → a ≡ p.atom
     shaped true h = cc
@@ -95,29 +95,29 @@ suited_one e p a h = by (is_encrypted_so e p.enc p.ty p.atom) h
     by true h = shaped (is_shaped p.ty p.atom) h
     by false h = absurd cc
 
-pub suited_same : (encs : List Enc) (sent : List SentParam) (atoms : List Atom) → length encs ≡ length sent → suited encs sent ≡ Ok atoms → atoms ≡ map (λ (p : SentParam). p.atom) sent
-suited_same [] [] atoms long h = cc
-suited_same [] (p ∷ sent) atoms long h = absurd (omega arith)
-suited_same (e ∷ encs) [] atoms long h = absurd (omega arith)
-suited_same (e ∷ encs) (p ∷ sent) atoms long h =
-    let first = came (suited_atom e p) (λ a. suited encs sent >>= λ more. Ok (a ∷ more)) atoms h in
-    let rest = came (suited encs sent) (λ more. Ok (first.value ∷ more)) atoms first.then in
+pub checked_same : (encs : List Enc) (sent : List SentParam) (atoms : List Atom) → length encs ≡ length sent → checked_params encs sent ≡ Ok atoms → atoms ≡ map (λ (p : SentParam). p.atom) sent
+checked_same [] [] atoms long h = cc
+checked_same [] (p ∷ sent) atoms long h = absurd (omega arith)
+checked_same (e ∷ encs) [] atoms long h = absurd (omega arith)
+checked_same (e ∷ encs) (p ∷ sent) atoms long h =
+    let first = came (checked_atom e p) (λ a. checked_params encs sent >>= λ more. Ok (a ∷ more)) atoms h in
+    let rest = came (checked_params encs sent) (λ more. Ok (first.value ∷ more)) atoms first.then in
     let k = rest.then in
     let f : first.value ∷ rest.value ≡ atoms = cc in
-    sym f ∙ ap (λ a. a ∷ rest.value) (suited_one e p first.value first.is) ∙ ap (λ more. p.atom ∷ more) (suited_same encs sent rest.value (omega arith) rest.is)
+    sym f ∙ ap (λ a. a ∷ rest.value) (checked_one e p first.value first.is) ∙ ap (λ more. p.atom ∷ more) (checked_same encs sent rest.value (omega arith) rest.is)
 
-suited_proper : (encs : List Enc) (sent : List SentParam) (atoms : List Atom) → suited encs sent ≡ Ok atoms → All IsProperSent sent → All IsProperAtom atoms
-suited_proper [] [] atoms h all = let f : [] ≡ atoms = cc in subst (All IsProperAtom) f (All-nil IsProperAtom)
-suited_proper [] (p ∷ sent) atoms h all = let f : [] ≡ atoms = cc in subst (All IsProperAtom) f (All-nil IsProperAtom)
-suited_proper (e ∷ encs) [] atoms h all = let f : [] ≡ atoms = cc in subst (All IsProperAtom) f (All-nil IsProperAtom)
-suited_proper (e ∷ encs) (p ∷ sent) atoms h all =
-    let first = came (suited_atom e p) (λ a. suited encs sent >>= λ more. Ok (a ∷ more)) atoms h in
-    let rest = came (suited encs sent) (λ more. Ok (first.value ∷ more)) atoms first.then in
+checked_proper : (encs : List Enc) (sent : List SentParam) (atoms : List Atom) → checked_params encs sent ≡ Ok atoms → All IsProperSent sent → All IsProperAtom atoms
+checked_proper [] [] atoms h all = let f : [] ≡ atoms = cc in subst (All IsProperAtom) f (All-nil IsProperAtom)
+checked_proper [] (p ∷ sent) atoms h all = let f : [] ≡ atoms = cc in subst (All IsProperAtom) f (All-nil IsProperAtom)
+checked_proper (e ∷ encs) [] atoms h all = let f : [] ≡ atoms = cc in subst (All IsProperAtom) f (All-nil IsProperAtom)
+checked_proper (e ∷ encs) (p ∷ sent) atoms h all =
+    let first = came (checked_atom e p) (λ a. checked_params encs sent >>= λ more. Ok (a ∷ more)) atoms h in
+    let rest = came (checked_params encs sent) (λ more. Ok (first.value ∷ more)) atoms first.then in
     let k = rest.then in
     let f : first.value ∷ rest.value ≡ atoms = cc in
     subst (All IsProperAtom) f
-    (All-cons IsProperAtom first.value rest.value (subst IsProperAtom (sym (suited_one e p first.value first.is)) (All-head IsProperSent p sent all).atom)
-    (suited_proper encs sent rest.value rest.is (All-tail IsProperSent p sent all)))
+    (All-cons IsProperAtom first.value rest.value (subst IsProperAtom (sym (checked_one e p first.value first.is)) (All-head IsProperSent p sent all).atom)
+    (checked_proper encs sent rest.value rest.is (All-tail IsProperSent p sent all)))
 
 -- ---- states
 
@@ -135,21 +135,21 @@ asked_proper (Some control.Commit) e h = tt
 asked_proper (Some control.Rollback) e h = tt
 
 module _ (sound : Sound) where
-  ready_proper : (s : State) (n version : ℕ) (text : List ℕ) (sent : List SentParam) (ready : Meant × List Atom)
+  ready_proper : (s : State) (n version : ℕ) (text : List ℕ) (sent : List SentParam) (ready : Analysis × List Atom)
       → IsProperStore s → All IsProperSent sent → prepared (catalog_of s n) version text sent ≡ Ok ready → IsProperAsk (ask_of ready)
   ready_proper s n version text sent ready h all e =
       let u = prepared_means (catalog_of s n) version text sent ready e in
-      let c = came (understood_at (catalog_of s n) version text sent) (λ meant. suited meant.encs sent >>= λ atoms. Ok (meant, atoms)) ready e in
-      let d = came (suited c.value.encs sent) (λ atoms. Ok (c.value, atoms)) ready c.then in
+      let c = came (analyzed_at (catalog_of s n) version text sent) (λ analysis. checked_params analysis.encs sent >>= λ atoms. Ok (analysis, atoms)) ready e in
+      let d = came (checked_params c.value.encs sent) (λ atoms. Ok (c.value, atoms)) ready c.then in
       let k = d.then in
       let f : (c.value, d.value) ≡ ready = cc in
       let types = All-map (λ (d : ParamDecl). IsType d.ty) declaration_of sent (All-weaker IsProperSent (λ p. IsType (declaration_of p).ty) (λ p k. k.typed) sent all) in
       let bound = sound.texts.bound (catalog_of s n) text (map declaration_of sent) ready.0 (seen_tables s n h) types u in
-      let atoms : All IsProperAtom ready.1 = subst (λ (r : Meant × List Atom). All IsProperAtom r.1) f (suited_proper c.value.encs sent d.value d.is all) in
+      let atoms : All IsProperAtom ready.1 = subst (λ (r : Analysis × List Atom). All IsProperAtom r.1) f (checked_proper c.value.encs sent d.value d.is all) in
       asked_proper (control_in ready.0.bound.statement) (execution ready.0.bound ready.0.encs ready.1) (record { bound = bound; params = atoms })
 
   -- what is answered
-  pub answers_proper : (s : State) (n version : ℕ) (text : List ℕ) (sent : List SentParam) (ready : Meant × List Atom)
+  pub answers_proper : (s : State) (n version : ℕ) (text : List ℕ) (sent : List SentParam) (ready : Analysis × List Atom)
       → IsProperStore s → All IsProperSent sent → prepared (catalog_of s n) version text sent ≡ Ok ready
       → IsProperAnswer (transact s n (ask_of ready)).answer
   answers_proper s n version text sent ready h all e = (sound.stays s n (ask_of ready) h (ready_proper s n version text sent ready h all e)).answer
@@ -161,7 +161,7 @@ module _ (sound : Sound) where
       let r = prepared (catalog_of s session) version text params in
       subst IsProperStore (sym (executed_after session s session r)) (by r refl)
     where
-      by : (r : Result (Meant × List Atom) SqlFault) → prepared (catalog_of s session) version text params ≡ r → IsProperStore (after_by session s session r)
+      by : (r : Result (Analysis × List Atom) SqlFault) → prepared (catalog_of s session) version text params ≡ r → IsProperStore (after_by session s session r)
       by (Ok ready) e = (sound.stays s session (ask_of ready) h (ready_proper s session version text params ready h k e)).after
       by (Err f) e = h
 
@@ -216,7 +216,7 @@ module _ (keys : KeyMap) (trusted : List (List ℕ)) (metas : List KeyMeta) wher
 
 -- ---- what is read
 
-pub placed : (row at : ℕ) (r : Result Value CellFailure) (v : Value) → at_place row at r ≡ Ok v → r ≡ Ok v
+pub placed : (row at : ℕ) (r : Result Value CellFailure) (v : Value) → at_position row at r ≡ Ok v → r ≡ Ok v
 placed row at (Ok x) v e = let g : x ≡ v = cc in ap Ok g
 placed row at (Err f) v e = absurd cc
 
@@ -248,7 +248,7 @@ module _ (one : ValueIsTheOne) where
   atoms_proper row at (c ∷ columns) [] atoms values h e = let g : [] ≡ values = cc in subst (All IsProper) g (All-nil IsProper)
   atoms_proper row at (c ∷ columns) (o ∷ os) [] values h e = let g : [] ≡ values = cc in subst (All IsProper) g (All-nil IsProper)
   atoms_proper row at (c ∷ columns) (o ∷ os) (a ∷ atoms) values h e =
-      let first = came (at_place row at (read_atom o c.ty a)) (λ v. read_atoms row (at + 1) columns os atoms >>= λ values. Ok (v ∷ values)) values e in
+      let first = came (at_position row at (read_atom o c.ty a)) (λ v. read_atoms row (at + 1) columns os atoms >>= λ values. Ok (v ∷ values)) values e in
       let rest = came (read_atoms row (at + 1) columns os atoms) (λ values. Ok (first.value ∷ values)) values first.then in
       let k = rest.then in
       let g : first.value ∷ rest.value ≡ values = cc in

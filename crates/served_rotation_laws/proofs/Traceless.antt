@@ -47,8 +47,8 @@ module _ (stay : ProperTablesStay) (parse : TextsParse) (controls : BeginsCommit
         others = others;
       }) 0 entropy bytes
 
-  pub told_once : RotationsTellOneOutcome
-  told_once keys trusted number old new entropy history between session old_named new_named bytes others =
+  pub known_once : RotationsTellOneOutcome
+  known_once keys trusted number old new entropy history between session old_named new_named bytes others =
       (fine_so keys trusted number old new entropy history between session old_named new_named bytes others).one
 
   pub traceless : UnfinishedLeavesNoTrace

@@ -51,10 +51,10 @@ use Rattle.ae_base.specs.declared.values.Value.{Value}
 use Rattle.ae_edge.specs.Vaults.{KeyMap}
 use Rattle.catalog.specs.Catalogs.{Catalog, table_named}
 use Rattle.column_rotate.specs.Headers.{are_alike}
-use Rattle.column_rotate.specs.Moves.{is_empty, rows_told}
-use Rattle.column_rotate.specs.Rotating.{committing, comparing, fails_with, putting_each, reading_new, reading_old, replacing, rolling_back, told_of, unless_refused}
+use Rattle.column_rotate.specs.Moves.{is_empty, outcome_rows}
+use Rattle.column_rotate.specs.Rotating.{committing, comparing, fails_with, putting_each, reading_new, reading_old, replacing, rolling_back, driver_outcome, unless_refused}
 use Rattle.column_rotate.specs.Texts.{begins, commits, puts, reads_all, replaces}
-use Rattle.conversation.specs.Cells.{at_place, is_atom_of, is_row_of, read_atom, read_atoms}
+use Rattle.conversation.specs.Cells.{at_position, is_atom_of, is_row_of, read_atom, read_atoms}
 use Rattle.conversation.specs.Sessions.{types_of}
 use Rattle.conversation.specs.Talk.{Talk}
 use Rattle.conversation.specs.Turns.{Accepted, running}
@@ -65,7 +65,7 @@ use Rattle.conversation.specs.declared.sessions.ColumnType.{ColumnType}
 use Rattle.conversation.specs.declared.sessions.Session.{Session}
 use Rattle.conversation.specs.declared.sessions.Session.TheVariants as session
 use Rattle.driver.specs.declared.outcomes.Fault.TheVariants.{OfDriver}
-use Rattle.driver.specs.declared.outcomes.Outcome.TheVariants as told
+use Rattle.driver.specs.declared.outcomes.Outcome.TheVariants as of_driver
 use Rattle.engine.specs.Step.{Answer, Defined, Rows}
 use Rattle.engine.specs.declared.answers.ResultColumn.{ResultColumn}
 use Rattle.hmac_kdf.specs.Keys.{Keys}
@@ -100,7 +100,7 @@ use Rattle.served_rotation_laws.proofs.Moving.{
   Moves,
   Ready,
   Stands,
-  Told,
+  Received,
   IsRefusal,
   Within,
   begin_goes,
@@ -117,8 +117,8 @@ use Rattle.served_rotation_laws.proofs.Moving.{
   up_to,
 }
 use Rattle.served_rotation_laws.proofs.Nothing.{tidy_all}
-use Rattle.served_rotation_laws.proofs.Places.{AreRowsSealed, CellLaws, put_sealed, rows_moved, sealed_more, types_for, types_told}
-use Rattle.served_rotation_laws.proofs.Reading.{IsTold}
+use Rattle.served_rotation_laws.proofs.Ordinals.{AreRowsSealed, CellLaws, put_sealed, rows_moved, sealed_more, types_for, types_known}
+use Rattle.served_rotation_laws.proofs.Reading.{IsKnown}
 use Rattle.served_rotation_laws.proofs.Requests.{Inside, after_all, all_allowed, behind_more, state_of}
 use Rattle.served_rotation_laws.proofs.Sound.{IsProperRequest, IsProperSent, Sound, all_proper, empty_proper, requests_proper, row_proper, values_proper}
 use Rattle.served_rotation_laws.proofs.Traceless.{nothing_seen}
@@ -144,7 +144,7 @@ module _ (keys : KeyMap) (trusted : List (List ℕ)) (metas : List KeyMeta) wher
   one_wide row at (c ∷ columns) [] atoms v k fit e = absurd k
   one_wide row at (c ∷ columns) (o ∷ os) [] v k fit e = absurd cc
   one_wide row at (c ∷ columns) (o ∷ os) (a ∷ atoms) v k fit e =
-      let first = came (at_place row at (read_atom o c.ty a)) (λ v. read_atoms row (at + 1) columns os atoms >>= λ values. Ok (v ∷ values)) v e in
+      let first = came (at_position row at (read_atom o c.ty a)) (λ v. read_atoms row (at + 1) columns os atoms >>= λ values. Ok (v ∷ values)) v e in
       let rest = came (read_atoms row (at + 1) columns os atoms) (λ values. Ok (first.value ∷ values)) v first.then in
       let h = rest.then in
       let f : first.value ∷ rest.value ≡ v = cc in
@@ -265,15 +265,15 @@ module _ (stay : ProperTablesStay) (parse : TextsParse) (controls : BeginsCommit
   abbrev end : Outcome → Session → Talk
   end comes after = ending history old new keys key_for trusted number comes after
 
-  or_rolls : (G : Told → Session → Talk) (comes : Outcome) (columns : Accepted) (w : Walk) → IsRefusal (told_of comes)
-      → GoesOn w (unless_refused (rolling_back trusted number old new end) G (told_of comes) session.Idle)
+  or_rolls : (G : Received → Session → Talk) (comes : Outcome) (columns : Accepted) (w : Walk) → IsRefusal (driver_outcome comes)
+      → GoesOn w (unless_refused (rolling_back trusted number old new end) G (driver_outcome comes) session.Idle)
   or_rolls G comes columns w r = refused history old new keys key_for trusted number w (rolling_back trusted number old new end)
-      G (told_of comes) r (λ f. rolls history old new keys key_for trusted number w f)
+      G (driver_outcome comes) r (λ f. rolls history old new keys key_for trusted number w f)
 
-  or_fails : (G : Told → Session → Talk) (comes : Outcome) (columns : Accepted) (w : Walk) → IsRefusal (told_of comes)
-      → GoesOn w (unless_refused (fails_with trusted number old new end) G (told_of comes) session.Idle)
+  or_fails : (G : Received → Session → Talk) (comes : Outcome) (columns : Accepted) (w : Walk) → IsRefusal (driver_outcome comes)
+      → GoesOn w (unless_refused (fails_with trusted number old new end) G (driver_outcome comes) session.Idle)
   or_fails G comes columns w r = refused history old new keys key_for trusted number w (fails_with trusted number old new end)
-      G (told_of comes) r (λ f. fails history old new keys key_for trusted number w f)
+      G (driver_outcome comes) r (λ f. fails history old new keys key_for trusted number w f)
 
   -- a batch without parameters sends none
   nothing_sent : (metas : List KeyMeta) (encs : List (Option Enc)) (sent : List SentParam) → AreSent keys trusted metas [] sent → All IsProperSent sent
@@ -329,8 +329,8 @@ module _ (stay : ProperTablesStay) (parse : TextsParse) (controls : BeginsCommit
         → length read ≡ all → GoesOn w (committing trusted number old new end all session.Idle)
     commits_so w t log columns rows read all h both deeds moved count =
         commit_goes history old new keys key_for trusted number is_session sound commits
-        (λ comes columns. unless_refused (fails_with trusted number old new end) (λ told after. end (outcome.Rotated all) after) (told_of comes))
-        nothing_sent _ controls.committed refl catalog w t log h (or_fails (λ told after. end (outcome.Rotated all) after))
+        (λ comes columns. unless_refused (fails_with trusted number old new end) (λ known after. end (outcome.Rotated all) after) (driver_outcome comes))
+        nothing_sent _ controls.committed refl catalog w t log h (or_fails (λ known after. end (outcome.Rotated all) after))
         (λ w request h accepted after. finishes w request t log columns rows read all h both deeds moved count accepted after)
 
     module _ (columns : List SentColumn) (both : AreBoth catalog old new columns) (empty whole : Deed)
@@ -343,14 +343,14 @@ module _ (stay : ProperTablesStay) (parse : TextsParse) (controls : BeginsCommit
           → t.own.world.catalog ≡ catalog → GoesOn w (replacing trusted number old new end all session.Idle)
       replaces_so rows moved put sealed_rows w t h own =
           statement_goes history old new keys key_for trusted number is_session sound (replaces old new)
-          (λ comes columns. unless_refused (rolling_back trusted number old new end) (λ told after. committing trusted number old new end all after) (told_of comes))
-          nothing_sent _ (parse.replaced old new old_named new_named) refl catalog w t (empty ∷ whole ∷ moved) h own (or_rolls (λ told after. committing trusted number old new end all after))
+          (λ comes columns. unless_refused (rolling_back trusted number old new end) (λ known after. committing trusted number old new end all after) (driver_outcome comes))
+          nothing_sent _ (parse.replaced old new old_named new_named) refl catalog w t (empty ∷ whole ∷ moved) h own (or_rolls (λ known after. committing trusted number old new end all after))
           (λ d encs sent ready e a w described encoded sealed done proper_answer answers h.
           let done : IsDone catalog (replaces old new) [] ready e = subst (λ sent. IsDone catalog (replaces old new) sent ready e) (none_sent keys trusted d.keys sent sealed) done in
           let s = swap_says parse replaced catalog old new old_named new_named both.from both.into both.old_there both.new_there ready e done t.own a answers in
           subst (λ a. OnAnswer keys (Moves history old new keys key_for) (moves_pass history old new keys key_for) trusted number
-          (λ comes columns. unless_refused (rolling_back trusted number old new end) (λ told after. committing trusted number old new end all after) (told_of comes)) w catalog (Ok a)) (sym s.is)
-          (commits_so w (stepped_in t e (counted_step t.own e)) (empty ∷ whole ∷ moved ++ deed e (Ok a) ∷ []) columns rows read all h
+          (λ comes columns. unless_refused (rolling_back trusted number old new end) (λ known after. committing trusted number old new end all after) (driver_outcome comes)) w catalog (Ok a))
+          (sym s.is) (commits_so w (stepped_in t e (counted_step t.own e)) (empty ∷ whole ∷ moved ++ deed e (Ok a) ∷ []) columns rows read all h
           (record {
             from = both.from;
             into = both.into;
@@ -378,9 +378,9 @@ module _ (stay : ProperTablesStay) (parse : TextsParse) (controls : BeginsCommit
           let p = putting catalog new both.into columns row new_named both.columns_named both.new_there
           both.new_columns both.new_proper.apart both.some both.few (All-head (λ (row : List Value). length row ≡ length columns) row rest wide) in
           statement_goes history old new keys key_for trusted number is_session sound (puts new columns row)
-          (λ comes others. unless_refused (rolling_back trusted number old new end) (λ told after. putting_each trusted number old new end columns all rest after) (told_of comes))
+          (λ comes others. unless_refused (rolling_back trusted number old new end) (λ known after. putting_each trusted number old new end columns all rest after) (driver_outcome comes))
           (λ metas encs sent sealed. row_proper keys trusted metas 1 columns row encs sent (both_typed catalog old new columns both) (All-head (All IsProper) row rest proper) sealed)
-          _ p.parses refl catalog w t (empty ∷ whole ∷ moved) h own (or_rolls (λ told after. putting_each trusted number old new end columns all rest after))
+          _ p.parses refl catalog w t (empty ∷ whole ∷ moved) h own (or_rolls (λ known after. putting_each trusted number old new end columns all rest after))
           (λ d encs sent ready e a w described encoded sealed done_so proper_answer answers h.
           let long = All-head (λ (row : List Value). length row ≡ length columns) row rest wide in
           let declares = put_declares keys trusted d.keys catalog new both.into columns row long p d encs sent described encoded sealed in
@@ -388,13 +388,13 @@ module _ (stay : ProperTablesStay) (parse : TextsParse) (controls : BeginsCommit
           let as_sealed = put_sealed keys trusted catalog new both.into columns row long p both.new_columns d encs sent ready e (Ok a) described encoded sealed declares done_so in
           subst (λ a. OnAnswer keys (Moves history old new keys key_for) (moves_pass history old new keys key_for) trusted number
           (λ comes others. unless_refused (rolling_back trusted number old new end)
-          (λ told after. putting_each trusted number old new end columns all rest after) (told_of comes)) w catalog (Ok a)) (sym s.is)
+          (λ known after. putting_each trusted number old new end columns all rest after) (driver_outcome comes)) w catalog (Ok a)) (sym s.is)
           (puts_so (done ++ row ∷ []) rest (moved ++ deed e (Ok a) ∷ []) (puts_more catalog new columns done moved row (deed e (Ok a)) put s.put)
           (sealed_more keys trusted catalog both.into.columns done moved row (deed e (Ok a)) sealed_rows as_sealed) (append_assoc done (row ∷ []) rest ∙ is)
           (All-tail (λ (row : List Value). length row ≡ length columns) row rest wide) (All-tail (All IsProper) row rest proper)
           w (stepped_in t e (counted_step t.own e)) h (work_catalog t.own e s.works ∙ own)))
 
-    compares : (olds news : List ResultColumn) → IsTold catalog old olds → IsTold catalog new news
+    compares : (olds news : List ResultColumn) → IsKnown catalog old olds → IsKnown catalog new news
         → (nothing : Bool) (none : List (List Atom)) (empty : Deed) → IsRead catalog new none empty → (nothing ≡ true → none ≡ [])
         → (read : List (List Atom)) (whole : Deed) → IsRead catalog old read whole → (values : List (List Value))
         → length read ≡ length values → All (λ (row : List Value). length row ≡ length (map sent_column olds)) values
@@ -414,7 +414,7 @@ module _ (stay : ProperTablesStay) (parse : TextsParse) (controls : BeginsCommit
         by true true e f =
             let both = both_alike catalog old new olds news o n e in
             let types : types_of (header catalog olds) ≡ types_for both.from.columns =
-            ap (λ cs. map (λ (c : SentColumn). let t : ColumnType = record { ty = c.ty; enc = c.enc } in t) cs) both.shown ∙ types_told catalog both.from.columns in
+            ap (λ cs. map (λ (c : SentColumn). let t : ColumnType = record { ty = c.ty; enc = c.enc } in t) cs) both.shown ∙ types_known catalog both.from.columns in
             puts_so (map sent_column olds) both empty whole (subst (λ rows. IsRead catalog new rows empty) (nothing_there f) was_empty) read was (length values) count
             values
             (λ deeds sealed fits.
@@ -424,13 +424,13 @@ module _ (stay : ProperTablesStay) (parse : TextsParse) (controls : BeginsCommit
 
     -- a table is read, and what comes after goes on
     module _ (proper : HasProperTables catalog) (name : List ℕ) (named : IsIdentifier name)
-        (G : Accepted → Told → Session → Talk) (w : Walk) (t : Transaction) (log : List Deed) (h : In w catalog t log) (own : t.own.world.catalog ≡ catalog)
-        (on : (columns : List ResultColumn) (rows : List (List Atom)) (d : Deed) → IsTold catalog name columns → IsRead catalog name rows d
+        (G : Accepted → Received → Session → Talk) (w : Walk) (t : Transaction) (log : List Deed) (h : In w catalog t log) (own : t.own.world.catalog ≡ catalog)
+        (on : (columns : List ResultColumn) (rows : List (List Atom)) (d : Deed) → IsKnown catalog name columns → IsRead catalog name rows d
         → (os : List (Option Keys)) (values : List (List Value))
         → let shows = header catalog columns in AreKeysOf keys trusted shows.keys (types_of shows) os → AreRead (types_of shows) os 0 rows values → AreProperRows rows
-        → (w : Walk) (t : Transaction) → In w catalog t (log ++ d ∷ []) → t.own.world.catalog ≡ catalog → GoesOn w (G (Some (map sent_column columns)) (told.Rows values) session.Idle)) where
+        → (w : Walk) (t : Transaction) → In w catalog t (log ++ d ∷ []) → t.own.world.catalog ≡ catalog → GoesOn w (G (Some (map sent_column columns)) (of_driver.Rows values) session.Idle)) where
       abbrev onward : Outcome → Accepted → Session → Talk
-      onward comes columns = unless_refused (rolling_back trusted number old new end) (G columns) (told_of comes)
+      onward comes columns = unless_refused (rolling_back trusted number old new end) (G columns) (driver_outcome comes)
 
       reads_so : GoesOn w (running false trusted number (reads_all name) session.Idle onward)
       reads_so =
@@ -443,7 +443,7 @@ module _ (stay : ProperTablesStay) (parse : TextsParse) (controls : BeginsCommit
           subst (λ a. OnAnswer keys (Moves history old new keys key_for) (moves_pass history old new keys key_for) trusted number onward w catalog (Ok a)) (sym s.is)
           (record {
             stops = stops_moves history old new keys key_for w;
-            read = λ os values opened all. on s.columns s.rows (deed e (Ok a)) s.told s.read os values opened
+            read = λ os values opened all. on s.columns s.rows (deed e (Ok a)) s.known s.read os values opened
                 all shown.values w (stepped_in t e (counted_step t.own e)) h (work_catalog t.own e s.works ∙ own);
             broken = λ shown f. or_rolls (G (Some (map sent_column s.columns))) (outcome.Broken shown (Some f)) (Some (map sent_column s.columns)) w tt;
             failed = λ f. or_rolls (G (Some (map sent_column s.columns))) (outcome.Failed f) (Some (map sent_column s.columns)) w tt;
@@ -454,9 +454,9 @@ module _ (stay : ProperTablesStay) (parse : TextsParse) (controls : BeginsCommit
 
     reads_new : HasProperTables catalog → (w : Walk) (t : Transaction) → In w catalog t [] → t.own.world.catalog ≡ catalog → GoesOn w (reading_new trusted number old new end session.Idle)
     reads_new proper w t h own =
-        reads_so proper new new_named (λ news told after. reading_old trusted number old new end news (is_empty (rows_told told)) after) w t [] h own
+        reads_so proper new new_named (λ news known after. reading_old trusted number old new end news (is_empty (outcome_rows known)) after) w t [] h own
         (λ news none empty n was_empty os values opened all proper_rows w t h own.
-        reads_so proper old old_named (λ olds told after. comparing trusted number old new end (Some (map sent_column news)) (is_empty values) olds (rows_told told) after) w t (empty ∷ []) h own
+        reads_so proper old old_named (λ olds known after. comparing trusted number old new end (Some (map sent_column news)) (is_empty values) olds (outcome_rows known) after) w t (empty ∷ []) h own
         (λ olds read whole o was os_old rows opened_old all_old proper_old w t h own.
         compares olds news o n (is_empty values) none empty was_empty (no_rows (types_of (header catalog news)) os 0 none values all)
         read whole was rows (sym (read_long (types_of (header catalog olds)) os_old 0 read rows all_old))
@@ -468,8 +468,8 @@ module _ (stay : ProperTablesStay) (parse : TextsParse) (controls : BeginsCommit
   pub rotation_moves : (w : Walk) → Stands history old new keys key_for trusted number is_session sound w → GoesOn w (rotation trusted number old new)
   rotation_moves w s =
       begin_goes history old new keys key_for trusted number is_session sound begins
-      (λ comes columns. unless_refused (fails_with trusted number old new end) (λ told after. reading_new trusted number old new end after) (told_of comes))
-      nothing_sent _ controls.begun refl w s (or_fails (λ told after. reading_new trusted number old new end after))
+      (λ comes columns. unless_refused (fails_with trusted number old new end) (λ known after. reading_new trusted number old new end after) (driver_outcome comes))
+      nothing_sent _ controls.begun refl w s (or_fails (λ known after. reading_new trusted number old new end after))
       (λ requests w h.
       let shared = (state_of requests).shared in
       reads_new shared.world.catalog (tidy_all stay keys trusted number is_session.0 empty_state requests (All-nil IsProperTable, nothing_seen)).0 w (begun_over shared) h refl)

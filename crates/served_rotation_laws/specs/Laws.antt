@@ -19,7 +19,7 @@ use Rattle.served_rotation_laws.specs.Beside.{all_asked, others_asked, rotated_b
 use Rattle.plaintext_laws.specs.Alike.{Fits}
 use Rattle.served_rotation_laws.specs.Moved.{AreMoved}
 
--- the state of a server behind some requests
+-- the state of a server after some requests
 abbrev pub behind : State → List Request → State
 behind state requests = (serve_all state requests).1
 
@@ -36,7 +36,7 @@ RotationsTellOneOutcome = (keys : KeyMap) (trusted : List (List ℕ)) (number : 
     → let start : Beside = record { state = behind empty_state history; between = between } in
     length (rotated_beside keys trusted number old new entropy start).outcomes ≤ 1
 
--- and it is finished; or, because it failed, or because it was stopped for want of random bytes or by a reply that wasn't awaited, the shared world
+-- and it is finished; or, because it failed, or because it was stopped for want of random bytes or by a reply that wasn't expected, the shared world
 -- is what the others' requests alone give, whatever they request then
 abbrev pub UnfinishedLeavesNoTrace : Type 0
 UnfinishedLeavesNoTrace = (keys : KeyMap) (trusted : List (List ℕ)) (number : ℕ) (old new : List ℕ) (entropy : List ℕ)
@@ -77,7 +77,7 @@ pub record IsWhole (key_for : ℕ → List ℕ) (old new : List ℕ) (start : Be
 
 -- all values that a column key's number has in the shared worlds from the first of some requests to the last, and that open, give one key
 abbrev pub FitMeanwhile : KeyMap → (ℕ → List ℕ) → State → List Request → Type 0
-FitMeanwhile keys key_for state requests = (front back : List Request) → requests ≡ front ++ back → Fits keys key_for (behind state front).shared.world.catalog
+FitMeanwhile keys key_for state requests = (prefix back : List Request) → requests ≡ prefix ++ back → Fits keys key_for (behind state prefix).shared.world.catalog
 
 -- whatever was requested before, and whatever other sessions request between any two requests of the rotation: where it is finished, the table was
 -- moved whole

@@ -14,7 +14,7 @@ use transactions::laws::rotations_are_whole;
 use value_norm::{norm_is_bounded, value_of_is_the_one};
 
 /// Whatever was requested of a server before, and whatever other sessions request between any two
-/// requests of a rotation: it comes to one outcome at most.
+/// requests of a rotation: it has at most one outcome.
 pub fn rotations_tell_one_outcome()
     ensures { RotationsTellOneOutcome }
 {
@@ -51,10 +51,10 @@ pub fn asking_rotations_leave_no_trace()
 
 /// Whatever was requested of a server before, and whatever other sessions request between any two
 /// requests of a rotation: where the rotation is finished, the last request was its COMMIT, at
-/// which the old table got the rows that were put, as many as were read of it, under the new
-/// table's columns, and every other table kept its rows. Value for value the rows that were put
-/// mean what those that were read do, where all values that a column key has meanwhile, and that
-/// open, give one key.
+/// which the old table got the rows that were inserted, as many as were read of it, under the new
+/// table's columns, and every other table kept its rows. Value for value the inserted rows mean
+/// what the rows read do, if all values that a column key has meanwhile, and that open, give one
+/// key.
 pub fn finished_rotations_are_whole()
     ensures { FinishedIsWhole }
 {

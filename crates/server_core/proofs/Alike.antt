@@ -50,21 +50,21 @@ use Rattle.wire_messages.specs.declared.replies.Reply.{Reply}
 use Rattle.wire_messages.specs.declared.replies.Reply.TheVariants.{Row, Ended, Refused}
 use Rattle.wire_messages.specs.declared.requests.Request.{Request}
 use Rattle.wire_messages.specs.declared.requests.Request.TheVariants.{Describe, Execute}
-use Rattle.statement_analysis.specs.Describing.{Meant, understood, describe}
-use Rattle.statement_analysis.specs.Params.{declaration_of, is_of, is_shaped, suited_atom, suited}
-use Rattle.statement_analysis.specs.Understood.{IsUnderstood}
+use Rattle.statement_analysis.specs.Describing.{Analysis, analyzed, describe}
+use Rattle.statement_analysis.specs.Params.{declaration_of, is_of, is_shaped, checked_atom, checked_params}
+use Rattle.statement_analysis.specs.Analyzed.{IsAnalyzed}
 use Rattle.server_core.specs.Calls.{Serves}
 use Rattle.server_core.specs.Correspond.{CellsPaired, SentAtomsCorrespond, ParamsCorrespond, RequestsCorrespond, class_of_sent, RepliesCorrespond, StatesCorrespond, IsServedAlike}
 use Rattle.server_core.specs.Laws.{RequestsAreServedAlike, ServedAlike}
-use Rattle.server_core.specs.Serve.{State, empty_state, refused, sent_column, replies_of, answered, described, understood_at, prepared, ask_of, catalog_of, stepped, executed, serve, serve_all}
+use Rattle.server_core.specs.Serve.{State, empty_state, refused, sent_column, replies_of, answered, described, analyzed_at, prepared, ask_of, catalog_of, stepped, executed, serve, serve_all}
 use Rattle.server_core.specs.States.{is_short, IsState}
-use Rattle.server_core.specs.Understood.{IsReady}
+use Rattle.server_core.specs.Analyzed.{IsReady}
 use Rattle.server_core.proofs.Beginning.{empty_is_state}
 use Rattle.server_core.proofs.Cells.{call_leaves}
 use Rattle.server_core.proofs.Readiness.{bound_on, is_ready, sent_count}
 use Rattle.server_core.proofs.Serial.{answered_after}
-use Rattle.server_core.proofs.Suiting.{is_suited}
-use Rattle.server_core.proofs.Understanding.{is_understood}
+use Rattle.server_core.proofs.Suiting.{is_checked}
+use Rattle.server_core.proofs.Analyzing.{is_analyzed}
 
 -- the laws of the crates below
 pub record Laws : Type 0 where
@@ -114,14 +114,14 @@ module _ (R : Pairing) where
   answers_correspond catalog classes (Err f) (Ok y) h = absurd h
 
   -- and so do the replies that are served for them
-  pub answers_told : (catalog : Catalog) (new now : State) (classes : List Class) (x y : Result Answer SqlFault)
+  pub answers_described : (catalog : Catalog) (new now : State) (classes : List Class) (x y : Result Answer SqlFault)
       → BothAnswer (AnswersCorrespond R) x y → RepliesCorrespond R classes (answered catalog x new).replies (answered catalog y now).replies
-  answers_told catalog new now classes (Ok x) (Ok y) h = answers_correspond catalog classes (Ok x) (Ok y) h
-  answers_told catalog new now classes (Err f) (Err g) h = rw h (refl, tt)
-  answers_told catalog new now classes (Ok x) (Err g) h = absurd h
-  answers_told catalog new now classes (Err f) (Ok y) h = absurd h
+  answers_described catalog new now classes (Ok x) (Ok y) h = answers_correspond catalog classes (Ok x) (Ok y) h
+  answers_described catalog new now classes (Err f) (Err g) h = rw h (refl, tt)
+  answers_described catalog new now classes (Ok x) (Err g) h = absurd h
+  answers_described catalog new now classes (Err f) (Ok y) h = absurd h
 
-  -- one list of replies after another, whatever columns were told
+  -- one list of replies after another, whatever columns were described
   replies_append : (classes : List Class) (xs us ys vs : List Reply) → RepliesCorrespond R classes xs ys
       → ((others : List Class) → RepliesCorrespond R others us vs) → RepliesCorrespond R classes (xs ++ us) (ys ++ vs)
   replies_append classes [] us [] vs h k = k classes
@@ -202,32 +202,32 @@ module _ (R : Pairing) (cells : PairsCells R) where
   tested e p b h true false shaped s o = refl
   tested e p b h false of shaped s o = refl
 
-  suited_like : (e : Enc) (p : SentParam) (b : Atom) → SentAtomsCorrespond R (class_of p.ty p.enc) p.atom b
-      → BothAnswer (Correspond R (class_of p.ty e)) (suited_atom e p) (suited_atom e (with_atom p b))
-  suited_like e p b h =
+  checked_like : (e : Enc) (p : SentParam) (b : Atom) → SentAtomsCorrespond R (class_of p.ty p.enc) p.atom b
+      → BothAnswer (Correspond R (class_of p.ty e)) (checked_atom e p) (checked_atom e (with_atom p b))
+  checked_like e p b h =
       let like = sent_like (class_of p.ty p.enc) p.atom b h in
       let o = like_of e p.ty p.atom b like in
       let s = like_shaped p.ty p.atom b like in
       rw (o, s) (tested e p b h (enc_eq p.enc e) (is_of e p.ty p.atom) (is_shaped p.ty p.atom) refl refl)
 
-  suited_one : (e : Enc) (p q : SentParam) → ParamsCorrespond R p q → BothAnswer (Correspond R (class_of p.ty e)) (suited_atom e p) (suited_atom e q)
-  suited_one e p q h = subst (λ x. BothAnswer (Correspond R (class_of p.ty e)) (suited_atom e p) (suited_atom e x)) (sym h.0) (suited_like e p q.atom h.1)
+  checked_one : (e : Enc) (p q : SentParam) → ParamsCorrespond R p q → BothAnswer (Correspond R (class_of p.ty e)) (checked_atom e p) (checked_atom e q)
+  checked_one e p q h = subst (λ x. BothAnswer (Correspond R (class_of p.ty e)) (checked_atom e p) (checked_atom e x)) (sym h.0) (checked_like e p q.atom h.1)
 
-  suited_alike : (es : List Enc) (ps qs : List SentParam) → length es ≡ length ps → AllZip (ParamsCorrespond R) ps qs
-      → BothAnswer (RowsCorrespond R (param_classes (tys_of ps) es)) (suited es ps) (suited es qs)
-  suited_alike es [] [] n h = tt
-  suited_alike es [] (q ∷ qs) n h = absurd h
-  suited_alike es (p ∷ ps) [] n h = absurd h
-  suited_alike [] (p ∷ ps) (q ∷ qs) n h = absurd (omega (arith, n))
-  suited_alike (e ∷ es) (p ∷ ps) (q ∷ qs) n h =
+  checked_alike : (es : List Enc) (ps qs : List SentParam) → length es ≡ length ps → AllZip (ParamsCorrespond R) ps qs
+      → BothAnswer (RowsCorrespond R (param_classes (tys_of ps) es)) (checked_params es ps) (checked_params es qs)
+  checked_alike es [] [] n h = tt
+  checked_alike es [] (q ∷ qs) n h = absurd h
+  checked_alike es (p ∷ ps) [] n h = absurd h
+  checked_alike [] (p ∷ ps) (q ∷ qs) n h = absurd (omega (arith, n))
+  checked_alike (e ∷ es) (p ∷ ps) (q ∷ qs) n h =
       let m : length es ≡ length ps = omega (arith, n) in
       let C = class_of p.ty e in
       let Cs = param_classes (tys_of ps) es in
-      both_then (Correspond R C) (RowsCorrespond R (C ∷ Cs)) (suited_atom e p) (suited_atom e q)
-      (λ atom. suited es ps >>= λ atoms. Ok (atom ∷ atoms)) (λ atom. suited es qs >>= λ atoms. Ok (atom ∷ atoms))
-      (suited_one e p q h.0)
-      (λ a b k. both_then (RowsCorrespond R Cs) (RowsCorrespond R (C ∷ Cs)) (suited es ps) (suited es qs)
-      (λ atoms. Ok (a ∷ atoms)) (λ atoms. Ok (b ∷ atoms)) (suited_alike es ps qs m h.1) (λ xs ys l. (k, l)))
+      both_then (Correspond R C) (RowsCorrespond R (C ∷ Cs)) (checked_atom e p) (checked_atom e q)
+      (λ atom. checked_params es ps >>= λ atoms. Ok (atom ∷ atoms)) (λ atom. checked_params es qs >>= λ atoms. Ok (atom ∷ atoms))
+      (checked_one e p q h.0)
+      (λ a b k. both_then (RowsCorrespond R Cs) (RowsCorrespond R (C ∷ Cs)) (checked_params es ps) (checked_params es qs)
+      (λ atoms. Ok (a ∷ atoms)) (λ atoms. Ok (b ∷ atoms)) (checked_alike es ps qs m h.1) (λ xs ys l. (k, l)))
 
   declared_alike : (ps qs : List SentParam) → AllZip (ParamsCorrespond R) ps qs → map declaration_of qs ≡ map declaration_of ps
   declared_alike [] [] h = refl
@@ -245,26 +245,26 @@ all_sent : (ps : List SentParam) → All IsSent ps → AreSendable ps
 all_sent [] a = tt
 all_sent (p ∷ ps) a = ((All-head IsSent p ps a).atom.1, all_sent ps (All-tail IsSent p ps a))
 
-atoms_sendable : (es : List Enc) (ps : List SentParam) (atoms : List Atom) → suited es ps ≡ Ok atoms → AreSendable ps → All IsSendable atoms
+atoms_sendable : (es : List Enc) (ps : List SentParam) (atoms : List Atom) → checked_params es ps ≡ Ok atoms → AreSendable ps → All IsSendable atoms
 atoms_sendable es [] atoms e s = let n : [] ≡ atoms = cc in subst (All IsSendable) n (All-nil IsSendable)
 atoms_sendable [] (p ∷ ps) atoms e s = let n : [] ≡ atoms = cc in subst (All IsSendable) n (All-nil IsSendable)
 atoms_sendable (e ∷ es) (p ∷ ps) atoms h s =
-    let c = came_before (suited_atom e p) (suited es ps) atoms h in
-    let first = is_suited e p c.first c.is in
+    let c = came_before (checked_atom e p) (checked_params es ps) atoms h in
+    let first = is_checked e p c.first c.is in
     subst (All IsSendable) (sym c.all) (All-cons IsSendable c.first c.others (subst IsSendable (sym first.is) s.0) (atoms_sendable es ps c.others c.then s.1))
 
 tys_declared : (ps : List SentParam) → map type_of (map declaration_of ps) ≡ tys_of ps
 tys_declared [] = refl
 tys_declared (p ∷ ps) = ap (λ ts. p.ty ∷ ts) (tys_declared ps)
 
-at_version : (same : Bool) (r : Result Meant SqlFault) (f : SqlFault) (meant : Meant) → (if same then r else Err f) ≡ Ok meant → r ≡ Ok meant
-at_version true r f meant e = e
-at_version false r f meant e = absurd cc
+at_version : (same : Bool) (r : Result Analysis SqlFault) (f : SqlFault) (analysis : Analysis) → (if same then r else Err f) ≡ Ok analysis → r ≡ Ok analysis
+at_version true r f analysis e = e
+at_version false r f analysis e = absurd cc
 
 -- ---- serving
 
-abbrev made_ready : Meant → List Atom → Result (Meant × List Atom) SqlFault
-made_ready meant atoms = Ok (meant, atoms)
+abbrev made_ready : Analysis → List Atom → Result (Analysis × List Atom) SqlFault
+made_ready analysis atoms = Ok (analysis, atoms)
 
 module _ (R : Pairing) (r : IsOneToOne R) (cells : PairsCells R) (within : ArePairsWithin R) (laws : Laws) where
   sendable_alike : (ps qs : List SentParam) → AllZip (ParamsCorrespond R) ps qs → AreSendable ps → AreSendable qs
@@ -273,7 +273,7 @@ module _ (R : Pairing) (r : IsOneToOne R) (cells : PairsCells R) (within : ArePa
   sendable_alike (p ∷ ps) [] h s = absurd h
   sendable_alike (p ∷ ps) (q ∷ qs) h s = (like_sendable p.atom q.atom (sent_like R cells (class_of p.ty p.enc) p.atom q.atom h.0.1) s.0, sendable_alike ps qs h.1 s.1)
 
-  -- whatever columns were told before
+  -- whatever columns were described before
   pub record Alike (served other : Served State) : Type 0 where
     pub replies : (classes : List Class) → RepliesCorrespond R classes served.replies other.replies
     pub states : StatesCorrespond R served.after other.after
@@ -288,85 +288,87 @@ module _ (R : Pairing) (r : IsOneToOne R) (cells : PairsCells R) (within : ArePa
   answered_alike : (catalog : Catalog) (new now : State) (x y : Result Answer SqlFault) → StatesCorrespond R new now
       → BothAnswer (AnswersCorrespond R) x y → Alike (answered catalog x new) (answered catalog y now)
   answered_alike catalog new now x y next h = record {
-    replies = λ classes. answers_told R catalog new now classes x y h;
+    replies = λ classes. answers_described R catalog new now classes x y h;
     states = subst (λ s. StatesCorrespond R s (answered catalog y now).after) (sym (answered_after catalog x new)) (subst (λ t. StatesCorrespond R new t) (sym (answered_after catalog y now)) next);
   }
 
   -- what is ready may be asked
-  may_ask : (catalog : Catalog) (world : World) (declarations : List ParamDecl) (meant : Meant) (atoms : List Atom)
-      → world.catalog ≡ catalog → IsReady catalog declarations meant atoms → MayAsk is_short world (ask_of (meant, atoms))
+  may_ask : (catalog : Catalog) (world : World) (declarations : List ParamDecl) (analysis : Analysis) (atoms : List Atom)
+      → world.catalog ≡ catalog → IsReady catalog declarations analysis atoms → MayAsk is_short world (ask_of (analysis, atoms))
   unfolding IsReady
-  may_ask catalog world declarations meant atoms e ready =
-      let on = bound_on catalog declarations meant atoms laws.typings ready in
-      asking.may_ask is_short world meant.bound.statement (execution meant.bound meant.encs atoms) (record {
-        bound = subst (λ c. IsBoundOn c meant.bound meant.encs atoms) (sym e) on;
-        typed = laws.admitted meant.bound meant.encs on.placed ready.understood.typed;
+  may_ask catalog world declarations analysis atoms e ready =
+      let on = bound_on catalog declarations analysis atoms laws.typings ready in
+      asking.may_ask is_short world analysis.bound.statement (execution analysis.bound analysis.encs atoms) (record {
+        bound = subst (λ c. IsBoundOn c analysis.bound analysis.encs atoms) (sym e) on;
+        typed = laws.admitted analysis.bound analysis.encs on.placed ready.analyzed.typed;
         values = ready.values;
       })
 
-  asks_alike : (meant : Meant) (atoms more : List Atom) → RowsCorrespond R (param_classes meant.bound.params meant.encs) atoms more → AsksCorrespond R (ask_of (meant, atoms)) (ask_of (meant, more))
-  asks_alike meant atoms more pairs =
-      asking.asks_alike R meant.bound.statement (execution meant.bound meant.encs atoms) (execution meant.bound meant.encs more) (record { bound = refl; encs = refl; params = pairs })
+  asks_alike : (analysis : Analysis) (atoms more : List Atom) → RowsCorrespond R (param_classes analysis.bound.params analysis.encs) atoms more
+      → AsksCorrespond R (ask_of (analysis, atoms)) (ask_of (analysis, more))
+  asks_alike analysis atoms more pairs =
+      asking.asks_alike R analysis.bound.statement (execution analysis.bound analysis.encs atoms) (execution analysis.bound analysis.encs more) (record { bound = refl; encs = refl; params = pairs })
 
-  ready_leaves : (state : State) (n : ℕ) (meant : Meant) (declarations : List ParamDecl) (atoms : List Atom) → IsState state → IsReady (catalog_of state n) declarations meant atoms
-      → MayAsk is_short (world_of state n).world (ask_of (meant, atoms)) → IsState (transact state n (ask_of (meant, atoms))).after
+  ready_leaves : (state : State) (n : ℕ) (analysis : Analysis) (declarations : List ParamDecl) (atoms : List Atom) → IsState state → IsReady (catalog_of state n) declarations analysis atoms
+      → MayAsk is_short (world_of state n).world (ask_of (analysis, atoms)) → IsState (transact state n (ask_of (analysis, atoms))).after
   unfolding IsReady
-  ready_leaves state n meant declarations atoms s ready may =
-      call_leaves state n meant.bound meant.encs atoms (laws.typings meant.bound meant.encs ready.understood.typed).0 ready.values ready.cells s may
+  ready_leaves state n analysis declarations atoms s ready may =
+      call_leaves state n analysis.bound analysis.encs atoms (laws.typings analysis.bound analysis.encs ready.analyzed.typed).0 ready.values ready.cells s may
 
-  stepped_alike : (w v : State) (n : ℕ) (meant : Meant) (declarations others : List ParamDecl) (atoms more : List Atom)
-      → StatesCorrespond R w v → IsReady (catalog_of w n) declarations meant atoms → IsReady (catalog_of v n) others meant more
-      → RowsCorrespond R (param_classes meant.bound.params meant.encs) atoms more → Alike (stepped w n (meant, atoms)) (stepped v n (meant, more))
-  stepped_alike w v n meant declarations others atoms more st left right pairs =
-      let may = may_ask (catalog_of w n) (world_of w n).world declarations meant atoms refl left in
-      let may_other = may_ask (catalog_of v n) (world_of v n).world others meant more refl right in
-      let sim = transact_alike R r within is_short w v n (ask_of (meant, atoms)) (ask_of (meant, more)) st.left.store st.stores (asks_alike meant atoms more pairs) may in
-      let did = transact w n (ask_of (meant, atoms)) in
-      let other = transact v n (ask_of (meant, more)) in
+  stepped_alike : (w v : State) (n : ℕ) (analysis : Analysis) (declarations others : List ParamDecl) (atoms more : List Atom)
+      → StatesCorrespond R w v → IsReady (catalog_of w n) declarations analysis atoms → IsReady (catalog_of v n) others analysis more
+      → RowsCorrespond R (param_classes analysis.bound.params analysis.encs) atoms more → Alike (stepped w n (analysis, atoms)) (stepped v n (analysis, more))
+  stepped_alike w v n analysis declarations others atoms more st left right pairs =
+      let may = may_ask (catalog_of w n) (world_of w n).world declarations analysis atoms refl left in
+      let may_other = may_ask (catalog_of v n) (world_of v n).world others analysis more refl right in
+      let sim = transact_alike R r within is_short w v n (ask_of (analysis, atoms)) (ask_of (analysis, more)) st.left.store st.stores (asks_alike analysis atoms more pairs) may in
+      let did = transact w n (ask_of (analysis, atoms)) in
+      let other = transact v n (ask_of (analysis, more)) in
       let c : catalog_of v n ≡ catalog_of w n = (seen_alike R w v n st.stores).worlds.catalog in
-      subst (λ k. Alike (stepped w n (meant, atoms)) (answered k other.answer other.after)) (sym c)
+      subst (λ k. Alike (stepped w n (analysis, atoms)) (answered k other.answer other.after)) (sym c)
       (answered_alike (catalog_of w n) did.after other.after did.answer other.answer
-      (record { left = ready_leaves w n meant declarations atoms st.left left may; right = ready_leaves v n meant others more st.right right may_other; stores = sim.stores })
+      (record { left = ready_leaves w n analysis declarations atoms st.left left may; right = ready_leaves v n analysis others more st.right right may_other; stores = sim.stores })
       sim.answers)
 
   module _ (w v : State) (n : ℕ) (st : StatesCorrespond R w v) (text : List ℕ) (ps qs : List SentParam) (short : AreSendable ps) (h : AllZip (ParamsCorrespond R) ps qs) where
-    by_atoms : (meant : Meant) → IsUnderstood (catalog_of w n) (map declaration_of ps) meant → (x y : Result (List Atom) SqlFault) → suited meant.encs ps ≡ x → suited meant.encs qs ≡ y
-        → BothAnswer (RowsCorrespond R (param_classes meant.bound.params meant.encs)) x y → Alike (executed w n (x >>= made_ready meant)) (executed v n (y >>= made_ready meant))
-    by_atoms meant u (Ok atoms) (Ok more) e f m =
+    by_atoms : (analysis : Analysis) → IsAnalyzed (catalog_of w n) (map declaration_of ps) analysis → (x y : Result (List Atom) SqlFault) → checked_params analysis.encs ps ≡ x
+        → checked_params analysis.encs qs ≡ y
+        → BothAnswer (RowsCorrespond R (param_classes analysis.bound.params analysis.encs)) x y → Alike (executed w n (x >>= made_ready analysis)) (executed v n (y >>= made_ready analysis))
+    by_atoms analysis u (Ok atoms) (Ok more) e f m =
         let same = declared_alike R cells ps qs h in
-        let other : IsUnderstood (catalog_of v n) (map declaration_of qs) meant = subst
-        (λ c. IsUnderstood c (map declaration_of qs) meant) (sym (seen_alike R w v n st.stores).worlds.catalog) (subst (λ ds. IsUnderstood (catalog_of w n) ds meant) (sym same) u) in
-        stepped_alike w v n meant (map declaration_of ps) (map declaration_of qs) atoms more st
-        (is_ready (catalog_of w n) ps meant atoms laws.typings u e (atoms_sendable meant.encs ps atoms e short))
-        (is_ready (catalog_of v n) qs meant more laws.typings other f (atoms_sendable meant.encs qs more f (sendable_alike ps qs h short))) m
-    by_atoms meant u (Err f) (Err g) e k m = subst (λ x. Alike (refused w f) (refused v x)) (sym m) (refused_alike w v f st)
-    by_atoms meant u (Ok atoms) (Err g) e f m = absurd m
-    by_atoms meant u (Err f) (Ok more) e g m = absurd m
+        let other : IsAnalyzed (catalog_of v n) (map declaration_of qs) analysis = subst
+        (λ c. IsAnalyzed c (map declaration_of qs) analysis) (sym (seen_alike R w v n st.stores).worlds.catalog) (subst (λ ds. IsAnalyzed (catalog_of w n) ds analysis) (sym same) u) in
+        stepped_alike w v n analysis (map declaration_of ps) (map declaration_of qs) atoms more st
+        (is_ready (catalog_of w n) ps analysis atoms laws.typings u e (atoms_sendable analysis.encs ps atoms e short))
+        (is_ready (catalog_of v n) qs analysis more laws.typings other f (atoms_sendable analysis.encs qs more f (sendable_alike ps qs h short))) m
+    by_atoms analysis u (Err f) (Err g) e k m = subst (λ x. Alike (refused w f) (refused v x)) (sym m) (refused_alike w v f st)
+    by_atoms analysis u (Ok atoms) (Err g) e f m = absurd m
+    by_atoms analysis u (Err f) (Ok more) e g m = absurd m
 
-    of_meaning : (meant : Meant) → IsUnderstood (catalog_of w n) (map declaration_of ps) meant
-        → Alike (executed w n (suited meant.encs ps >>= made_ready meant)) (executed v n (suited meant.encs qs >>= made_ready meant))
-    unfolding IsUnderstood
-    of_meaning meant u =
-        let tys : meant.bound.params ≡ tys_of ps = u.bound.params ∙ tys_declared ps in
-        by_atoms meant u (suited meant.encs ps) (suited meant.encs qs) refl refl
-        (subst (λ ts. BothAnswer (RowsCorrespond R (param_classes ts meant.encs)) (suited meant.encs ps) (suited meant.encs qs)) (sym tys)
-        (suited_alike R cells meant.encs ps qs (sent_count (catalog_of w n) ps meant laws.typings u) h))
+    of_meaning : (analysis : Analysis) → IsAnalyzed (catalog_of w n) (map declaration_of ps) analysis
+        → Alike (executed w n (checked_params analysis.encs ps >>= made_ready analysis)) (executed v n (checked_params analysis.encs qs >>= made_ready analysis))
+    unfolding IsAnalyzed
+    of_meaning analysis u =
+        let tys : analysis.bound.params ≡ tys_of ps = u.bound.params ∙ tys_declared ps in
+        by_atoms analysis u (checked_params analysis.encs ps) (checked_params analysis.encs qs) refl refl
+        (subst (λ ts. BothAnswer (RowsCorrespond R (param_classes ts analysis.encs)) (checked_params analysis.encs ps) (checked_params analysis.encs qs)) (sym tys)
+        (checked_alike R cells analysis.encs ps qs (sent_count (catalog_of w n) ps analysis laws.typings u) h))
 
-    by_meaning : (x : Result Meant SqlFault) → ((meant : Meant) → x ≡ Ok meant → IsUnderstood (catalog_of w n) (map declaration_of ps) meant)
-        → Alike (executed w n (x >>= λ meant. suited meant.encs ps >>= made_ready meant)) (executed v n (x >>= λ meant. suited meant.encs qs >>= made_ready meant))
+    by_meaning : (x : Result Analysis SqlFault) → ((analysis : Analysis) → x ≡ Ok analysis → IsAnalyzed (catalog_of w n) (map declaration_of ps) analysis)
+        → Alike (executed w n (x >>= λ analysis. checked_params analysis.encs ps >>= made_ready analysis)) (executed v n (x >>= λ analysis. checked_params analysis.encs qs >>= made_ready analysis))
     by_meaning (Err f) k = refused_alike w v f st
-    by_meaning (Ok meant) k = of_meaning meant (k meant refl)
+    by_meaning (Ok analysis) k = of_meaning analysis (k analysis refl)
 
     executed_alike : (version : ℕ) → Alike (executed w n (prepared (catalog_of w n) version text ps)) (executed v n (prepared (catalog_of v n) version text qs))
     executed_alike version =
         let c = catalog_of w n in
-        let other : understood_at (catalog_of v n) version text qs ≡ understood_at c version text ps =
-        ap (λ k. understood_at k version text qs) (seen_alike R w v n st.stores).worlds.catalog
-        ∙ ap (λ ds. if version == c.version then understood c text ds else Err (fault.Moved (record { seen = version; now = c.version }))) (declared_alike R cells ps qs h) in
-        subst (λ x. Alike (executed w n (prepared c version text ps)) (executed v n (x >>= λ meant. suited meant.encs qs >>= made_ready meant))) (sym other)
-        (by_meaning (understood_at c version text ps)
-        (λ meant e. is_understood laws.bound c text (map declaration_of ps) meant
-        (at_version (version == c.version) (understood c text (map declaration_of ps)) (fault.Moved (record { seen = version; now = c.version })) meant e)))
+        let other : analyzed_at (catalog_of v n) version text qs ≡ analyzed_at c version text ps =
+        ap (λ k. analyzed_at k version text qs) (seen_alike R w v n st.stores).worlds.catalog
+        ∙ ap (λ ds. if version == c.version then analyzed c text ds else Err (fault.Moved (record { seen = version; now = c.version }))) (declared_alike R cells ps qs h) in
+        subst (λ x. Alike (executed w n (prepared c version text ps)) (executed v n (x >>= λ analysis. checked_params analysis.encs qs >>= made_ready analysis))) (sym other)
+        (by_meaning (analyzed_at c version text ps)
+        (λ analysis e. is_analyzed laws.bound c text (map declaration_of ps) analysis
+        (at_version (version == c.version) (analyzed c text (map declaration_of ps)) (fault.Moved (record { seen = version; now = c.version })) analysis e)))
 
   pub serves_alike : (w v : State) → StatesCorrespond R w v → (request second : Request) → IsRequest request → RequestsCorrespond R request second → Alike (serve w request) (serve v second)
   serves_alike w v st (Describe session text declarations) second m h =

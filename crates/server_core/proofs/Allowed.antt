@@ -26,17 +26,17 @@ use Rattle.transactions.proofs.Interface as asking
 use Rattle.wire_messages.specs.declared.params.SentParam.{SentParam}
 use Rattle.wire_messages.specs.declared.requests.Request.{Request}
 use Rattle.wire_messages.specs.declared.requests.Request.TheVariants.{Describe, Execute}
-use Rattle.statement_analysis.specs.Describing.{Meant, understood}
-use Rattle.statement_analysis.specs.Params.{declaration_of, is_of, suited_atom, suited}
-use Rattle.statement_analysis.specs.Understood.{IsUnderstood}
+use Rattle.statement_analysis.specs.Describing.{Analysis, analyzed}
+use Rattle.statement_analysis.specs.Params.{declaration_of, is_of, checked_atom, checked_params}
+use Rattle.statement_analysis.specs.Analyzed.{IsAnalyzed}
 use Rattle.server_core.specs.Laws.{MayBeAsked, RequestsMayBeAsked}
-use Rattle.server_core.specs.Serve.{State, ask_of, asked, called, calls_of, catalog_of, serve, understood_at}
+use Rattle.server_core.specs.Serve.{State, ask_of, asked, called, calls_of, catalog_of, serve, analyzed_at}
 use Rattle.server_core.specs.States.{any_cell}
 use Rattle.server_core.proofs.Readiness.{sent_count}
 use Rattle.server_core.proofs.Serial.{after_one}
-use Rattle.server_core.proofs.Suiting.{is_suited}
+use Rattle.server_core.proofs.Suiting.{is_checked}
 use Rattle.engine.proofs.Interface.{within_is}
-use Rattle.server_core.proofs.Understanding.{is_understood}
+use Rattle.server_core.proofs.Analyzing.{is_analyzed}
 
 any_atom : (e : Enc) (t : Ty) (a : Atom) → is_of e t a ≡ true → IsAtomOf any_cell t e a
 any_atom enc.Plain t Null h = tt
@@ -49,24 +49,24 @@ any_atom (enc.Rnd key) t Null h = tt
 any_atom (enc.Rnd key) t (Plain d) h = absurd (false≢true h)
 any_atom (enc.Rnd key) t (Sealed cell) h = (tt, refl)
 
-record AreSuited (encs : List Enc) (params : List SentParam) (atoms : List Atom) : Type 0 where
+record AreChecked (encs : List Enc) (params : List SentParam) (atoms : List Atom) : Type 0 where
   count : length atoms ≡ length params
   values : AreValuesOf any_cell (map type_of (map declaration_of params)) encs atoms
 
-are_suited : (encs : List Enc) (params : List SentParam) (atoms : List Atom) → suited encs params ≡ Ok atoms → length encs ≡ length params → AreSuited encs params atoms
-are_suited encs [] atoms h n = let e : [] ≡ atoms = cc in subst (λ items. AreSuited encs [] items) e (record { count = refl; values = tt })
-are_suited [] (p ∷ params) atoms h n = absurd (omega arith)
-are_suited (e ∷ encs) (p ∷ params) atoms h n =
-    let c = came_before (suited_atom e p) (suited encs params) atoms h in
+are_checked : (encs : List Enc) (params : List SentParam) (atoms : List Atom) → checked_params encs params ≡ Ok atoms → length encs ≡ length params → AreChecked encs params atoms
+are_checked encs [] atoms h n = let e : [] ≡ atoms = cc in subst (λ items. AreChecked encs [] items) e (record { count = refl; values = tt })
+are_checked [] (p ∷ params) atoms h n = absurd (omega arith)
+are_checked (e ∷ encs) (p ∷ params) atoms h n =
+    let c = came_before (checked_atom e p) (checked_params encs params) atoms h in
     let m : length encs ≡ length params = omega arith in
-    let rest = are_suited encs params c.others c.then m in
-    let first = is_suited e p c.first c.is in
-    subst (λ items. AreSuited (e ∷ encs) (p ∷ params) items) (sym c.all)
+    let rest = are_checked encs params c.others c.then m in
+    let first = is_checked e p c.first c.is in
+    subst (λ items. AreChecked (e ∷ encs) (p ∷ params) items) (sym c.all)
     (record { count = ap suc rest.count; values = (subst (IsAtomOf any_cell p.ty e) (sym first.is) (any_atom e p.ty p.atom first.of), rest.values) })
 
-at_version : (same : Bool) (r : Result Meant SqlFault) (f : SqlFault) (meant : Meant) → (if same then r else Err f) ≡ Ok meant → r ≡ Ok meant
-at_version true r f meant e = e
-at_version false r f meant e = absurd cc
+at_version : (same : Bool) (r : Result Analysis SqlFault) (f : SqlFault) (analysis : Analysis) → (if same then r else Err f) ≡ Ok analysis → r ≡ Ok analysis
+at_version true r f analysis e = e
+at_version false r f analysis e = absurd cc
 
 -- the calls may be asked, and leave a state that can stand
 record Goes (state : State) (calls : List Call) : Type 0 where
@@ -78,44 +78,44 @@ allowed_more state [] more h k = k
 allowed_more state (call ∷ calls) more h k = (h.0, allowed_more (transact state call.session call.ask).after calls more h.1 k)
 
 module _ (bound : BoundStatementsAre) (typings : TypingsAreOfColumns) (admitted : TypedStatementsAreAdmitted) (keeps : TransactionsKeepStores) where
-  ready_allowed : (state : State) (session : ℕ) (params : List SentParam) (meant : Meant) (atoms : List Atom) → IsUnderstood (catalog_of state session) (map declaration_of params) meant
-      → suited meant.encs params ≡ Ok atoms → MayAsk any_cell (world_of state session).world (ask_of (meant, atoms))
-  unfolding IsUnderstood
-  ready_allowed state session params meant atoms u s =
-      let v = are_suited meant.encs params atoms s (sent_count (catalog_of state session) params meant typings u) in
+  ready_allowed : (state : State) (session : ℕ) (params : List SentParam) (analysis : Analysis) (atoms : List Atom) → IsAnalyzed (catalog_of state session) (map declaration_of params) analysis
+      → checked_params analysis.encs params ≡ Ok atoms → MayAsk any_cell (world_of state session).world (ask_of (analysis, atoms))
+  unfolding IsAnalyzed
+  ready_allowed state session params analysis atoms u s =
+      let v = are_checked analysis.encs params atoms s (sent_count (catalog_of state session) params analysis typings u) in
       let p = u.bound.params in
-      asking.may_ask any_cell (world_of state session).world meant.bound.statement (execution meant.bound meant.encs atoms) (record {
+      asking.may_ask any_cell (world_of state session).world analysis.bound.statement (execution analysis.bound analysis.encs atoms) (record {
         bound = record {
           placed = u.bound.placed;
           tables = u.bound.tables;
           definable = u.bound.definable;
-          encs = (typings meant.bound meant.encs u.typed).0;
+          encs = (typings analysis.bound analysis.encs u.typed).0;
           values = v.count ∙ sym (length-map params declaration_of) ∙ sym (length-map (map declaration_of params) type_of) ∙ sym (ap length p);
         };
-        typed = admitted meant.bound meant.encs u.bound.placed u.typed;
-        values = subst (λ tys. AreValuesOf any_cell tys meant.encs atoms) (sym p) v.values;
+        typed = admitted analysis.bound analysis.encs u.bound.placed u.typed;
+        values = subst (λ tys. AreValuesOf any_cell tys analysis.encs atoms) (sym p) v.values;
       })
 
-  by_atoms : (state : State) (session : ℕ) (params : List SentParam) (meant : Meant) → IsStore any_cell state → IsUnderstood (catalog_of state session) (map declaration_of params) meant
-      → (y : Result (List Atom) SqlFault) → suited meant.encs params ≡ y → Goes state (asked session (y >>= λ atoms. Ok (meant, atoms)))
-  by_atoms state session params meant s u (Ok atoms) e =
-      let may = ready_allowed state session params meant atoms u e in
-      record { allowed = (may, tt); store = (keeps any_cell state session (ask_of (meant, atoms)) s may).0 }
-  by_atoms state session params meant s u (Err f) e = record { allowed = tt; store = s }
+  by_atoms : (state : State) (session : ℕ) (params : List SentParam) (analysis : Analysis) → IsStore any_cell state → IsAnalyzed (catalog_of state session) (map declaration_of params) analysis
+      → (y : Result (List Atom) SqlFault) → checked_params analysis.encs params ≡ y → Goes state (asked session (y >>= λ atoms. Ok (analysis, atoms)))
+  by_atoms state session params analysis s u (Ok atoms) e =
+      let may = ready_allowed state session params analysis atoms u e in
+      record { allowed = (may, tt); store = (keeps any_cell state session (ask_of (analysis, atoms)) s may).0 }
+  by_atoms state session params analysis s u (Err f) e = record { allowed = tt; store = s }
 
-  by_meaning : (state : State) (session : ℕ) (params : List SentParam) → IsStore any_cell state → (x : Result Meant SqlFault)
-      → ((meant : Meant) → x ≡ Ok meant → IsUnderstood (catalog_of state session) (map declaration_of params) meant)
-      → Goes state (asked session (x >>= λ meant. suited meant.encs params >>= λ atoms. Ok (meant, atoms)))
+  by_meaning : (state : State) (session : ℕ) (params : List SentParam) → IsStore any_cell state → (x : Result Analysis SqlFault)
+      → ((analysis : Analysis) → x ≡ Ok analysis → IsAnalyzed (catalog_of state session) (map declaration_of params) analysis)
+      → Goes state (asked session (x >>= λ analysis. checked_params analysis.encs params >>= λ atoms. Ok (analysis, atoms)))
   by_meaning state session params s (Err f) k = record { allowed = tt; store = s }
-  by_meaning state session params s (Ok meant) k = by_atoms state session params meant s (k meant refl) (suited meant.encs params) refl
+  by_meaning state session params s (Ok analysis) k = by_atoms state session params analysis s (k analysis refl) (checked_params analysis.encs params) refl
 
   one_allowed : (state : State) (request : Request) → IsStore any_cell state → Goes state (called state request)
   one_allowed state (Describe session text declarations) s = record { allowed = tt; store = s }
   one_allowed state (Execute session version text params) s =
       let c = catalog_of state session in
-      by_meaning state session params s (understood_at c version text params)
-      (λ meant e. is_understood bound c text (map declaration_of params) meant
-      (at_version (version == c.version) (understood c text (map declaration_of params)) (fault.Moved (record { seen = version; now = c.version })) meant e))
+      by_meaning state session params s (analyzed_at c version text params)
+      (λ analysis e. is_analyzed bound c text (map declaration_of params) analysis
+      (at_version (version == c.version) (analyzed c text (map declaration_of params)) (fault.Moved (record { seen = version; now = c.version })) analysis e))
 
   pub may_be_asked : (state : State) (request : Request) → IsStore any_cell state → MayBeAsked state request
   may_be_asked state request s =

@@ -7,7 +7,7 @@ use Rattle.ae_base.specs.Types.{IsType}
 use Rattle.ae_base.specs.declared.keys.KeyMeta.{KeyMeta}
 use Rattle.ae_base.specs.declared.types.Enc.{Enc}
 use Rattle.catalog.specs.Catalogs.{Catalog}
-use Rattle.catalog.specs.Laws.{KeysAreTold}
+use Rattle.catalog.specs.Laws.{KeysAreDescribed}
 use Rattle.catalog.specs.WellFormed.{IsCatalog, IsKeyThere}
 use Rattle.engine.specs.declared.answers.ResultColumn.{ResultColumn}
 use Rattle.wire_messages.specs.KeyLists.{AreTheKeysOf}
@@ -24,7 +24,7 @@ sent_encs : (columns : List ResultColumn) → encs_of (map sent_column columns) 
 sent_encs [] = refl
 sent_encs (c ∷ columns) = ap (λ es. c.enc ∷ es) (sent_encs columns)
 
-pub header_keys : (catalog : Catalog) (columns : List ResultColumn) (sent : List SentColumn) (keys : List KeyMeta) → IsCatalog catalog → KeysAreTold
+pub header_keys : (catalog : Catalog) (columns : List ResultColumn) (sent : List SentColumn) (keys : List KeyMeta) → IsCatalog catalog → KeysAreDescribed
     → All (λ (column : ResultColumn). IsKeyThere catalog column.enc) columns → sent ≡ map sent_column columns → keys ≡ keys_of catalog (encs_of sent) → AreTheKeysOf (encs_of sent) keys
 header_keys catalog columns sent keys c law a s k =
     let e = ap encs_of s ∙ sent_encs columns in

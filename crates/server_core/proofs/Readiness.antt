@@ -36,54 +36,55 @@ use Rattle.transactions.specs.Stores.{Transacted, transact, world_of}
 use Rattle.transactions.proofs.Interface.{may_ask, rows_by_step}
 use Rattle.transactions.proofs.Interface.{seen_well}
 use Rattle.statement_analysis.proofs.Interface.{encs_count, keys_there, there_if}
-use Rattle.statement_analysis.specs.Describing.{Meant, meant_of}
-use Rattle.statement_analysis.specs.Params.{declaration_of, suited}
-use Rattle.statement_analysis.specs.Understood.{IsUnderstood}
+use Rattle.statement_analysis.specs.Describing.{Analysis, analysis_of}
+use Rattle.statement_analysis.specs.Params.{declaration_of, checked_params}
+use Rattle.statement_analysis.specs.Analyzed.{IsAnalyzed}
 use Rattle.server_core.proofs.Cells.{call_leaves}
-use Rattle.server_core.proofs.Suiting.{are_suited, suited_protected}
+use Rattle.server_core.proofs.Suiting.{are_checked, checked_protected}
 use Rattle.server_core.specs.Serve.{State, ask_of, catalog_of}
 use Rattle.server_core.specs.States.{IsState, is_short}
-use Rattle.server_core.specs.Understood.{IsReady, CanBeSent}
+use Rattle.server_core.specs.Analyzed.{IsReady, CanBeSent}
 
-pub bound_on : (catalog : Catalog) (declarations : List ParamDecl) (meant : Meant) (atoms : List Atom) → TypingsAreOfColumns → IsReady catalog declarations meant atoms
-    → IsBoundOn catalog meant.bound meant.encs atoms
+pub bound_on : (catalog : Catalog) (declarations : List ParamDecl) (analysis : Analysis) (atoms : List Atom) → TypingsAreOfColumns → IsReady catalog declarations analysis atoms
+    → IsBoundOn catalog analysis.bound analysis.encs atoms
 unfolding IsReady
-bound_on catalog declarations meant atoms law r = record {
-  placed = r.understood.bound.placed;
-  tables = r.understood.bound.tables;
-  definable = r.understood.bound.definable;
-  encs = (law meant.bound meant.encs r.understood.typed).0;
+bound_on catalog declarations analysis atoms law r = record {
+  placed = r.analyzed.bound.placed;
+  tables = r.analyzed.bound.tables;
+  definable = r.analyzed.bound.definable;
+  encs = (law analysis.bound analysis.encs r.analyzed.typed).0;
   values = r.count;
 }
 
 -- ---- what is ready
 
-pub sent_count : (catalog : Catalog) (params : List SentParam) (meant : Meant) → TypingsAreOfColumns → IsUnderstood catalog (map declaration_of params) meant → length meant.encs ≡ length params
-sent_count catalog params meant law u = encs_count catalog (map declaration_of params) meant law u ∙ length-map params declaration_of
+pub sent_count : (catalog : Catalog) (params : List SentParam) (analysis : Analysis) → TypingsAreOfColumns → IsAnalyzed catalog (map declaration_of params) analysis
+    → length analysis.encs ≡ length params
+sent_count catalog params analysis law u = encs_count catalog (map declaration_of params) analysis law u ∙ length-map params declaration_of
 
-pub is_ready : (catalog : Catalog) (params : List SentParam) (meant : Meant) (atoms : List Atom) → TypingsAreOfColumns → IsUnderstood catalog (map declaration_of params) meant
-    → suited meant.encs params ≡ Ok atoms → All IsSendable atoms → IsReady catalog (map declaration_of params) meant atoms
-unfolding IsUnderstood IsReady
-is_ready catalog params meant atoms law u s short =
-    let a = are_suited meant.encs params atoms s (sent_count catalog params meant law u) short in
+pub is_ready : (catalog : Catalog) (params : List SentParam) (analysis : Analysis) (atoms : List Atom) → TypingsAreOfColumns → IsAnalyzed catalog (map declaration_of params) analysis
+    → checked_params analysis.encs params ≡ Ok atoms → All IsSendable atoms → IsReady catalog (map declaration_of params) analysis atoms
+unfolding IsAnalyzed IsReady
+is_ready catalog params analysis atoms law u s short =
+    let a = are_checked analysis.encs params atoms s (sent_count catalog params analysis law u) short in
     let p = u.bound.params in
     record {
-      understood = u;
+      analyzed = u;
       count = a.count ∙ sym (length-map params declaration_of) ∙ sym (length-map (map declaration_of params) type_of) ∙ sym (ap length p);
-      values = subst (λ tys. AreValuesOf is_short tys meant.encs atoms) (sym p) a.values;
-      cells = suited_protected meant.encs params atoms s (sent_count catalog params meant law u);
+      values = subst (λ tys. AreValuesOf is_short tys analysis.encs atoms) (sym p) a.values;
+      cells = checked_protected analysis.encs params atoms s (sent_count catalog params analysis law u);
     }
 
 -- ---- keys
 
-shown_there : (catalog : Catalog) (declarations : List ParamDecl) (meant : Meant) → TypingsAreOfColumns → IsCatalog catalog → IsUnderstood catalog declarations meant → (e : Enc)
-    → IsShownBy meant.bound meant.encs e → IsKeyThere catalog e
-unfolding IsUnderstood
-shown_there catalog declarations meant law c u e w = elim w [
-  | inl p ↦ there_if catalog meant.bound.columns (u.bound.keys c) e (inl p)
+shown_there : (catalog : Catalog) (declarations : List ParamDecl) (analysis : Analysis) → TypingsAreOfColumns → IsCatalog catalog → IsAnalyzed catalog declarations analysis → (e : Enc)
+    → IsShownBy analysis.bound analysis.encs e → IsKeyThere catalog e
+unfolding IsAnalyzed
+shown_there catalog declarations analysis law c u e w = elim w [
+  | inl p ↦ there_if catalog analysis.bound.columns (u.bound.keys c) e (inl p)
   | inr r ↦ elim r [
-    | inl m ↦ there_if catalog meant.bound.columns (u.bound.keys c) e (inr m)
-    | inr m ↦ All-contains (IsKeyThere catalog) meant.encs e (keys_there catalog declarations meant law c u) m
+    | inl m ↦ there_if catalog analysis.bound.columns (u.bound.keys c) e (inr m)
+    | inr m ↦ All-contains (IsKeyThere catalog) analysis.encs e (keys_there catalog declarations analysis law c u) m
   ]
 ]
 
@@ -94,18 +95,19 @@ keeps (Ok answer) old new done g s t = subst IsState (ap (λ (o : Transacted). o
 keeps (Err (Fault f)) old new done g s t = subst IsState (ap (λ (o : Transacted). o.after) g) t
 keeps (Err OutOfMemory) old new done g s t = subst IsState (sym g) s
 
-module _ (old : State) (session : ℕ) (declarations : List ParamDecl) (meant : Meant) (law : TypingsAreOfColumns) (u : IsUnderstood (catalog_of old session) declarations meant) where
+module _ (old : State) (session : ℕ) (declarations : List ParamDecl) (analysis : Analysis) (law : TypingsAreOfColumns) (u : IsAnalyzed (catalog_of old session) declarations analysis) where
   pub sendable : {K : Type 0} (result : Result (code.Answer K) (Refusal SqlFault)) (new : State) (done : Transacted) → IsCatalog (catalog_of old session) → Transacts result old new done
       → IsAnswerOf is_short done.answer
-      → ((columns : List ResultColumn) (rows : List (List Atom)) → done.answer ≡ Ok (Rows columns rows) → (after : World) × AreShown (world_of old session).world after meant.bound meant.encs columns)
+      → ((columns : List ResultColumn) (rows : List (List Atom)) → done.answer ≡ Ok (Rows columns rows)
+      → (after : World) × AreShown (world_of old session).world after analysis.bound analysis.encs columns)
       → IfOk result (λ answer. IsUndone old session new (answer_of answer)) → IfOk result (λ answer. CanBeSent (catalog_of old session) (catalog_of new session) (answer_of answer))
   sendable (Ok (code.TheVariants.Rows columns rows)) new done c g typed shown undone =
       let f : done.answer ≡ Ok (Rows columns rows) = ap (λ (o : Transacted). o.answer) g in
       let s = (shown columns rows f).1 in
       record {
         few = (s.some, s.few);
-        keys = All-weaker (λ (column : ResultColumn). IsShownBy meant.bound meant.encs column.enc) (λ (column : ResultColumn). IsKeyThere (catalog_of old session) column.enc)
-            (λ column w. shown_there (catalog_of old session) declarations meant law c u column.enc w) columns s.shown;
+        keys = All-weaker (λ (column : ResultColumn). IsShownBy analysis.bound analysis.encs column.enc) (λ (column : ResultColumn). IsKeyThere (catalog_of old session) column.enc)
+            (λ column w. shown_there (catalog_of old session) declarations analysis law c u column.enc w) columns s.shown;
         typed = subst (IsAnswerOf is_short) f typed;
         same = undone.catalog;
       }
@@ -126,22 +128,22 @@ pub record IsDoneWell {K : Type 0} (old : State) (session : ℕ) (new : State) (
   pub sent : IfOk result (λ answer. CanBeSent (catalog_of old session) (catalog_of new session) (answer_of answer))
 
 pub done_well : {K : Type 0} (laws : Laws) (old : State) (session : ℕ) (new : State) (declarations : List ParamDecl)
-    (meant : Meant) (atoms : List Atom) (result : Result (code.Answer K) (Refusal SqlFault))
-    → IsState old → IsReady (catalog_of old session) declarations meant atoms → Transacts result old new (transact old session (ask_of (meant, atoms)))
+    (analysis : Analysis) (atoms : List Atom) (result : Result (code.Answer K) (Refusal SqlFault))
+    → IsState old → IsReady (catalog_of old session) declarations analysis atoms → Transacts result old new (transact old session (ask_of (analysis, atoms)))
     → IfOk result (λ answer. IsUndone old session new (answer_of answer)) → IsDoneWell old session new result
-unfolding IsUnderstood IsReady
-done_well laws old session new declarations meant atoms result s r g undone =
-    let e = execution meant.bound meant.encs atoms in
+unfolding IsAnalyzed IsReady
+done_well laws old session new declarations analysis atoms result s r g undone =
+    let e = execution analysis.bound analysis.encs atoms in
     let world = (world_of old session).world in
-    let b = bound_on (catalog_of old session) declarations meant atoms laws.typings r in
-    let may = may_ask is_short world meant.bound.statement e (record { bound = b; typed = laws.admitted meant.bound meant.encs b.placed r.understood.typed; values = r.values }) in
-    let k = laws.keeps is_short old session (ask_of (meant, atoms)) s.store may in
-    let left = call_leaves old session meant.bound meant.encs atoms b.encs r.values r.cells s may in
+    let b = bound_on (catalog_of old session) declarations analysis atoms laws.typings r in
+    let may = may_ask is_short world analysis.bound.statement e (record { bound = b; typed = laws.admitted analysis.bound analysis.encs b.placed r.analyzed.typed; values = r.values }) in
+    let k = laws.keeps is_short old session (ask_of (analysis, atoms)) s.store may in
+    let left = call_leaves old session analysis.bound analysis.encs atoms b.encs r.values r.cells s may in
     record {
-      state = keeps result old new (transact old session (ask_of (meant, atoms))) g s left;
-      sent = sendable old session declarations meant laws.typings r.understood result new (transact old session (ask_of (meant, atoms))) (seen_well is_short old session s.store).world.catalog g k.1
-          (λ columns rows f.
-          ((step_of (world_of old session) e).world, laws.shown world meant.bound meant.encs atoms columns rows b (rows_by_step old session e columns rows meant.bound.statement f))) undone;
+      state = keeps result old new (transact old session (ask_of (analysis, atoms))) g s left;
+      sent = sendable old session declarations analysis laws.typings r.analyzed result new (transact old session (ask_of (analysis, atoms)))
+          (seen_well is_short old session s.store).world.catalog g k.1 (λ columns rows f.
+          ((step_of (world_of old session) e).world, laws.shown world analysis.bound analysis.encs atoms columns rows b (rows_by_step old session e columns rows analysis.bound.statement f))) undone;
     }
 
 -- the catalog that a session sees is one
@@ -150,14 +152,14 @@ seen_catalog state session s = (seen_well is_short state session s.store).world.
 
 -- ---- over the parts of what is ready
 
-module _ (old : State) (session : ℕ) (declarations : List ParamDecl) (typed : Typed) (atoms : List Atom) (ready : IsReady (catalog_of old session) declarations (meant_of typed) atoms)
+module _ (old : State) (session : ℕ) (declarations : List ParamDecl) (typed : Typed) (atoms : List Atom) (ready : IsReady (catalog_of old session) declarations (analysis_of typed) atoms)
     (b : parts.Bound) (encs : List Enc) (values : List Atom) (is_b : b ≡ typed.bound) (is_encs : encs ≡ typed.encs) (are_values : values ≡ atoms) where
   pub parts_bound : TypingsAreOfColumns → IsBoundOn (catalog_of old session) (bound_of b) encs values
-  parts_bound law = rw (is_b, is_encs, are_values) (bound_on (catalog_of old session) declarations (meant_of typed) atoms law ready)
+  parts_bound law = rw (is_b, is_encs, are_values) (bound_on (catalog_of old session) declarations (analysis_of typed) atoms law ready)
 
   pub parts_given : {K : Type 0} (result : Result (code.Answer K) (Refusal SqlFault)) (new : State)
       → Transacts result old new (transact old session (stores.ask_of (execution (bound_of b) encs values)))
-      → Transacts result old new (transact old session (ask_of (meant_of typed, atoms)))
+      → Transacts result old new (transact old session (ask_of (analysis_of typed, atoms)))
   parts_given result new g =
       subst (λ (v : List Atom). Transacts result old new (transact old session (stores.ask_of (execution (bound_of typed.bound) typed.encs v)))) are_values
       (subst (λ (es : List Enc). Transacts result old new (transact old session (stores.ask_of (execution (bound_of typed.bound) es values)))) is_encs

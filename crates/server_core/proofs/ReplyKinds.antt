@@ -15,7 +15,7 @@ use Rattle.wire_messages.specs.declared.replies.Reply.TheVariants.{Described, Re
 use Rattle.wire_messages.specs.declared.replies.Done.TheVariants.{Defined, Changed}
 use Rattle.wire_messages.specs.declared.requests.Request.{Request}
 use Rattle.wire_messages.specs.Exchanges.{HasKinds, Refusal, Description, Definition, Change, Rows}
-use Rattle.wire_messages.specs.Messages as told
+use Rattle.wire_messages.specs.Messages as messages
 use Rattle.server_core.specs.Calls.{AreDescribeKinds, AreExecuteKinds}
 use Rattle.server_core.specs.Serve.{header, replies_of, sent_column}
 use Rattle.server_core.specs.States.{is_short}
@@ -23,7 +23,7 @@ use Rattle.server_core.specs.States.{is_short}
 pub refusal_kinds : (request : Request) (f : SqlFault) (replies : List Reply) → replies ≡ Refused f ∷ [] → HasKinds request replies
 refusal_kinds request f replies e = subst (HasKinds request) (sym e) (Refusal request f)
 
-pub described_kinds : (description : told.Description) (replies : List Reply) → replies ≡ Described description ∷ [] → AreDescribeKinds replies
+pub described_kinds : (description : messages.Description) (replies : List Reply) → replies ≡ Described description ∷ [] → AreDescribeKinds replies
 described_kinds description replies e = λ session text declarations. subst (HasKinds _) (sym e) (Description session text declarations description)
 
 pub defined_kinds : (replies : List Reply) → replies ≡ Ended Defined ∷ [] → AreExecuteKinds replies

@@ -10,13 +10,13 @@ use Rattle.ae_base.specs.declared.batches.ParamDecl.{ParamDecl}
 use Rattle.wire_messages.specs.declared.params.SentParam.{SentParam}
 use Rattle.wire_messages.specs.declared.requests.Request.TheVariants.{Describe, Execute}
 use Rattle.wire_messages.specs.Exchanges.{Served, HasKinds}
-use Rattle.statement_analysis.specs.Describing.{Meant, meant_of}
+use Rattle.statement_analysis.specs.Describing.{Analysis, analysis_of}
 use Rattle.server_core.specs.Serve.{State, serve, refused}
 use Rattle.server_core.specs.declared.preparing.Ready.{Ready}
 
 -- what is ready, without where it lies in memory
-abbrev pub ready_of : Ready → Meant × List Atom
-ready_of ready = (meant_of ready.typed, ready.atoms)
+abbrev pub ready_of : Ready → Analysis × List Atom
+ready_of ready = (analysis_of ready.typed, ready.atoms)
 
 -- the replies are those that are served; out of memory the state is as before
 abbrev pub Serves : {E : Type 0} → Result (List Reply) E → Request → State → State → Type 0

@@ -21,8 +21,8 @@ use Rattle.wire_messages.specs.declared.requests.Request.{Request}
 use Rattle.wire_messages.specs.declared.requests.Request.TheVariants.{Describe, Execute}
 use Rattle.wire_messages.specs.Exchanges.{Served}
 use Rattle.wire_messages.specs.Messages.{Description, Header}
-use Rattle.statement_analysis.specs.Describing.{Meant, understood, describe, keys_of}
-use Rattle.statement_analysis.specs.Params.{declaration_of, suited}
+use Rattle.statement_analysis.specs.Describing.{Analysis, analyzed, describe, keys_of}
+use Rattle.statement_analysis.specs.Params.{declaration_of, checked_params}
 
 -- what a server serves by: a shared world, and the transactions of its sessions
 abbrev pub State : Type 0
@@ -60,17 +60,17 @@ described state (Ok description) = record { replies = Described description ∷ 
 described state (Err f) = refused state f
 
 -- Moved where the versions differ, then the faults of the text
-abbrev pub understood_at : Catalog → ℕ → List ℕ → List SentParam → Result Meant SqlFault
-understood_at catalog version text params =
-    if version == catalog.version then understood catalog text (map declaration_of params) else Err (fault.Moved (record { seen = version; now = catalog.version }))
+abbrev pub analyzed_at : Catalog → ℕ → List ℕ → List SentParam → Result Analysis SqlFault
+analyzed_at catalog version text params =
+    if version == catalog.version then analyzed catalog text (map declaration_of params) else Err (fault.Moved (record { seen = version; now = catalog.version }))
 
 -- then those of the parameters
-abbrev pub prepared : Catalog → ℕ → List ℕ → List SentParam → Result (Meant × List Atom) SqlFault
+abbrev pub prepared : Catalog → ℕ → List ℕ → List SentParam → Result (Analysis × List Atom) SqlFault
 prepared catalog version text params =
-    understood_at catalog version text params >>= λ meant. suited meant.encs params >>= λ atoms. Ok (meant, atoms)
+    analyzed_at catalog version text params >>= λ analysis. checked_params analysis.encs params >>= λ atoms. Ok (analysis, atoms)
 
 -- what a session asks by a statement that is ready
-abbrev pub ask_of : Meant × List Atom → Ask
+abbrev pub ask_of : Analysis × List Atom → Ask
 ask_of ready = stores.ask_of (execution ready.0.bound ready.0.encs ready.1)
 
 -- the catalog of the world that a session sees: that of its transaction, if it has one
@@ -78,10 +78,10 @@ abbrev pub catalog_of : State → ℕ → Catalog
 catalog_of state session = (world_of state session).world.catalog
 
 -- then those of the statement
-abbrev pub stepped : State → ℕ → Meant × List Atom → Served State
+abbrev pub stepped : State → ℕ → Analysis × List Atom → Served State
 stepped state session ready = let t = transact state session (ask_of ready) in answered (catalog_of state session) t.answer t.after
 
-abbrev pub executed : State → ℕ → Result (Meant × List Atom) SqlFault → Served State
+abbrev pub executed : State → ℕ → Result (Analysis × List Atom) SqlFault → Served State
 executed state session (Ok ready) = stepped state session ready
 executed state session (Err f) = refused state f
 
@@ -104,7 +104,7 @@ serve_all state (request ∷ requests) =
 
 -- ---- what requests ask of the state
 
-abbrev pub asked : ℕ → Result (Meant × List Atom) SqlFault → List Call
+abbrev pub asked : ℕ → Result (Analysis × List Atom) SqlFault → List Call
 asked session (Ok ready) = record { session = session; ask = ask_of ready } ∷ []
 asked session (Err f) = []
 

@@ -11,7 +11,7 @@ ghost use Rattle.server_core.specs.Serve as spec;
 use ae_base::lists::Seq;
 use ae_base::types::Ty;
 use catalog::catalogs::Catalog;
-use catalog::laws::keys_are_told;
+use catalog::laws::keys_are_described;
 use engine::answers::ResultColumn;
 use statement_analysis::keys::keys_of;
 use std::alloc::{AllocError, Global};
@@ -20,7 +20,7 @@ use wire_messages::replies::Header;
 use wire_parts::keys::KeyPart;
 use wire_parts::texts::TitlePart;
 
-/// The columns of an answer, with what is told of their keys.
+/// The columns of an answer, with the descriptions of their keys.
 pub fn header(
     alloc: Global,
     catalog: &Catalog,
@@ -32,7 +32,7 @@ pub fn header(
     ensures exact { IfOk result (λ header. header ≡ spec.header catalog.now columns) }
     ensures types { IfOk result (λ header. All (λ column. IsType column.ty) columns) }
 {
-    keys_are_told();
+    keys_are_described();
     let columns = sent_columns(alloc, columns)?;
     let keys = keys_of(alloc, catalog, columns.as_slice())?;
     Ok(headed(keys, columns))

@@ -14,11 +14,11 @@ ghost use Rattle.transactions.specs.Stores.{transact};
 ghost use Rattle.wire_messages.specs.Exchanges.{HasKinds};
 ghost use Rattle.wire_messages.specs.Messages.{IsFew};
 ghost use Rattle.wire_messages.specs.declared.requests.Request.TheVariants.{Execute};
-ghost use Rattle.statement_analysis.specs.Describing.{meant_of};
+ghost use Rattle.statement_analysis.specs.Describing.{analysis_of};
 ghost use Rattle.server_core.specs.Calls.{AreExecuteKinds, ServesOrFails, ready_of};
 ghost use Rattle.server_core.specs.Serve as spec;
 ghost use Rattle.server_core.specs.States.{IsState, is_short};
-ghost use Rattle.server_core.specs.Understood.{CanBeSent, IsReady};
+ghost use Rattle.server_core.specs.Analyzed.{CanBeSent, IsReady};
 
 use crate::preparing::{Ready, prepared};
 use crate::replies::one_reply_in;
@@ -72,7 +72,7 @@ fn step(
 ) -> Result<Seq<Reply<'static>>, Refusal>
     requires state { IsState store.old }
     requires ready { (declarations : List ParamDecl)
-        × IsReady (spec.catalog_of store.old session) declarations (meant_of ready.typed)
+        × IsReady (spec.catalog_of store.old session) declarations (analysis_of ready.typed)
         ready.atoms }
     ensures served { ServesOrFails result (spec.stepped store.old session (ready_of ready))
         store.old store.new }
@@ -102,7 +102,7 @@ fn step_in(
     requires room { vec_len room < vec_capacity room }
     requires state { IsState store.old }
     requires ready { (declarations : List ParamDecl)
-        × IsReady (spec.catalog_of store.old session) declarations (meant_of ready.typed)
+        × IsReady (spec.catalog_of store.old session) declarations (analysis_of ready.typed)
         ready.atoms }
     ensures served { ServesOrFails result (spec.stepped store.old session (ready_of ready))
         store.old store.new }
@@ -159,7 +159,7 @@ fn done(
 ) -> Result<Answer<Cell>, Refusal>
     requires state { IsState store.old }
     requires ready { (declarations : List ParamDecl)
-        × IsReady (spec.catalog_of store.old session) declarations (meant_of ready.typed)
+        × IsReady (spec.catalog_of store.old session) declarations (analysis_of ready.typed)
         ready.atoms }
     ensures exact { Transacts result store.old store.new
         (transact store.old session (spec.ask_of (ready_of ready))) }

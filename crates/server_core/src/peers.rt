@@ -14,13 +14,13 @@ use wire_messages::requests::Request;
 
 /// Who answers requests.
 pub trait Peer {
-    /// All that was asked and answered, where that is told.
+    /// All requests and answers, if they are exposed.
     ghost log: { Self → Option (List Exchange) };
 
-    /// The state by which it serves, where that is told.
+    /// The state by which it serves, if it is exposed.
     ghost state: { Self → Option State };
 
-    /// What it is lent.
+    /// What it borrows.
     ghost names: { Self → List GName };
 
     /// Asks a request: the replies to it, which are of its kinds. Out of memory, nothing has
@@ -44,7 +44,7 @@ pub trait Peer {
             (λ _. state self.new ≡ state self.old) };
 }
 
-/// One that is lent.
+/// A borrowed peer.
 impl<P: Peer> Peer for &mut P {
     ghost log = { λ p. P.log p.now };
 

@@ -3,12 +3,12 @@
 ghost use Rattle.std.specs.Prelude.{◌≡◌, ◌≢◌, IfOk, Err, map};
 ghost use Rattle.ae_base.specs.Results.{Answers, AnswersAs};
 ghost use Rattle.ae_base.specs.declared.faults.SqlFault.TheVariants as fault;
-ghost use Rattle.statement_analysis.specs.Describing.{meant_of, understood};
-ghost use Rattle.statement_analysis.specs.Params.{declaration_of, suited};
-ghost use Rattle.statement_analysis.specs.Understood.{IsUnderstood};
+ghost use Rattle.statement_analysis.specs.Describing.{analysis_of, analyzed};
+ghost use Rattle.statement_analysis.specs.Params.{declaration_of, checked_params};
+ghost use Rattle.statement_analysis.specs.Analyzed.{IsAnalyzed};
 ghost use Rattle.server_core.specs.Calls.{ready_of};
 ghost use Rattle.server_core.specs.Serve as spec;
-ghost use Rattle.server_core.specs.Understood.{IsReady};
+ghost use Rattle.server_core.specs.Analyzed.{IsReady};
 
 use ae_base::atoms::Atom;
 use ae_base::cells::Cell;
@@ -19,9 +19,9 @@ use ae_base::versions::Versions;
 use catalog::catalogs::Catalog;
 use enc_types::laws::typings_are_of_columns;
 use enc_types::typed::Typed;
-use statement_analysis::meaning::understood;
+use statement_analysis::meaning::analyzed;
 use statement_analysis::params::declared_by;
-use statement_analysis::values::suited;
+use statement_analysis::values::checked_params;
 use std::alloc::Global;
 use wire_messages::params::SentParam;
 use wire_parts::texts::StatementPart;
@@ -45,12 +45,12 @@ pub fn prepared(
     ensures exact { AnswersAs ready_of result
         (spec.prepared catalog.now version text.now params.now) }
     ensures ready { IfOk result
-        (λ ready. IsReady catalog.now (map declaration_of params.now) (meant_of ready.typed)
+        (λ ready. IsReady catalog.now (map declaration_of params.now) (analysis_of ready.typed)
         ready.atoms) }
 {
     typings_are_of_columns();
-    let typed = understood_at(alloc, catalog, version, text, params)?;
-    match suited(alloc, typed.encs(), params) {
+    let typed = analyzed_at(alloc, catalog, version, text, params)?;
+    match checked_params(alloc, typed.encs(), params) {
         Ok(atoms) => Ok(Ready { typed, atoms }),
         Err(refusal) => {
             drop(typed);
@@ -60,21 +60,21 @@ pub fn prepared(
 }
 
 /// What a text means with the declarations that come with values, or Moved.
-fn understood_at(
+fn analyzed_at(
     alloc: Global,
     catalog: &Catalog,
     version: u64,
     text: &StatementPart<'_>,
     params: &[SentParam<'_>],
 ) -> Result<Typed, Refusal>
-    ensures exact { AnswersAs meant_of result
-        (spec.understood_at catalog.now version text.now params.now) }
-    ensures meant { IfOk result
-        (λ typed. IsUnderstood catalog.now (map declaration_of params.now) (meant_of typed)) }
+    ensures exact { AnswersAs analysis_of result
+        (spec.analyzed_at catalog.now version text.now params.now) }
+    ensures analysis { IfOk result
+        (λ typed. IsAnalyzed catalog.now (map declaration_of params.now) (analysis_of typed)) }
 {
     if let Some(versions) = Versions::that_differ(version, catalog.version()) {
         return Err(Refusal::Fault(SqlFault::Moved(versions)));
     }
     let declarations = declared_by(alloc, params)?;
-    understood(alloc, catalog, text, declarations.as_slice())
+    analyzed(alloc, catalog, text, declarations.as_slice())
 }

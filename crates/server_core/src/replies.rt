@@ -15,7 +15,7 @@ pub fn one_reply(alloc: Global, reply: Reply<'static>) -> Result<Seq<Reply<'stat
     Ok(replies)
 }
 
-/// One reply, where memory for it is there.
+/// One reply, if there is memory for it.
 pub fn one_reply_in(room: Vec<Reply<'static>>, reply: Reply<'static>) -> Seq<Reply<'static>>
     requires empty { room.items ≡ [] }
     requires room { vec_len room < vec_capacity room }
@@ -26,7 +26,7 @@ pub fn one_reply_in(room: Vec<Reply<'static>>, reply: Reply<'static>) -> Seq<Rep
     Seq::from_vec(replies)
 }
 
-/// Puts a reply behind those before it.
+/// Appends a reply to those before it.
 pub fn add_reply(replies: &mut Seq<Reply<'static>>, reply: Reply<'static>) -> Result<(), AllocError>
     ensures { OnOk result (replies.new ≡ replies.old ++ reply.entry ∷ []) }
 {

@@ -57,7 +57,7 @@ fn carried(
     Ok(replies)
 }
 
-/// Puts a reply for each row behind those before them.
+/// Appends a reply for each row.
 fn add_rows(
     alloc: Global,
     replies: &mut Seq<Reply<'static>>,

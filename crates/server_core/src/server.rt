@@ -4,7 +4,7 @@ ghost use Rattle.std.specs.Prelude.{◌≡◌, ◌↔◌, IfOk, IsTrue, None, is
 ghost use Rattle.wire_messages.specs.Exchanges.{HasKinds};
 ghost use Rattle.statement_analysis.specs.Describing.{binding_of};
 ghost use Rattle.statement_analysis.specs.Explaining.{Explains};
-ghost use Rattle.statement_analysis.specs.Sorts as sorts;
+ghost use Rattle.statement_analysis.specs.Kinds as text_kinds;
 ghost use Rattle.server_core.specs.Calls.{Serves};
 ghost use Rattle.server_core.specs.Correspond.{IsServedAlike};
 ghost use Rattle.server_core.specs.Serve.{empty_state};
@@ -19,7 +19,7 @@ use ae_base::sessions::SessionId;
 use catalog::laws::definitions_keep_catalogs;
 use engine::worlds::World;
 use statement_analysis::explaining::explain;
-use statement_analysis::sorts::{Sort, sort_of};
+use statement_analysis::kinds::{TextKind, kind_of};
 use std::alloc::{AllocError, Global};
 use std::marker::Model;
 use transactions::stores::Store;
@@ -62,9 +62,8 @@ impl Server {
     }
 
     /// Serves a request whole: the replies to it, which are of its kinds, and the state after it.
-    /// Out of memory, the state is as before. To each request that is this one but for a
-    /// renaming of cells, in each state that is this one but for it, come these replies and this
-    /// state but for it.
+    /// Out of memory, the state is as before. To each request that is this one up to a renaming of
+    /// cells, in each state that is this one up to it, come these replies and this state up to it.
     pub fn serve(
         &mut self,
         alloc: Global,
@@ -79,7 +78,7 @@ impl Server {
         serve(alloc, &mut self.store, request)
     }
 
-    /// The places of a chain of rules that clash, where the statement of a text has no encryption
+    /// The offsets of a chain of rules that clash, where the statement of a text has no encryption
     /// typing over the shared world; none for any other text.
     pub fn explain(
         &self,
@@ -105,12 +104,12 @@ impl Server {
         self.store.shared_world()
     }
 
-    /// What sort a text is, by the grammar alone, whatever is defined: NoStatement exactly where it
+    /// The kind of a text, by the grammar alone, whatever is defined: NoStatement exactly where it
     /// doesn't parse.
-    pub fn sort_of(&self, alloc: Global, text: &StatementPart<'_>) -> Result<Sort, AllocError>
-        ensures { IfOk result (λ sort. sort ≡ sorts.sort_of text.now) }
+    pub fn kind_of(&self, alloc: Global, text: &StatementPart<'_>) -> Result<TextKind, AllocError>
+        ensures { IfOk result (λ kind. kind ≡ text_kinds.kind_of text.now) }
     {
-        sort_of(alloc, text)
+        kind_of(alloc, text)
     }
 
     /// Whether a session has a transaction.

@@ -26,11 +26,11 @@ use Rattle.catalog.specs.Catalogs.{
   master_named,
   key_named,
   table_named,
-  master_place,
-  key_place,
-  table_place,
-  value_told,
-  told_under,
+  master_position,
+  key_position,
+  table_position,
+  described_value,
+  described_under,
   is_value_under,
   has_value,
   is_master_used,
@@ -60,15 +60,15 @@ use Rattle.single_value_laws.specs.Single.{IsSingle}
 
 -- the key has one value, which is told as this of its number; and no later key gets the number
 abbrev pub IsAs : Catalog → (ℕ → KeyValue) → ColumnKey → Type 0
-IsAs c told key = (key.id < c.next_id) × (value_told c key.values.first ≡ Some (told key.id)) × IsSingle key.values
+IsAs c known key = (key.id < c.next_id) × (described_value c key.values.first ≡ Some (known key.id)) × IsSingle key.values
 
 abbrev pub AreAs : Catalog → (ℕ → KeyValue) → Type 0
-AreAs c told = All (IsAs c told) c.keys
+AreAs c known = All (IsAs c known) c.keys
 
 -- the keys of a later catalog: what was told of the numbers before stays
-pub record Goes (old : Catalog) (told : ℕ → KeyValue) (new : Catalog) : Type 0 where
+pub record Goes (old : Catalog) (known : ℕ → KeyValue) (new : Catalog) : Type 0 where
   pub later : ℕ → KeyValue
-  pub same : (id : ℕ) → id < old.next_id → later id ≡ told id
+  pub same : (id : ℕ) → id < old.next_id → later id ≡ known id
   pub next : old.next_id ≤ new.next_id
   pub are : AreAs new later
 
@@ -90,12 +90,12 @@ find_removed p [] (suc i) f = refl
 find_removed p (x ∷ xs) zero f = let e = f x refl in rw e refl
 find_removed {A = A} p (x ∷ xs) (suc i) f = ap (cond (p x) (Some x)) (find_removed p xs i f)
 
-position_passes : {A : Type 0} (p : A → Bool) (xs : List A) (place : ℕ) (x : A) → position p xs ≡ Some place → slice_get xs place ≡ Some x → p x ≡ true
-position_passes p xs place x e g =
-    let n = cond_some (nat_lt (position_or_len p xs) (length xs)) (position_or_len p xs) place e in
+position_passes : {A : Type 0} (p : A → Bool) (xs : List A) (index : ℕ) (x : A) → position p xs ≡ Some index → slice_get xs index ≡ Some x → p x ≡ true
+position_passes p xs index x e g =
+    let n = cond_some (nat_lt (position_or_len p xs) (length xs)) (position_or_len p xs) index e in
     let lt : position_or_len p xs < length xs = let b = n.0 in grind (arith, nat_tests) in
     let h = passes_at_first p xs x lt in
-    let at : get_or xs (position_or_len p xs) x ≡ x = ap (λ i. get_or xs i x) n.1 ∙ get_or_from_slice_get xs place x x g in
+    let at : get_or xs (position_or_len p xs) x ≡ x = ap (λ i. get_or xs i x) n.1 ∙ get_or_from_slice_get xs index x x g in
     ap p (sym at) ∙ h
 
 -- what is found is one of the list
@@ -115,9 +115,9 @@ none_pass p (x ∷ xs) e =
 
 -- ---- definitions
 
-module _ (c : Catalog) (told : ℕ → KeyValue) (k : AreAs c told) where
+module _ (c : Catalog) (known : ℕ → KeyValue) (k : AreAs c known) where
   abbrev pub IfDone : Result Catalog SqlFault → Type 0
-  IfDone (Ok next) = Goes c told next
+  IfDone (Ok next) = Goes c known next
   IfDone (Err f) = Unit {0}
 
   done_if : (b : Bool) (x y : Result Catalog SqlFault) → IfDone x → (b ≡ false → IfDone y) → IfDone (cond b x y)
@@ -125,26 +125,26 @@ module _ (c : Catalog) (told : ℕ → KeyValue) (k : AreAs c told) where
   done_if false x y h g = g refl
 
   -- nothing else is told, and no key is made
-  kept : (next : Catalog) → next.next_id ≡ c.next_id → AreAs next told → Goes c told next
-  kept next e are = record { later = told; same = λ id lt. refl; next = omega (arith, e); are = are }
+  kept : (next : Catalog) → next.next_id ≡ c.next_id → AreAs next known → Goes c known next
+  kept next e are = record { later = known; same = λ id lt. refl; next = omega (arith, e); are = are }
 
-  pub stays : Goes c told c
+  pub stays : Goes c known c
   stays = kept c refl k
 
   -- with the same keys
-  pub same_keys : (next : Catalog) → next.masters ≡ c.masters → next.keys ≡ c.keys → next.next_id ≡ c.next_id → Goes c told next
-  same_keys next masters keys id = kept next id (subst (All (IsAs next told)) (sym keys) (All-weaker (IsAs c told) (IsAs next told) so c.keys k))
+  pub same_keys : (next : Catalog) → next.masters ≡ c.masters → next.keys ≡ c.keys → next.next_id ≡ c.next_id → Goes c known next
+  same_keys next masters keys id = kept next id (subst (All (IsAs next known)) (sym keys) (All-weaker (IsAs c known) (IsAs next known) so c.keys k))
     where
-      so : (key : ColumnKey) → IsAs c told key → IsAs next told key
+      so : (key : ColumnKey) → IsAs c known key → IsAs next known key
       so key h =
           let lt = h.0 in
           let value = key.values.first in
-          (omega (arith, lt, id), ap (λ ms. option_map (told_under value) (find (λ (m : MasterKey). bytes_eq m.name value.master) ms)) masters ∙ h.1, h.2)
+          (omega (arith, lt, id), ap (λ ms. option_map (described_under value) (find (λ (m : MasterKey). bytes_eq m.name value.master) ms)) masters ∙ h.1, h.2)
 
-  told_so : (value : EncryptedValue) (o q : Option MasterKey) (t : KeyValue) → ((x : MasterKey) → o ≡ Some x → q ≡ Some x)
-      → option_map (told_under value) o ≡ Some t → option_map (told_under value) q ≡ Some t
-  told_so value None q t f e = absurd cc
-  told_so value (Some x) q t f e = let g = f x refl in rw g e
+  known_so : (value : EncryptedValue) (o q : Option MasterKey) (t : KeyValue) → ((x : MasterKey) → o ≡ Some x → q ≡ Some x)
+      → option_map (described_under value) o ≡ Some t → option_map (described_under value) q ≡ Some t
+  known_so value None q t f e = absurd cc
+  known_so value (Some x) q t f e = let g = f x refl in rw g e
 
   -- ---- CREATE
 
@@ -160,20 +160,20 @@ module _ (c : Catalog) (told : ℕ → KeyValue) (k : AreAs c told) where
       next : Catalog
       next = record c { masters = c.masters ++ made ∷ []; version = c.version + 1 }
 
-      first : (key : ColumnKey) → value_told c key.values.first ≡ Some (told key.id) → value_told next key.values.first ≡ Some (told key.id)
+      first : (key : ColumnKey) → described_value c key.values.first ≡ Some (known key.id) → described_value next key.values.first ≡ Some (known key.id)
       first key e =
           let v = key.values.first in
-          told_so v (master_named c v.master) (master_named next v.master) (told key.id)
+          known_so v (master_named c v.master) (master_named next v.master) (known key.id)
           (λ x h. find_more (λ (master : MasterKey). bytes_eq master.name v.master) c.masters (made ∷ []) x h) e
 
   key_made : (name : List ℕ) (values : OneOrTwo EncryptedValue) (x : MasterKey) → IsSingle values → master_named c values.first.master ≡ Some x
-      → Goes c told (record c { keys = c.keys ++ record { id = c.next_id; name = name; values = values } ∷ []; next_id = c.next_id + 1; version = c.version + 1 })
+      → Goes c known (record c { keys = c.keys ++ record { id = c.next_id; name = name; values = values } ∷ []; next_id = c.next_id + 1; version = c.version + 1 })
   key_made name values x one m = record {
     later = later;
     same = same;
     next = omega arith;
     are = All-append (IsAs next later) c.keys (made ∷ []) (λ i d lt. let key = k i d lt in let b = key.0 in (omega (arith, b), key.1 ∙ ap Some (sym (same (get_or c.keys i d).id key.0)), key.2))
-        (All-cons (IsAs next later) made [] (omega arith, ap (option_map (told_under values.first)) m ∙ ap Some (sym new), one) (All-nil (IsAs next later)));
+        (All-cons (IsAs next later) made [] (omega arith, ap (option_map (described_under values.first)) m ∙ ap Some (sym new), one) (All-nil (IsAs next later)));
   }
     where
       made : ColumnKey
@@ -183,19 +183,19 @@ module _ (c : Catalog) (told : ℕ → KeyValue) (k : AreAs c told) where
       next = record c { keys = c.keys ++ made ∷ []; next_id = c.next_id + 1; version = c.version + 1 }
 
       later : ℕ → KeyValue
-      later id = cond (id == c.next_id) (told_under values.first x) (told id)
+      later id = cond (id == c.next_id) (described_under values.first x) (known id)
 
-      same : (id : ℕ) → id < c.next_id → later id ≡ told id
+      same : (id : ℕ) → id < c.next_id → later id ≡ known id
       same id lt = at (id == c.next_id) refl
         where
-          at : (b : Bool) → (id == c.next_id) ≡ b → cond b (told_under values.first x) (told id) ≡ told id
+          at : (b : Bool) → (id == c.next_id) ≡ b → cond b (described_under values.first x) (known id) ≡ known id
           at true e = let s = eqb-true id c.next_id e in absurd (omega (arith, s, lt))
           at false e = refl
 
-      new : later c.next_id ≡ told_under values.first x
+      new : later c.next_id ≡ described_under values.first x
       new = at (c.next_id == c.next_id) refl
         where
-          at : (b : Bool) → (c.next_id == c.next_id) ≡ b → cond b (told_under values.first x) (told c.next_id) ≡ told_under values.first x
+          at : (b : Bool) → (c.next_id == c.next_id) ≡ b → cond b (described_under values.first x) (known c.next_id) ≡ described_under values.first x
           at true e = refl
           at false e = absurd (grind (arith, e))
 
@@ -205,7 +205,7 @@ module _ (c : Catalog) (told : ℕ → KeyValue) (k : AreAs c told) where
       (λ e. done_if (is_full_of_keys c) (Err fault.Full) (Ok _) tt (λ f. at (master_named c values.first.master) refl there))
     where
       at : (o : Option MasterKey) → master_named c values.first.master ≡ o → IsSome o
-          → Goes c told (record c { keys = c.keys ++ record { id = c.next_id; name = name; values = values } ∷ []; next_id = c.next_id + 1; version = c.version + 1 })
+          → Goes c known (record c { keys = c.keys ++ record { id = c.next_id; name = name; values = values } ∷ []; next_id = c.next_id + 1; version = c.version + 1 })
       at None e s = absurd cc
       at (Some x) e s = key_made name values x one e
 
@@ -241,14 +241,14 @@ module _ (c : Catalog) (told : ℕ → KeyValue) (k : AreAs c told) where
           (or_fault (fault.KeyInUse name) (other_value master key.values) >>= λ value. cond (is_at_last_version c) (Err fault.Full) (Ok (with_values c name (only value)))))
       at None e = tt
       at (Some key) e =
-          let one : IsSingle key.values = (found_all (IsAs c told) (λ (key : ColumnKey). bytes_eq key.name name) c.keys key e k).2 in
+          let one : IsSingle key.values = (found_all (IsAs c known) (λ (key : ColumnKey). bytes_eq key.name name) c.keys key e k).2 in
           done_if (not (has_value master key.values)) (Err (fault.NoSuch master)) _ tt
           (λ h. left key (other_value master key.values) (none_left master key.values one h))
 
   -- ---- DROP
 
   no_master_goes : (name : List ℕ) → IfDone (without_master c name)
-  no_master_goes name = at (master_place c name) refl
+  no_master_goes name = at (master_position c name) refl
     where
       differs : (a b d : List ℕ) → bytes_eq a b ≡ true → bytes_eq d b ≡ false → bytes_eq a d ≡ false
       differs a b d e f = at (bytes_eq a d) refl
@@ -261,54 +261,54 @@ module _ (c : Catalog) (told : ℕ → KeyValue) (k : AreAs c told) where
           at false g = g
 
       -- a value of another master key is told as it was
-      first : (place : ℕ) → master_place c name ≡ Some place → (value : EncryptedValue) (t : KeyValue) → is_value_under name value ≡ false → value_told c value ≡ Some t
-          → value_told (record c { masters = remove c.masters place; version = c.version + 1 }) value ≡ Some t
-      first place p value t other e =
-          let gone : (x : MasterKey) → slice_get c.masters place ≡ Some x → bytes_eq x.name value.master ≡ false = λ x s.
-          differs x.name name value.master (position_passes (λ (master : MasterKey). bytes_eq master.name name) c.masters place x p s) other in
-          let same = find_removed (λ (master : MasterKey). bytes_eq master.name value.master) c.masters place gone in
-          ap (option_map (told_under value)) same ∙ e
+      first : (index : ℕ) → master_position c name ≡ Some index → (value : EncryptedValue) (t : KeyValue) → is_value_under name value ≡ false → described_value c value ≡ Some t
+          → described_value (record c { masters = remove c.masters index; version = c.version + 1 }) value ≡ Some t
+      first index p value t other e =
+          let gone : (x : MasterKey) → slice_get c.masters index ≡ Some x → bytes_eq x.name value.master ≡ false = λ x s.
+          differs x.name name value.master (position_passes (λ (master : MasterKey). bytes_eq master.name name) c.masters index x p s) other in
+          let same = find_removed (λ (master : MasterKey). bytes_eq master.name value.master) c.masters index gone in
+          ap (option_map (described_under value)) same ∙ e
 
-      at : (o : Option ℕ) → master_place c name ≡ o
-          → IfDone (or_fault (fault.NoSuch name) o >>= λ place. cond (is_master_used c name) (Err (fault.KeyInUse name))
-          (cond (is_at_last_version c) (Err fault.Full) (Ok (record c { masters = remove c.masters place; version = c.version + 1 }))))
+      at : (o : Option ℕ) → master_position c name ≡ o
+          → IfDone (or_fault (fault.NoSuch name) o >>= λ index. cond (is_master_used c name) (Err (fault.KeyInUse name))
+          (cond (is_at_last_version c) (Err fault.Full) (Ok (record c { masters = remove c.masters index; version = c.version + 1 }))))
       at None p = tt
-      at (Some place) p =
+      at (Some index) p =
           done_if (is_master_used c name) (Err (fault.KeyInUse name)) _ tt
           (λ u. done_if (is_at_last_version c) (Err fault.Full) (Ok _) tt
-          (λ l. kept (record c { masters = remove c.masters place; version = c.version + 1 }) refl
+          (λ l. kept (record c { masters = remove c.masters index; version = c.version + 1 }) refl
           (λ i d lt.
           let key = k i d lt in
           let unused = none_pass (λ (key : ColumnKey). has_value name key.values) c.keys u i d lt in
           let other = or_parts (is_value_under name (get_or c.keys i d).values.first) _ unused in
-          (key.0, first place p (get_or c.keys i d).values.first (told (get_or c.keys i d).id) other.0 key.1, key.2))))
+          (key.0, first index p (get_or c.keys i d).values.first (known (get_or c.keys i d).id) other.0 key.1, key.2))))
 
   no_key_goes : (name : List ℕ) → IfDone (without_key c name)
-  no_key_goes name = at (key_place c name)
+  no_key_goes name = at (key_position c name)
     where
       at : (o : Option ℕ)
-          → IfDone (or_fault (fault.NoSuch name) o >>= λ place. cond (is_key_used c name) (Err (fault.KeyInUse name))
-          (cond (is_at_last_version c) (Err fault.Full) (Ok (record c { keys = remove c.keys place; version = c.version + 1 }))))
+          → IfDone (or_fault (fault.NoSuch name) o >>= λ index. cond (is_key_used c name) (Err (fault.KeyInUse name))
+          (cond (is_at_last_version c) (Err fault.Full) (Ok (record c { keys = remove c.keys index; version = c.version + 1 }))))
       at None = tt
-      at (Some place) =
+      at (Some index) =
           done_if (is_key_used c name) (Err (fault.KeyInUse name)) _ tt
           (λ u. done_if (is_at_last_version c) (Err fault.Full) (Ok _) tt
-          (λ l. kept (record c { keys = remove c.keys place; version = c.version + 1 }) refl (All-remove (IsAs c told) c.keys place k)))
+          (λ l. kept (record c { keys = remove c.keys index; version = c.version + 1 }) refl (All-remove (IsAs c known) c.keys index k)))
 
   no_table_goes : (name : List ℕ) → IfDone (without_table c name)
-  no_table_goes name = at (table_place c name)
+  no_table_goes name = at (table_position c name)
     where
       at : (o : Option ℕ)
-          → IfDone (or_fault (fault.NoSuch name) o >>= λ place. cond (is_at_last_version c) (Err fault.Full) (Ok (record c { tables = remove c.tables place; version = c.version + 1 })))
+          → IfDone (or_fault (fault.NoSuch name) o >>= λ index. cond (is_at_last_version c) (Err fault.Full) (Ok (record c { tables = remove c.tables index; version = c.version + 1 })))
       at None = tt
-      at (Some place) = done_if (is_at_last_version c) (Err fault.Full) (Ok _) tt (λ l. kept (record c { tables = remove c.tables place; version = c.version + 1 }) refl k)
+      at (Some index) = done_if (is_at_last_version c) (Err fault.Full) (Ok _) tt (λ l. kept (record c { tables = remove c.tables index; version = c.version + 1 }) refl k)
 
   -- ---- REPLACE BY
 
   replacement_goes : (old new : List ℕ) → IfDone (with_replacement c old new)
   replacement_goes old new =
       done_if (is_at_last_version c) (Err fault.Full) (Ok _) tt
-      (λ l. kept (record c { tables = renamed_tables new old (remove c.tables (unwrap_or (table_place c old) 0)); version = c.version + 1 }) refl k)
+      (λ l. kept (record c { tables = renamed_tables new old (remove c.tables (unwrap_or (table_position c old) 0)); version = c.version + 1 }) refl k)
 
   -- ---- each
 

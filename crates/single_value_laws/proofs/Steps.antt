@@ -108,15 +108,16 @@ binds_one catalog s declarations b one e = at (resolution catalog s declarations
 
 -- ---- what a step leaves
 
-module _ (w : World) (told : ℕ → KeyValue) (k : AreAs w.catalog told) where
+module _ (w : World) (known : ℕ → KeyValue) (k : AreAs w.catalog known) where
   abbrev LeadsOn : Result Done SqlFault → Type 0
-  LeadsOn r = Goes w.catalog told (outcome w r).world.catalog
+  LeadsOn r = Goes w.catalog known (outcome w r).world.catalog
 
-  abbrev here : Goes w.catalog told w.catalog
-  here = stays w.catalog told k
+  abbrev here : Goes w.catalog known w.catalog
+  here = stays w.catalog known k
 
   -- by a definition
-  defined_leads : (r : Result Catalog SqlFault) (f : Catalog → Result Done SqlFault) → IfDone w.catalog told k r → ((next : Catalog) → Goes w.catalog told next → LeadsOn (f next)) → LeadsOn (r >>= f)
+  defined_leads : (r : Result Catalog SqlFault) (f : Catalog → Result Done SqlFault) → IfDone w.catalog known k r → ((next : Catalog) → Goes w.catalog known next → LeadsOn (f next))
+      → LeadsOn (r >>= f)
   defined_leads (Ok next) f h go = go next h
   defined_leads (Err e) f h go = here
 
@@ -126,12 +127,12 @@ module _ (w : World) (told : ℕ → KeyValue) (k : AreAs w.catalog told) where
   found_leads (Err e) f go = here
 
   statement_leads : (b : Bound) (encs : List Enc) (s : BoundStatement) (params : List Atom) → MayDefine w.catalog s → GivesOneIn s → LeadsOn (done_by w b encs s params)
-  statement_leads b encs (bound.Definition d) params m one = defined_leads (defined_by w.catalog d) _ (definition_goes w.catalog told k d m one) (λ next h. h)
+  statement_leads b encs (bound.Definition d) params m one = defined_leads (defined_by w.catalog d) _ (definition_goes w.catalog known k d m one) (λ next h. h)
   statement_leads b encs (bound.Insert i) params m one = found_leads (rows_to_insert w i params) _ (λ rows. here)
   statement_leads b encs (bound.Update u) params m one = found_leads (rows_to_update w u params) _ (λ kept. here)
   statement_leads b encs (bound.Delete d) params m one = found_leads (rows_to_delete w d params) _ (λ kept. here)
   statement_leads b encs (bound.Select q) params m one = found_leads (found_in w q params) _ (λ rows. here)
   statement_leads b encs (bound.Control c) params m one = here
 
-  pub step_leads : (b : Bound) (encs : List Enc) (params : List Atom) → MayDefine w.catalog b.statement → GivesOneIn b.statement → Goes w.catalog told (step w b encs params).world.catalog
+  pub step_leads : (b : Bound) (encs : List Enc) (params : List Atom) → MayDefine w.catalog b.statement → GivesOneIn b.statement → Goes w.catalog known (step w b encs params).world.catalog
   step_leads b encs params m one = statement_leads b encs b.statement params m one

@@ -23,20 +23,20 @@ pub creates_table : (tokens rest : List Token) (at : ℕ) → word keyword.Creat
 creates_table tokens rest at e h =
     behind keyword.Create (choice_by (is_next keyword.Table) create_table create_column) tokens rest at e ∙ here (is_next keyword.Table) create_table create_column rest h
 
-creates_column : (tokens rest after : List Token) (at place : ℕ) → word keyword.Create tokens ≡ Some (at, rest) → is_next keyword.Table rest ≡ false → word keyword.Column rest ≡ Some (place, after)
+creates_column : (tokens rest after : List Token) (at offset : ℕ) → word keyword.Create tokens ≡ Some (at, rest) → is_next keyword.Table rest ≡ false → word keyword.Column rest ≡ Some (offset, after)
     → create tokens ≡ choice_by master_next create_master create_key after
-creates_column tokens rest after at place e h f =
+creates_column tokens rest after at offset e h f =
     behind keyword.Create (choice_by (is_next keyword.Table) create_table create_column) tokens rest at e ∙ away (is_next keyword.Table) create_table create_column rest h
-    ∙ behind keyword.Column (choice_by master_next create_master create_key) rest after place f
+    ∙ behind keyword.Column (choice_by master_next create_master create_key) rest after offset f
 
-pub creates_master : (tokens rest after : List Token) (at place : ℕ) → word keyword.Create tokens ≡ Some (at, rest)
-    → is_next keyword.Table rest ≡ false → word keyword.Column rest ≡ Some (place, after)
+pub creates_master : (tokens rest after : List Token) (at offset : ℕ) → word keyword.Create tokens ≡ Some (at, rest)
+    → is_next keyword.Table rest ≡ false → word keyword.Column rest ≡ Some (offset, after)
     → master_next after ≡ true → create tokens ≡ create_master after
-creates_master tokens rest after at place e h f m = creates_column tokens rest after at place e h f ∙ here master_next create_master create_key after m
+creates_master tokens rest after at offset e h f m = creates_column tokens rest after at offset e h f ∙ here master_next create_master create_key after m
 
-pub creates_key : (tokens rest after : List Token) (at place : ℕ) → word keyword.Create tokens ≡ Some (at, rest) → is_next keyword.Table rest ≡ false → word keyword.Column rest ≡ Some (place, after)
+pub creates_key : (tokens rest after : List Token) (at offset : ℕ) → word keyword.Create tokens ≡ Some (at, rest) → is_next keyword.Table rest ≡ false → word keyword.Column rest ≡ Some (offset, after)
     → master_next after ≡ false → create tokens ≡ create_key after
-creates_key tokens rest after at place e h f m = creates_column tokens rest after at place e h f ∙ away master_next create_master create_key after m
+creates_key tokens rest after at offset e h f m = creates_column tokens rest after at offset e h f ∙ away master_next create_master create_key after m
 
 pub alters_table : (tokens rest : List Token) (at : ℕ) → word keyword.Alter tokens ≡ Some (at, rest) → is_next keyword.Table rest ≡ true → alter tokens ≡ replace_table rest
 alters_table tokens rest at e h =

@@ -30,7 +30,7 @@ with_unique u us = Some (u ∷ us)
 abbrev no_columns : List UniqueSpec → Option Sorted
 no_columns uniques = Some ([], uniques)
 
--- what some columns and lists UNIQUE give with the parts behind them
+-- what some columns and lists UNIQUE give with the parts after them
 abbrev pub sorted_with : List ColumnSpec → List UniqueSpec → List TablePart → Option (List ColumnSpec × List UniqueSpec)
 sorted_with columns [] parts = parts_in parts >>= behind_columns columns
 sorted_with columns (u ∷ us) parts = uniques_in parts >>= behind_uniques columns (u ∷ us)

@@ -108,7 +108,7 @@ fn alter_key(alloc: Global, tokens: &mut Cursor) -> Result<Statement, Refusal>
     Ok(Statement::Definition(Definition::DropValue { key, master }))
 }
 
-/// ALTER TABLE, which puts another table in the place of one.
+/// ALTER TABLE, which replaces one table by another.
 fn replace_table(tokens: &mut Cursor) -> Result<Statement, Refusal>
     ensures { Gives statement_of result tokens.new (parse.replace_table tokens.old) }
 {

@@ -24,7 +24,7 @@ use sql_tree::lexemes::{Keyword, Symbol};
 use sql_tree::statements::{ColumnSpec, Encryption, UniqueSpec};
 use std::alloc::{AllocError, Global};
 
-/// The number in parentheses behind a type's name, where it is there.
+/// The number in parentheses after a type's name, if there is one.
 fn size(tokens: &mut Cursor) -> Result<Option<u64>, Refusal>
     ensures { Gives (λ size. size) result tokens.new
         (optional (terminal.Sign symbol.Open ∷ []) (parse.in_parens parse.number) tokens.old) }
@@ -47,7 +47,7 @@ fn column_type(tokens: &mut Cursor) -> Result<Ty, Refusal>
     }
 }
 
-/// The places of the words of COLLATE, where it is there.
+/// The offsets of the words of COLLATE, if there is one.
 fn collation(tokens: &mut Cursor) -> Result<Option<(u32, u32)>, Refusal>
     ensures { Gives (λ words. words) result tokens.new
         (optional (terminal.Word keyword.Collate ∷ [])
@@ -85,7 +85,7 @@ fn optional_encryption(alloc: Global, tokens: &mut Cursor) -> Result<Option<Encr
     Ok(Some(encryption(alloc, tokens)?))
 }
 
-/// Whether a column refuses NULL, where NULL or NOT NULL is there.
+/// Whether a column refuses NULL, if there is NULL or NOT NULL.
 fn nullity(tokens: &mut Cursor) -> Result<bool, Refusal>
     ensures { Gives (λ not_null. not_null) result tokens.new (parse.nullity tokens.old) }
 {
@@ -195,7 +195,7 @@ pub(crate) struct Parts {
     pub(crate) uniques: Seq<UniqueSpec>,
 }
 
-/// The parts of a table, where its columns stand before its lists UNIQUE.
+/// The parts of a table, if its columns precede its lists UNIQUE.
 #[tactic(auto, using(crate::proofs::Sorting::sort_start, crate::proofs::Sorting::sort_column, crate::proofs::Sorting::sort_late, crate::proofs::Sorting::sort_unique, crate::proofs::Sorting::sort_end))]
 fn sorted(alloc: Global, parts: Seq<TablePart>) -> Result<Option<Parts>, AllocError>
     ensures { IfOk result (λ sorted. option_map parts_of sorted ≡ make.parts_in parts) }

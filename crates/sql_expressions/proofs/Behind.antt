@@ -1,4 +1,4 @@
--- Literals and conjunctions behind the first.
+-- Literals and conjunctions after the first.
 use Rattle.std.proofs.Common.{◌≡◌, List, Option, Some, None, refl, ◌∙◌, ap}
 use Rattle.sql_tree.specs.declared.lexemes.Token.{Token}
 use Rattle.sql_tree.specs.Statements.{Operand, Condition}

@@ -21,7 +21,7 @@ pub goes_fails : {A : Type 0} (set : List Terminal) (item : Reading A) (tokens :
 goes_fails set item tokens front rest (Fault f) g here h = (h.0, goes_nowhere set item tokens front rest g here h.1)
 goes_fails set item tokens front rest OutOfMemory g here h = tt
 
--- the first of some things with commas between is read, and others behind it
+-- the first of some things with commas between is read, and others after it
 pub record Lists {A : Type 0} (item : Reading A) (tokens : List Token) (xs : List A) (rest : List Token) : Type 0 where
   pub first : A
   pub mid : List Token
@@ -63,7 +63,7 @@ first_fails item tokens OutOfMemory h = tt
 pushed : {X A : Type 0} (view : X → A) (xs ys : List X) (x : X) → ys ≡ xs ++ x ∷ [] → map view xs ++ view x ∷ [] ≡ map view ys
 pushed view xs ys x e = sym (map-append view xs (x ∷ [])) ∙ ap (map view) (sym e)
 
--- one more thing is read and put behind those so far
+-- one more thing is read and put after those so far
 pub goes_push : {X A : Type 0} (view : X → A) (set : List Terminal) (item : Reading A) → Shortens item → (tokens : List Token) (xs ys : List X) (x : X) (rest after : List Token)
     → Goes set item tokens (map view xs) rest → next_among set rest ≡ true → item rest ≡ Some (view x, after) → ys ≡ xs ++ x ∷ [] → Goes set item tokens (map view ys) after
 goes_push {A = A} view set item p tokens xs ys x rest after g here e f =

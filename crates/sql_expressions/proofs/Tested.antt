@@ -1,4 +1,4 @@
--- The rest of a sum, and the test behind it.
+-- The rest of a sum, and the test after it.
 use Rattle.std.proofs.Common.{◌≡◌, List, Option, Some, None, ap, ◌∙◌}
 use Rattle.sql_tree.specs.declared.lexemes.Token.{Token}
 use Rattle.sql_tree.specs.Statements.{Operand}
@@ -17,7 +17,7 @@ after_terms s first left (Some read) tokens mid rest t e f =
     let tested : s read.1 ≡ Some (t, rest) = ap s same.second ∙ f in
     rw tested (ap (λ (o : Operand). Some (with_test_of o t, rest)) same.first)
 
--- the terms behind the first, and the test behind them
+-- the terms after the first, and the test after them
 pub sum_then_test : (r : Reading Operand) (first left : Operand) (tokens mid rest : List Token) (t : Option Test) (i : Inner) → sum_from r first tokens ≡ Some (left, mid)
     → optional test_begins test mid ≡ Some (t, rest) → with_test_of left t ≡ i → rest_of_sum r first tokens ≡ Some (i, rest)
 sum_then_test r first left tokens mid rest t i e f g =

@@ -32,13 +32,13 @@ inner_of (code_inner.TheVariants.Computes operand) = make.Computes (operand_of o
 inner_of (code_inner.TheVariants.Asks condition) = make.Asks (condition_of condition)
 
 -- a token is somewhere
-abbrev pub at_place : Token → Option ℕ
-at_place t = Some t.at
+abbrev pub at_offset : Token → Option ℕ
+at_offset t = Some t.at
 
--- a literal with those behind it
+-- a literal with those after it
 abbrev pub all_from : Reading Operand → Reading Inner → Condition → Reading Condition
 all_from r q first = made (λ more. Some (make.all_with first more)) (and_literals r q)
 
--- a conjunction with those behind it
+-- a conjunction with those after it
 abbrev pub any_from : Reading Operand → Reading Inner → Condition → Reading Inner
 any_from r q first = made (λ more. Some (Asks (make.any_with first more))) (or_conjunctions r q)

@@ -43,7 +43,7 @@ pub(crate) enum Test {
     },
 }
 
-/// What stands in parentheses.
+/// The content of parentheses.
 #[derive(Drop)]
 pub(crate) enum Inner {
     Computes(OperandTree),
@@ -64,7 +64,7 @@ fn comparison_of(lexeme: &Lexeme) -> Option<Comparison>
     }
 }
 
-/// A sign that compares, and its place.
+/// A sign that compares, and its offset.
 fn comparison(tokens: &mut Cursor) -> Result<(u32, Comparison), Refusal>
     ensures { Gives (λ compared. compared) result tokens.new (one make.comparison_in tokens.old) }
 {
@@ -182,7 +182,7 @@ fn optional_test(alloc: Global, tokens: &mut Cursor) -> Result<Option<Test>, Ref
     Ok(Some(test_of_operand(alloc, tokens)?))
 }
 
-/// What an operand with the terms behind it computes, or what is asked of them.
+/// What an operand with the terms after it computes, or what is asked of them.
 fn with_rest(left: OperandTree, test: Option<Test>) -> Inner
     ensures { make.with_test_of (operand_of left) (option_map test_of test) ≡ inner_of result }
 {
@@ -192,7 +192,7 @@ fn with_rest(left: OperandTree, test: Option<Test>) -> Inner
     }
 }
 
-/// The rest of a sum, and the test behind it.
+/// The rest of a sum, and the test after it.
 fn rest_of_sum(
     alloc: Global,
     tokens: &mut Cursor,
@@ -229,7 +229,7 @@ pub fn condition(alloc: Global, tokens: &mut Cursor) -> Result<ConditionTree, Re
     only_asks(inner_in(alloc, tokens, MOST_OPEN_PARENTHESES)?)
 }
 
-/// What stands in parentheses, in which so many more may be open.
+/// The content of parentheses, with at most `depth` more open ones.
 #[cycle(condition)]
 #[tactic(auto, using(crate::proofs::Chosen::inner_in_is))]
 fn inner_in(alloc: Global, tokens: &mut Cursor, depth: usize) -> Result<Inner, Refusal>
@@ -239,7 +239,7 @@ fn inner_in(alloc: Global, tokens: &mut Cursor, depth: usize) -> Result<Inner, R
     after_literal(alloc, tokens, depth, first)
 }
 
-/// What stands in parentheses, with them.
+/// Parentheses with their content.
 #[cycle(condition)]
 #[tactic(auto, using(crate::proofs::Chosen::inner_parens_is))]
 fn parenthesised(alloc: Global, tokens: &mut Cursor, depth: usize) -> Result<Inner, Refusal>
@@ -352,7 +352,7 @@ fn and_literal(alloc: Global, tokens: &mut Cursor, depth: usize) -> Result<Condi
     literal(alloc, tokens, depth)
 }
 
-/// The literals behind the first.
+/// The literals after the first.
 #[cycle(condition)]
 #[tactic(auto, using(crate::proofs::Listing::goes_fails, crate::proofs::Ends::goes_end))]
 fn and_literals(
@@ -389,7 +389,7 @@ fn all_of(first: ConditionTree, more: Seq<ConditionTree>) -> Result<ConditionTre
     Ok(Condition::AllOf(before(first, more)?))
 }
 
-/// A literal with those behind it.
+/// A literal with those after it.
 #[cycle(condition)]
 fn all_from(
     alloc: Global,
@@ -432,7 +432,7 @@ fn or_conjunction(
     conjunction(alloc, tokens, depth)
 }
 
-/// The conjunctions behind the first.
+/// The conjunctions after the first.
 #[cycle(condition)]
 #[tactic(auto, using(crate::proofs::Listing::goes_fails, crate::proofs::Ends::goes_end))]
 fn or_conjunctions(
@@ -460,7 +460,7 @@ fn any_of(first: ConditionTree, more: Seq<ConditionTree>) -> Result<ConditionTre
     Ok(Condition::AnyOf(before(first, more)?))
 }
 
-/// A conjunction with those behind it.
+/// A conjunction with those after it.
 #[cycle(condition)]
 fn any_from(
     alloc: Global,
@@ -481,7 +481,7 @@ fn any_from(
     }
 }
 
-/// The rest of a condition behind its first literal.
+/// The rest of a condition after its first literal.
 #[cycle(condition)]
 #[tactic(auto, using(crate::proofs::Behind::with_more_fails))]
 fn with_more(

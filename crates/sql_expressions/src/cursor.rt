@@ -12,7 +12,7 @@ ghost use Rattle.sql_grammar.specs.Readers.{is_keyword, is_symbol, member, next_
 ghost use Rattle.sql_grammar.specs.Making as make;
 ghost use Rattle.sql_grammar.specs.Parse as parse;
 ghost use Rattle.sql_expressions.specs.Reads.{Gives};
-ghost use Rattle.sql_expressions.specs.Views.{at_place};
+ghost use Rattle.sql_expressions.specs.Views.{at_offset};
 
 use ae_base::blobs::Blob;
 use ae_base::faults::SqlFault;
@@ -197,10 +197,10 @@ impl Cursor {
             }
     }
 
-    /// The place of the next token, which is passed.
-    fn place(&mut self) -> Option<u32>
+    /// The offset of the next token, which is passed.
+    fn offset(&mut self) -> Option<u32>
         ensures { MatchOption result (self.old ≡ [])
-            (λ at. one at_place self.old ≡ Some (at, self.new)) }
+            (λ at. one at_offset self.old ≡ Some (at, self.new)) }
     {
         let token = self.next()?;
         let at = token.at;
@@ -208,7 +208,7 @@ impl Cursor {
         Some(at)
     }
 
-    /// A keyword, and its place.
+    /// A keyword, and its offset.
     #[tactic(auto, using(crate::proofs::There::word_there, crate::proofs::There::word_away))]
     pub fn word(&mut self, keyword: Keyword) -> Result<u32, Refusal>
         ensures { Gives (λ at. at) result self.new (parse.word keyword self.old) }
@@ -216,13 +216,13 @@ impl Cursor {
         if !self.next_is(keyword) {
             return Err(syntax());
         }
-        match self.place() {
+        match self.offset() {
             Some(at) => Ok(at),
             None => Err(syntax()),
         }
     }
 
-    /// A symbol, and its place.
+    /// A symbol, and its offset.
     #[tactic(auto, using(crate::proofs::There::sign_there, crate::proofs::There::sign_away))]
     pub fn sign(&mut self, symbol: Symbol) -> Result<u32, Refusal>
         ensures { Gives (λ at. at) result self.new (parse.sign symbol self.old) }
@@ -230,13 +230,13 @@ impl Cursor {
         if !self.next_is_sign(symbol) {
             return Err(syntax());
         }
-        match self.place() {
+        match self.offset() {
             Some(at) => Ok(at),
             None => Err(syntax()),
         }
     }
 
-    /// The place of a keyword, where it is next.
+    /// The offset of a keyword, where it is next.
     #[tactic(auto, using(crate::proofs::There::no_word, crate::proofs::There::one_word))]
     pub fn optional_word(&mut self, keyword: Keyword) -> Option<u32>
         ensures { optional (terminal.Word keyword ∷ []) (parse.word keyword) self.old
@@ -245,10 +245,10 @@ impl Cursor {
         if !self.next_is(keyword) {
             return None;
         }
-        Some(self.place()?)
+        Some(self.offset()?)
     }
 
-    /// The place of a symbol, where it is next.
+    /// The offset of a symbol, where it is next.
     #[tactic(auto, using(crate::proofs::There::no_sign, crate::proofs::There::one_sign))]
     pub fn optional_sign(&mut self, symbol: Symbol) -> Option<u32>
         ensures { optional (terminal.Sign symbol ∷ []) (parse.sign symbol) self.old
@@ -257,10 +257,10 @@ impl Cursor {
         if !self.next_is_sign(symbol) {
             return None;
         }
-        Some(self.place()?)
+        Some(self.offset()?)
     }
 
-    /// An identifier that reads as a word in capitals, and its place.
+    /// An identifier that reads as a word in capitals, and its offset.
     #[tactic(auto, using(crate::proofs::There::reads_there, crate::proofs::There::reads_away))]
     pub fn reads(&mut self, capitals: &str) -> Result<u32, Refusal>
         requires { IsTrue (list_all is_capital capitals.now) }
@@ -269,7 +269,7 @@ impl Cursor {
         if !self.next_reads(capitals) {
             return Err(syntax());
         }
-        match self.place() {
+        match self.offset() {
             Some(at) => Ok(at),
             None => Err(syntax()),
         }
@@ -290,7 +290,7 @@ impl Cursor {
         }
     }
 
-    /// An identifier at its place.
+    /// An identifier at its offset.
     pub(crate) fn placed_name(&mut self) -> Result<NameAt, Refusal>
         ensures { Gives (λ name. name) result self.new (parse.placed_name self.old) }
     {
@@ -335,7 +335,7 @@ impl Cursor {
         }
     }
 
-    /// A text that is the one, and its place.
+    /// A text that is the one, and its offset.
     pub fn is_text(&mut self, text: &str) -> Result<u32, Refusal>
         ensures { Gives (λ at. at) result self.new (parse.is_text text.now self.old) }
     {

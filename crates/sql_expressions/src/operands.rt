@@ -143,7 +143,7 @@ fn primary(alloc: Global, tokens: &mut Cursor, depth: usize) -> Result<OperandTr
     column_or_leaf(tokens)
 }
 
-/// A primary behind a minus.
+/// A primary after a minus.
 #[cycle(operand)]
 fn minus(alloc: Global, tokens: &mut Cursor, depth: usize) -> Result<OperandTree, Refusal>
     ensures { Gives operand_of result tokens.new
@@ -183,7 +183,7 @@ pub(crate) fn bare_term(
     column_or_leaf(tokens)
 }
 
-/// A term behind the first, at its sign.
+/// A term after the first, at its sign.
 #[cycle(operand)]
 fn signed(
     alloc: Global,
@@ -202,7 +202,7 @@ fn signed(
     })
 }
 
-/// A plus or a minus, and its place.
+/// A plus or a minus, and its offset.
 fn sign(tokens: &mut Cursor) -> Result<(bool, u32), Refusal>
     ensures { Gives (λ sign. sign) result tokens.new (one make.sign_in tokens.old) }
 {
@@ -230,7 +230,7 @@ fn next_is_signed(tokens: &Cursor) -> bool
     tokens.next_is_any(&[], &[Symbol::Plus, Symbol::Minus])
 }
 
-/// The terms behind the first.
+/// The terms after the first.
 #[cycle(operand)]
 #[tactic(auto, using(crate::proofs::Listing::goes_fails, crate::proofs::Ends::goes_end))]
 fn terms(

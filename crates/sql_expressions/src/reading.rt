@@ -57,7 +57,7 @@ impl Reader for NameReader {
     ghost shortens = { name_shortens };
 }
 
-/// Reads a name at its place.
+/// Reads a name at its offset.
 pub struct PlacedNameReader;
 
 impl Reader for PlacedNameReader {
@@ -93,7 +93,7 @@ pub fn listed<R: Reader>(alloc: Global, tokens: &mut Cursor) -> Result<Seq<R::Pa
     Ok(items)
 }
 
-/// What stands behind a comma.
+/// What follows a comma.
 fn behind_comma<R: Reader>(alloc: Global, tokens: &mut Cursor) -> Result<R::Part, Refusal>
     ensures { Gives R.view result tokens.new (parse.behind_comma R.reading tokens.old) }
 {

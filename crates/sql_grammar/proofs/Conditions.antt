@@ -37,11 +37,11 @@ use Rattle.sql_grammar.proofs.Operands.{nowhere_agrees, column_ref_agrees, prima
 
 -- the same under other words
 pub agrees_as : {A : Type 0} {a : List Terminal} {none : Bool} {g : List Terminal} {r : Reading A} {S : Spelling A} (T : Spelling A) → Agrees a none g r S
-    → ((x : A) (front : List Token) → S x front → T x front) → ((x : A) (front : List Token) → T x front → S x front) → Agrees a none g r T
+    → ((x : A) (prefix : List Token) → S x prefix → T x prefix) → ((x : A) (prefix : List Token) → T x prefix → S x prefix) → Agrees a none g r T
 agrees_as T p there back = record {
-  sound = λ tokens x rest e. let f = p.sound tokens x rest e in record { front = f.front; same = f.same; holds = there x f.front f.holds };
-  starts = λ x front k. p.starts x front (back x front k);
-  complete = λ x front tokens rest k e last. p.complete x front tokens rest (back x front k) e last;
+  sound = λ tokens x rest e. let f = p.sound tokens x rest e in record { prefix = f.prefix; same = f.same; holds = there x f.prefix f.holds };
+  starts = λ x prefix k. p.starts x prefix (back x prefix k);
+  complete = λ x prefix tokens rest k e last. p.complete x prefix tokens rest (back x prefix k) e last;
 }
 
 -- ---- one predicate, or an operand alone
@@ -73,47 +73,47 @@ some_is a b e = cc
 computed : (a b : Operand) → Some (Computes a) ≡ Some (Computes b) → a ≡ b
 computed a b e = cc
 
-bare_term_is : (P : Spelling Operand) (operand : Operand) (front : List Token) → Bare P operand front → SpellsTerm P operand front
-bare_term_is P operand front (inl k) = inl k
-bare_term_is P operand front (inr k) = inr (inr k)
+bare_term_is : (P : Spelling Operand) (operand : Operand) (prefix : List Token) → Bare P operand prefix → SpellsTerm P operand prefix
+bare_term_is P operand prefix (inl k) = inl k
+bare_term_is P operand prefix (inr k) = inr (inr k)
 
 first_term : (P : Spelling Operand) (C : Spelling Condition) (Q : Spelling Inner) → Between P C Q
-    → (operand : Operand) (front : List Token) → First P Q (Computes operand) front → SpellsTerm P operand front
-first_term P C Q between operand front (inl k) = inr (inl (between.computes_in operand front k))
-first_term P C Q between operand front (inr k) = subst (λ (o : Operand). SpellsTerm P o front) (computed k.0 operand k.1) (bare_term_is P k.0 front k.2)
+    → (operand : Operand) (prefix : List Token) → First P Q (Computes operand) prefix → SpellsTerm P operand prefix
+first_term P C Q between operand prefix (inl k) = inr (inl (between.computes_in operand prefix k))
+first_term P C Q between operand prefix (inr k) = subst (λ (o : Operand). SpellsTerm P o prefix) (computed k.0 operand k.1) (bare_term_is P k.0 prefix k.2)
 
-first_asks : (P : Spelling Operand) (C : Spelling Condition) (Q : Spelling Inner) → Between P C Q → (c : Condition) (front : List Token) → First P Q (Asks c) front → C c front
-first_asks P C Q between c front (inl k) = between.asks_in c front k
-first_asks P C Q between c front (inr k) = absurd (let wrong : Some (Computes k.0) ≡ Some (Asks c) = k.1 in cc)
+first_asks : (P : Spelling Operand) (C : Spelling Condition) (Q : Spelling Inner) → Between P C Q → (c : Condition) (prefix : List Token) → First P Q (Asks c) prefix → C c prefix
+first_asks P C Q between c prefix (inl k) = between.asks_in c prefix k
+first_asks P C Q between c prefix (inr k) = absurd (let wrong : Some (Computes k.0) ≡ Some (Asks c) = k.1 in cc)
 
-with_rest_is : (P : Spelling Operand) (C : Spelling Condition) (left : Operand) (i : Inner) (front rest f g : List Token) (terms : List Signed) (test : Option Test) → SpellsTerm P left front
-    → make.with_rest left (terms, test) ≡ Some i → rest ≡ f ++ g → Many (SpellsSigned P) terms f → Optional SpellsTest test g → OneInner P C i (front ++ rest)
-with_rest_is P C left i front rest f g terms None term e same many none =
+with_rest_is : (P : Spelling Operand) (C : Spelling Condition) (left : Operand) (i : Inner) (prefix rest f g : List Token) (terms : List Signed) (test : Option Test) → SpellsTerm P left prefix
+    → make.with_rest left (terms, test) ≡ Some i → rest ≡ f ++ g → Many (SpellsSigned P) terms f → Optional SpellsTest test g → OneInner P C i (prefix ++ rest)
+with_rest_is P C left i prefix rest f g terms None term e same many none =
     let is : Computes (sum_with left terms) ≡ i = cc in
     let whole : rest ≡ f = same ∙ ap (λ ts. f ++ ts) none ∙ append-nil f in
-    subst (λ (j : Inner). OneInner P C j (front ++ rest)) is ((left, terms), refl, (front, f, ap (λ ts. front ++ ts) whole, term, many))
-with_rest_is P C left i front rest f g terms (Some test) term e same many asks =
+    subst (λ (j : Inner). OneInner P C j (prefix ++ rest)) is ((left, terms), refl, (prefix, f, ap (λ ts. prefix ++ ts) whole, term, many))
+with_rest_is P C left i prefix rest f g terms (Some test) term e same many asks =
     let is : Asks (with_test (sum_with left terms) test) ≡ i = cc in
-    let split : front ++ rest ≡ (front ++ f) ++ g = ap (λ ts. front ++ ts) same ∙ sym (append_assoc front f g) in
-    subst (λ (j : Inner). OneInner P C j (front ++ rest)) is (inr ((sum_with left terms, test), refl, (front ++ f, g, split, ((left, terms), refl, (front, f, refl, term, many)), asks)))
+    let split : prefix ++ rest ≡ (prefix ++ f) ++ g = ap (λ ts. prefix ++ ts) same ∙ sym (append_assoc prefix f g) in
+    subst (λ (j : Inner). OneInner P C j (prefix ++ rest)) is (inr ((sum_with left terms, test), refl, (prefix ++ f, g, split, ((left, terms), refl, (prefix, f, refl, term, many)), asks)))
 
 one_there_by : (P : Spelling Operand) (C : Spelling Condition) (Q : Spelling Inner) → Between P C Q
-    → (x i : Inner) (front rest : List Token) → First P Q x front → AfterFirst P x i rest → OneInner P C i (front ++ rest)
-one_there_by P C Q between (Computes left) i front rest h k =
-    with_rest_is P C left i front rest k.2.0 k.2.1 k.0.0 k.0.1 (first_term P C Q between left front h) k.1 k.2.2 k.2.3 k.2.4
-one_there_by P C Q between (Asks c) i front rest h k =
-    let whole : front ++ rest ≡ front = ap (λ ts. front ++ ts) k.1 ∙ append-nil front in
-    let asks : OneInner P C (Asks c) front = inl (first_asks P C Q between c front h) in
-    subst (λ (ts : List Token). OneInner P C i ts) (sym whole) (subst (λ (j : Inner). OneInner P C j front) k.0 asks)
+    → (x i : Inner) (prefix rest : List Token) → First P Q x prefix → AfterFirst P x i rest → OneInner P C i (prefix ++ rest)
+one_there_by P C Q between (Computes left) i prefix rest h k =
+    with_rest_is P C left i prefix rest k.2.0 k.2.1 k.0.0 k.0.1 (first_term P C Q between left prefix h) k.1 k.2.2 k.2.3 k.2.4
+one_there_by P C Q between (Asks c) i prefix rest h k =
+    let whole : prefix ++ rest ≡ prefix = ap (λ ts. prefix ++ ts) k.1 ∙ append-nil prefix in
+    let asks : OneInner P C (Asks c) prefix = inl (first_asks P C Q between c prefix h) in
+    subst (λ (ts : List Token). OneInner P C i ts) (sym whole) (subst (λ (j : Inner). OneInner P C j prefix) k.0 asks)
 
 one_there : (P : Spelling Operand) (C : Spelling Condition) (Q : Spelling Inner) → Between P C Q → (i : Inner) (tokens : List Token) → After (First P Q) (AfterFirst P) i tokens → OneInner P C i tokens
 one_there P C Q between i tokens k = subst (OneInner P C i) (sym k.3) (one_there_by P C Q between k.0 i k.1 k.2 k.4 k.5)
 
 term_first : (P : Spelling Operand) (C : Spelling Condition) (Q : Spelling Inner) → Between P C Q
-    → (operand : Operand) (front : List Token) → SpellsTerm P operand front → First P Q (Computes operand) front
-term_first P C Q between operand front (inl k) = inr (operand, refl, inl k)
-term_first P C Q between operand front (inr (inl k)) = inl (between.computes_out operand front k)
-term_first P C Q between operand front (inr (inr k)) = inr (operand, refl, inr k)
+    → (operand : Operand) (prefix : List Token) → SpellsTerm P operand prefix → First P Q (Computes operand) prefix
+term_first P C Q between operand prefix (inl k) = inr (operand, refl, inl k)
+term_first P C Q between operand prefix (inr (inl k)) = inl (between.computes_out operand prefix k)
+term_first P C Q between operand prefix (inr (inr k)) = inr (operand, refl, inr k)
 
 predicate_back : (P : Spelling Operand) (C : Spelling Condition) (Q : Spelling Inner) → Between P C Q → (c : Condition) (tokens : List Token) → SpellsPredicate (SpellsSum P) C c tokens
     → After (First P Q) (AfterFirst P) (Asks c) tokens
@@ -220,34 +220,34 @@ abbrev pub AllInner : Spelling Operand → Spelling Condition → Spelling Inner
 AllInner P C (Computes operand) = SpellsSum P operand
 AllInner P C (Asks c) = SpellsDisjunction (SpellsSum P) C c
 
-first_literal_is : (P : Spelling Operand) (C : Spelling Condition) (c : Condition) (front : List Token) → FirstLiteral P C (Asks c) front → SpellsLiteral (SpellsSum P) C c front
-first_literal_is P C c front (inl k) = ((Some k.0.0, k.0.1), asked_not (conditions.Not k.0.1) c k.1, k.2)
+first_literal_is : (P : Spelling Operand) (C : Spelling Condition) (c : Condition) (prefix : List Token) → FirstLiteral P C (Asks c) prefix → SpellsLiteral (SpellsSum P) C c prefix
+first_literal_is P C c prefix (inl k) = ((Some k.0.0, k.0.1), asked_not (conditions.Not k.0.1) c k.1, k.2)
   where
     asked_not : (d e : Condition) → Some (Asks d) ≡ Some (Asks e) → Some d ≡ Some e
     asked_not d e h = cc
-first_literal_is P C c front (inr k) = ((None, c), refl, ([], front, refl, refl, k))
+first_literal_is P C c prefix (inr k) = ((None, c), refl, ([], prefix, refl, refl, k))
 
-first_computes : (P : Spelling Operand) (C : Spelling Condition) (operand : Operand) (front : List Token) → FirstLiteral P C (Computes operand) front → SpellsSum P operand front
-first_computes P C operand front (inl k) = absurd (let wrong : Some (Asks (conditions.Not k.0.1)) ≡ Some (Computes operand) = k.1 in cc)
-first_computes P C operand front (inr k) = k
+first_computes : (P : Spelling Operand) (C : Spelling Condition) (operand : Operand) (prefix : List Token) → FirstLiteral P C (Computes operand) prefix → SpellsSum P operand prefix
+first_computes P C operand prefix (inl k) = absurd (let wrong : Some (Asks (conditions.Not k.0.1)) ≡ Some (Computes operand) = k.1 in cc)
+first_computes P C operand prefix (inr k) = k
 
-all_there_by : (P : Spelling Operand) (C : Spelling Condition) (x i : Inner) (front rest : List Token) → FirstLiteral P C x front → AfterLiteral P C x i rest → AllInner P C i (front ++ rest)
-all_there_by P C (Computes operand) i front rest h k =
-    let whole : front ++ rest ≡ front = ap (λ ts. front ++ ts) k.1 ∙ append-nil front in
-    subst (λ (ts : List Token). AllInner P C i ts) (sym whole) (subst (λ (j : Inner). AllInner P C j front) k.0 (first_computes P C operand front h))
-all_there_by P C (Asks c) i front rest h k =
+all_there_by : (P : Spelling Operand) (C : Spelling Condition) (x i : Inner) (prefix rest : List Token) → FirstLiteral P C x prefix → AfterLiteral P C x i rest → AllInner P C i (prefix ++ rest)
+all_there_by P C (Computes operand) i prefix rest h k =
+    let whole : prefix ++ rest ≡ prefix = ap (λ ts. prefix ++ ts) k.1 ∙ append-nil prefix in
+    subst (λ (ts : List Token). AllInner P C i ts) (sym whole) (subst (λ (j : Inner). AllInner P C j prefix) k.0 (first_computes P C operand prefix h))
+all_there_by P C (Asks c) i prefix rest h k =
     let is : Asks (any_with (all_with c k.0.0) k.0.1) ≡ i = some_is (Asks (any_with (all_with c k.0.0) k.0.1)) i k.1 in
     let m = k.2 in
-    let split : front ++ rest ≡ (front ++ m.0) ++ m.1 = ap (λ ts. front ++ ts) m.2 ∙ sym (append_assoc front m.0 m.1) in
-    let conj : SpellsConjunction (SpellsSum P) C (all_with c k.0.0) (front ++ m.0) = ((c, k.0.0), refl, (front, m.0, refl, first_literal_is P C c front h, m.3)) in
-    subst (λ (j : Inner). AllInner P C j (front ++ rest)) is ((all_with c k.0.0, k.0.1), refl, (front ++ m.0, m.1, split, conj, m.4))
+    let split : prefix ++ rest ≡ (prefix ++ m.0) ++ m.1 = ap (λ ts. prefix ++ ts) m.2 ∙ sym (append_assoc prefix m.0 m.1) in
+    let conj : SpellsConjunction (SpellsSum P) C (all_with c k.0.0) (prefix ++ m.0) = ((c, k.0.0), refl, (prefix, m.0, refl, first_literal_is P C c prefix h, m.3)) in
+    subst (λ (j : Inner). AllInner P C j (prefix ++ rest)) is ((all_with c k.0.0, k.0.1), refl, (prefix ++ m.0, m.1, split, conj, m.4))
 
-literal_back : (P : Spelling Operand) (C : Spelling Condition) (c : Condition) (front f g : List Token) (n : Option ℕ) (p : Condition) → Some (negated_by n p) ≡ Some c → front ≡ f ++ g
-    → Optional (Word keyword.Not) n f → SpellsPredicate (SpellsSum P) C p g → FirstLiteral P C (Asks c) front
-literal_back P C c front f g None p e same none k =
-    let whole : front ≡ g = same ∙ ap (λ ts. ts ++ g) none in
-    inr (subst (λ (d : Condition). SpellsPredicate (SpellsSum P) C d front) (some_is p c e) (subst (SpellsPredicate (SpellsSum P) C p) (sym whole) k))
-literal_back P C c front f g (Some at) p e same not k =
+literal_back : (P : Spelling Operand) (C : Spelling Condition) (c : Condition) (prefix f g : List Token) (n : Option ℕ) (p : Condition) → Some (negated_by n p) ≡ Some c → prefix ≡ f ++ g
+    → Optional (Word keyword.Not) n f → SpellsPredicate (SpellsSum P) C p g → FirstLiteral P C (Asks c) prefix
+literal_back P C c prefix f g None p e same none k =
+    let whole : prefix ≡ g = same ∙ ap (λ ts. ts ++ g) none in
+    inr (subst (λ (d : Condition). SpellsPredicate (SpellsSum P) C d prefix) (some_is p c e) (subst (SpellsPredicate (SpellsSum P) C p) (sym whole) k))
+literal_back P C c prefix f g (Some at) p e same not k =
     inl ((at, p), ap (λ (d : Condition). Some (Asks d)) (some_is (conditions.Not p) c e), (f, g, same, not, k))
 
 all_back : (P : Spelling Operand) (C : Spelling Condition) (i : Inner) (tokens : List Token) → AllInner P C i tokens → After (FirstLiteral P C) (AfterLiteral P C) i tokens

@@ -34,7 +34,7 @@ no_word_in l at h = refl
 no_word : (t : Token) → member (terminal.Ident ∷ []) t.lexeme ≡ false → is_some (make.word_in (codes "COUNT") t) ≡ false
 no_word t h = no_word_in t.lexeme t.at h
 
-other_begin : (set : List Terminal) (front rest : List Token) → Starts set false front → disjoint set (terminal.Ident ∷ []) ≡ true → counts (front ++ rest) ≡ false
+other_begin : (set : List Terminal) (prefix rest : List Token) → Starts set false prefix → disjoint set (terminal.Ident ∷ []) ≡ true → counts (prefix ++ rest) ≡ false
 other_begin set [] rest s d = absurd (cc)
 other_begin set (t ∷ ts) rest s d = no_count t (ts ++ rest) (no_word t (apart set (terminal.Ident ∷ []) t.lexeme d s))
   where
@@ -42,42 +42,42 @@ other_begin set (t ∷ ts) rest s d = no_count t (ts ++ rest) (no_word t (apart 
     no_count t [] e = refl
     no_count t (u ∷ ts) e = rw e refl
 
-column_other : (c : ColumnAt) (front rest : List Token) → SpellsColumnRef c front → next_among opening rest ≡ false → counts (front ++ rest) ≡ false
-column_other c front rest k e =
+column_other : (c : ColumnAt) (prefix rest : List Token) → SpellsColumnRef c prefix → next_among opening rest ≡ false → counts (prefix ++ rest) ≡ false
+column_other c prefix rest k e =
     let p = k.2 in
     let more = optional_agrees (terminal.Sign symbol.Dot ∷ []) (made_agrees make.behind (both_agrees (sign_agrees symbol.Dot) name_agrees refl)) refl in
     let stop = ends_before opening (terminal.Sign symbol.Dot ∷ []) true [] p.1 rest (more.starts k.0.1 p.1 p.4) refl e in
-    let split : front ++ rest ≡ p.3.0 ∷ (p.1 ++ rest) = ap (λ fs. fs ++ rest) (p.2 ∙ ap (λ fs. fs ++ p.1) p.3.1) in
+    let split : prefix ++ rest ≡ p.3.0 ∷ (p.1 ++ rest) = ap (λ fs. fs ++ rest) (p.2 ∙ ap (λ fs. fs ++ p.1) p.3.1) in
     ap counts split ∙ before_nothing p.3.0 (p.1 ++ rest) stop
 
-term_other : {r : Reading Operand} {P : Spelling Operand} → Agrees opening false [] r P → (x : Operand) (front rest : List Token) → SpellsTerm P x front → next_among opening rest ≡ false
-    → counts (front ++ rest) ≡ false
-term_other p x front rest (inl k) e = other_begin (terminal.Sign symbol.Minus ∷ []) front rest ((both_agrees (sign_agrees symbol.Minus) (primary_agrees p) refl).starts k.0 front k.2) refl
-term_other p x front rest (inr (inl k)) e = other_begin opening front rest (p.starts x front k) refl
-term_other p x front rest (inr (inr (inl k))) e = column_other k.0 front rest k.2 e
-term_other p x front rest (inr (inr (inr k))) e = other_begin leaves front rest (leaf_agrees.starts x front k) refl
+term_other : {r : Reading Operand} {P : Spelling Operand} → Agrees opening false [] r P → (x : Operand) (prefix rest : List Token) → SpellsTerm P x prefix → next_among opening rest ≡ false
+    → counts (prefix ++ rest) ≡ false
+term_other p x prefix rest (inl k) e = other_begin (terminal.Sign symbol.Minus ∷ []) prefix rest ((both_agrees (sign_agrees symbol.Minus) (primary_agrees p) refl).starts k.0 prefix k.2) refl
+term_other p x prefix rest (inr (inl k)) e = other_begin opening prefix rest (p.starts x prefix k) refl
+term_other p x prefix rest (inr (inr (inl k))) e = column_other k.0 prefix rest k.2 e
+term_other p x prefix rest (inr (inr (inr k))) e = other_begin leaves prefix rest (leaf_agrees.starts x prefix k) refl
 
-sum_other : {r : Reading Operand} {P : Spelling Operand} → Agrees opening false [] r P → (x : Operand) (front rest : List Token) → SpellsSum P x front → next_among opening rest ≡ false
-    → counts (front ++ rest) ≡ false
-sum_other p x front rest k e =
+sum_other : {r : Reading Operand} {P : Spelling Operand} → Agrees opening false [] r P → (x : Operand) (prefix rest : List Token) → SpellsSum P x prefix → next_among opening rest ≡ false
+    → counts (prefix ++ rest) ≡ false
+sum_other p x prefix rest k e =
     let m = k.2 in
     let more = many_agrees signs (signed_agrees p) refl refl in
     let stop = ends_before opening signs true [] m.1 rest (more.starts k.0.1 m.1 m.4) refl e in
     ap counts (ap (λ fs. fs ++ rest) m.2 ∙ append_assoc m.0 m.1 rest) ∙ term_other p k.0.0 m.0 (m.1 ++ rest) m.3 stop
 
-operand_other : (depth : ℕ) (x : Operand) (front rest : List Token) → SpellsOperandIn depth x front → next_among opening rest ≡ false → counts (front ++ rest) ≡ false
+operand_other : (depth : ℕ) (x : Operand) (prefix rest : List Token) → SpellsOperandIn depth x prefix → next_among opening rest ≡ false → counts (prefix ++ rest) ≡ false
 unfolding SpellsOperandIn
-operand_other zero x front rest k e = sum_other nowhere_agrees x front rest k e
-operand_other (suc depth) x front rest k e = sum_other (in_parens_agrees (operand_in_agrees depth) refl refl) x front rest k e
+operand_other zero x prefix rest k e = sum_other nowhere_agrees x prefix rest k e
+operand_other (suc depth) x prefix rest k e = sum_other (in_parens_agrees (operand_in_agrees depth) refl refl) x prefix rest k e
 
-count_told : (x : ItemValue) (front rest : List Token) → SpellsCount x front → counts (front ++ rest) ≡ true
-count_told x front rest k =
+count_told : (x : ItemValue) (prefix rest : List Token) → SpellsCount x prefix → counts (prefix ++ rest) ≡ true
+count_told x prefix rest k =
     let a = k.2 in
     let b = a.4 in
-    let split : front ++ rest ≡ a.3.0 ∷ b.3.0 ∷ (b.1 ++ rest) = ap (λ fs. fs ++ rest) (a.2 ∙ ap (λ fs. fs ++ a.1) a.3.1 ∙ ap (λ fs. a.3.0 ∷ fs) (b.2 ∙ ap (λ fs. fs ++ b.1) b.3.1)) in
+    let split : prefix ++ rest ≡ a.3.0 ∷ b.3.0 ∷ (b.1 ++ rest) = ap (λ fs. fs ++ rest) (a.2 ∙ ap (λ fs. fs ++ a.1) a.3.1 ∙ ap (λ fs. a.3.0 ∷ fs) (b.2 ∙ ap (λ fs. fs ++ b.1) b.3.1)) in
     let first : is_some (make.word_in (codes "COUNT") a.3.0) ≡ true = ap is_some a.3.2 in
     let second = (cond_some (is_symbol symbol.Open b.3.0.lexeme) b.3.0.at k.0.1.0 b.3.2).0 in
     ap counts split ∙ rw (first, second) refl
 
 pub item_tells : Tells counts opening SpellsCount (Made make.operand_value SpellsOperand)
-item_tells = record { left = λ x front rest k e. count_told x front rest k; right = λ x front rest k e. operand_other 64 k.0 front rest k.2 e }
+item_tells = record { left = λ x prefix rest k e. count_told x prefix rest k; right = λ x prefix rest k e. operand_other 64 k.0 prefix rest k.2 e }

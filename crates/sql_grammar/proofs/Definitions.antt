@@ -87,7 +87,7 @@ use Rattle.sql_grammar.proofs.Pieces.{
   behind_comma_agrees,
   listed_agrees,
 }
-use Rattle.sql_grammar.proofs.Words.{ReadsOneOf, reads_front, reads_more, word_tells, distinct, nothing_next}
+use Rattle.sql_grammar.proofs.Words.{ReadsOneOf, reads_prefix, reads_more, word_tells, distinct, nothing_next}
 
 pub type_agrees : Agrees (terminal.Ident ∷ []) false (terminal.Sign symbol.Open ∷ []) type SpellsType
 type_agrees = wider (terminal.Ident ∷ []) (terminal.Sign symbol.Open ∷ [])
@@ -96,7 +96,7 @@ type_agrees = wider (terminal.Ident ∷ []) (terminal.Sign symbol.Open ∷ [])
 master_tells : Tells (next_reads (codes "KEY_STORE_PROVIDER_NAME")) [] (Made make.provider (Both (Reads (codes "KEY_STORE_PROVIDER_NAME")) (Both (Sign symbol.Equal) (IsText (codes "KEYFILE")))))
     (Made make.path (Both (Reads (codes "KEY_PATH")) (Both (Sign symbol.Equal) Text)))
 master_tells = word_tells (codes "KEY_STORE_PROVIDER_NAME") (codes "KEY_PATH" ∷ []) _ _
-    (λ x front k. reads_front (codes "KEY_STORE_PROVIDER_NAME") k.0.0 front k.2.0 k.2.1 k.2.3 k.2.2) (λ x front k. reads_front (codes "KEY_PATH") k.0.0 front k.2.0 k.2.1 k.2.3 k.2.2) refl
+    (λ x prefix k. reads_prefix (codes "KEY_STORE_PROVIDER_NAME") k.0.0 prefix k.2.0 k.2.1 k.2.3 k.2.2) (λ x prefix k. reads_prefix (codes "KEY_PATH") k.0.0 prefix k.2.0 k.2.1 k.2.3 k.2.2) refl
 
 pub master_setting_agrees : Agrees (terminal.Ident ∷ []) false [] master_setting SpellsMasterSetting
 master_setting_agrees = wider (terminal.Ident ∷ []) []
@@ -109,19 +109,19 @@ value_tells : {V : Type 0} (algorithm value : List ℕ) (S : Spelling V) → dis
     → Tells (next_reads (codes "ALGORITHM")) [] (Made (make.algorithm_setting {V = V}) (Both (Reads (codes "ALGORITHM")) (Both (Sign symbol.Equal) (IsText algorithm))))
     (Made make.value_setting (Both (Reads value) (Both (Sign symbol.Equal) S)))
 value_tells algorithm value S d = word_tells (codes "ALGORITHM") (value ∷ []) _ _
-    (λ x front k. reads_front (codes "ALGORITHM") k.0.0 front k.2.0 k.2.1 k.2.3 k.2.2) (λ x front k. reads_front value k.0.0 front k.2.0 k.2.1 k.2.3 k.2.2) d
+    (λ x prefix k. reads_prefix (codes "ALGORITHM") k.0.0 prefix k.2.0 k.2.1 k.2.3 k.2.2) (λ x prefix k. reads_prefix value k.0.0 prefix k.2.0 k.2.1 k.2.3 k.2.2) d
 
-algorithm_or_value : {V : Type 0} (algorithm value : List ℕ) (S : Spelling V) (x : KeySetting V) (front : List Token)
+algorithm_or_value : {V : Type 0} (algorithm value : List ℕ) (S : Spelling V) (x : KeySetting V) (prefix : List Token)
     → Either (Made make.algorithm_setting (Both (Reads (codes "ALGORITHM")) (Both (Sign symbol.Equal) (IsText algorithm))))
-    (Made make.value_setting (Both (Reads value) (Both (Sign symbol.Equal) S))) x front
-    → ReadsOneOf (codes "ALGORITHM" ∷ value ∷ []) front
-algorithm_or_value algorithm value S x front (inl k) = reads_more (codes "ALGORITHM" ∷ []) (value ∷ []) front (inl (reads_front (codes "ALGORITHM") k.0.0 front k.2.0 k.2.1 k.2.3 k.2.2))
-algorithm_or_value algorithm value S x front (inr k) = reads_more (codes "ALGORITHM" ∷ []) (value ∷ []) front (inr (reads_front value k.0.0 front k.2.0 k.2.1 k.2.3 k.2.2))
+    (Made make.value_setting (Both (Reads value) (Both (Sign symbol.Equal) S))) x prefix
+    → ReadsOneOf (codes "ALGORITHM" ∷ value ∷ []) prefix
+algorithm_or_value algorithm value S x prefix (inl k) = reads_more (codes "ALGORITHM" ∷ []) (value ∷ []) prefix (inl (reads_prefix (codes "ALGORITHM") k.0.0 prefix k.2.0 k.2.1 k.2.3 k.2.2))
+algorithm_or_value algorithm value S x prefix (inr k) = reads_more (codes "ALGORITHM" ∷ []) (value ∷ []) prefix (inr (reads_prefix value k.0.0 prefix k.2.0 k.2.1 k.2.3 k.2.2))
 
 key_tells : {V : Type 0} (key algorithm value : List ℕ) (S : Spelling V) → distinct key (codes "ALGORITHM" ∷ value ∷ []) ≡ true
     → Tells (next_reads key) [] (Made (make.key_setting {V = V}) (Both (Reads key) (Both (Sign symbol.Equal) Name)))
     (Either (Made make.algorithm_setting (Both (Reads (codes "ALGORITHM")) (Both (Sign symbol.Equal) (IsText algorithm)))) (Made make.value_setting (Both (Reads value) (Both (Sign symbol.Equal) S))))
-key_tells key algorithm value S d = word_tells key (codes "ALGORITHM" ∷ value ∷ []) _ _ (λ x front k. reads_front key k.0.0 front k.2.0 k.2.1 k.2.3 k.2.2) (algorithm_or_value algorithm value S) d
+key_tells key algorithm value S d = word_tells key (codes "ALGORITHM" ∷ value ∷ []) _ _ (λ x prefix k. reads_prefix key k.0.0 prefix k.2.0 k.2.1 k.2.3 k.2.2) (algorithm_or_value algorithm value S) d
 
 pub key_setting_agrees : {V : Type 0} {a g : List Terminal} {r : Reading V} {S : Spelling V} (key algorithm value : List ℕ) → Agrees a false g r S → disjoint a [] ≡ true → subset g [] ≡ true
     → distinct key (codes "ALGORITHM" ∷ value ∷ []) ≡ true → distinct (codes "ALGORITHM") (value ∷ []) ≡ true
@@ -134,7 +134,7 @@ key_setting_agrees {S = S} key algorithm value p d n e f = wider (terminal.Ident
     (key_tells key algorithm value S e)) refl refl
   where
     narrow : {A : Type 0} {a g : List Terminal} {r : Reading A} {S : Spelling A} → Agrees a false g r S → subset g [] ≡ true → Agrees a false [] r S
-    narrow {a = a} p n = record { sound = p.sound; starts = p.starts; complete = λ x front tokens rest k e last. p.complete x front tokens rest k e (narrower _ [] rest n (nothing_next rest)) }
+    narrow {a = a} p n = record { sound = p.sound; starts = p.starts; complete = λ x prefix tokens rest k e last. p.complete x prefix tokens rest k e (narrower _ [] rest n (nothing_next rest)) }
 
 pub encryption_kind_agrees : Agrees (terminal.Ident ∷ []) false [] encryption_kind SpellsKind
 encryption_kind_agrees = wider (terminal.Ident ∷ []) [] (made_agrees make.kind_of name_agrees) refl refl
@@ -228,7 +228,7 @@ create_key_agrees = wider (terminal.Ident ∷ []) (terminal.Sign symbol.Comma �
 
 create_tells : Tells (next_reads (codes "MASTER")) [] SpellsCreateMaster SpellsCreateKey
 create_tells = word_tells (codes "MASTER") (codes "ENCRYPTION" ∷ []) _ _
-    (λ x front k. reads_front (codes "MASTER") k.2.0.0 front k.2.2.0 k.2.2.1 k.2.2.3 k.2.2.2) (λ x front k. reads_front (codes "ENCRYPTION") k.2.0.0 front k.2.2.0 k.2.2.1 k.2.2.3 k.2.2.2) refl
+    (λ x prefix k. reads_prefix (codes "MASTER") k.2.0.0 prefix k.2.2.0 k.2.2.1 k.2.2.3 k.2.2.2) (λ x prefix k. reads_prefix (codes "ENCRYPTION") k.2.0.0 prefix k.2.2.0 k.2.2.1 k.2.2.3 k.2.2.2) refl
 
 pub create_agrees : Agrees (terminal.Word keyword.Create ∷ []) false (terminal.Sign symbol.Comma ∷ []) create SpellsCreate
 create_agrees = wider (terminal.Word keyword.Create ∷ []) (terminal.Sign symbol.Comma ∷ [])
@@ -280,7 +280,7 @@ alter_agrees = wider (terminal.Word keyword.Alter ∷ []) []
 drop_tells : Tells (next_reads (codes "MASTER")) [] (Made make.drop_master (Made make.behind (Both (Reads (codes "MASTER")) (Made make.behind (Both (Word keyword.Key) Name)))))
     (Made make.drop_key (Made make.behind (Both (Reads (codes "ENCRYPTION")) (Made make.behind (Both (Word keyword.Key) Name)))))
 drop_tells = word_tells (codes "MASTER") (codes "ENCRYPTION" ∷ []) _ _
-    (λ x front k. reads_front (codes "MASTER") k.2.0.0 front k.2.2.0 k.2.2.1 k.2.2.3 k.2.2.2) (λ x front k. reads_front (codes "ENCRYPTION") k.2.0.0 front k.2.2.0 k.2.2.1 k.2.2.3 k.2.2.2) refl
+    (λ x prefix k. reads_prefix (codes "MASTER") k.2.0.0 prefix k.2.2.0 k.2.2.1 k.2.2.3 k.2.2.2) (λ x prefix k. reads_prefix (codes "ENCRYPTION") k.2.0.0 prefix k.2.2.0 k.2.2.1 k.2.2.3 k.2.2.2) refl
 
 pub drop_column_agrees : Agrees (terminal.Word keyword.Column ∷ []) false [] drop_column SpellsDropColumn
 drop_column_agrees = wider (terminal.Word keyword.Column ∷ []) []

@@ -19,25 +19,26 @@ pub shortens : {A : Type 0} {a g : List Terminal} {r : Reading A} {S : Spelling 
 shortens {a = a} p = record {
   shorter = λ tokens x rest e.
       let f = p.sound tokens x rest e in
-      omega (arith, ap length f.same, length-append f.front rest, longer a f.front (p.starts x f.front f.holds));
+      omega (arith, ap length f.same, length-append f.prefix rest, longer a f.prefix (p.starts x f.prefix f.holds));
 }
 
 pub sign_shortens : (s : Symbol) → Shortens (sign s)
 sign_shortens s = shortens (sign_agrees s)
 
 -- things that are read so far, before others
-abbrev pub with_front : {A : Type 0} → List A → Option (List A × List Token) → Option (List A × List Token)
-with_front front read = option_map (λ r. (front ++ r.0, r.1)) read
+abbrev pub with_prefix : {A : Type 0} → List A → Option (List A × List Token) → Option (List A × List Token)
+with_prefix prefix read = option_map (λ r. (prefix ++ r.0, r.1)) read
 
-with_front-push : {A : Type 0} (front : List A) (x : A) (read : Option (List A × List Token)) → with_front front (read >>= λ items. Some (x ∷ items.0, items.1)) ≡ with_front (front ++ x ∷ []) read
-with_front-push front x None = refl
-with_front-push front x (Some r) = ap (λ (items : List _). Some (items, r.1)) (sym (append_assoc front (x ∷ []) r.0))
+with_prefix-push : {A : Type 0} (prefix : List A) (x : A) (read : Option (List A × List Token))
+    → with_prefix prefix (read >>= λ items. Some (x ∷ items.0, items.1)) ≡ with_prefix (prefix ++ x ∷ []) read
+with_prefix-push prefix x None = refl
+with_prefix-push prefix x (Some r) = ap (λ (items : List _). Some (items, r.1)) (sym (append_assoc prefix (x ∷ []) r.0))
 
 -- the things so far are read of the tokens, and the rest is to be read
-pub record Goes {A : Type 0} (set : List Terminal) (item : Reading A) (tokens : List Token) (front : List A) (rest : List Token) : Type 0 where
+pub record Goes {A : Type 0} (set : List Terminal) (item : Reading A) (tokens : List Token) (prefix : List A) (rest : List Token) : Type 0 where
   pub fuel : ℕ
   pub enough : length rest ≤ fuel
-  pub ahead : many set item tokens ≡ with_front front (repeated set item fuel rest)
+  pub ahead : many set item tokens ≡ with_prefix prefix (repeated set item fuel rest)
 
 record Step {A : Type 0} (set : List Terminal) (item : Reading A) (fuel : ℕ) (rest after : List Token) (x : A) : Type 0 where
   less : ℕ
@@ -49,32 +50,32 @@ step_of : {A : Type 0} (set : List Terminal) (item : Reading A) (fuel : ℕ) (re
 step_of set item zero rest after x enough here e less = absurd (omega arith)
 step_of set item (suc n) rest after x enough here e less = record { less = n; enough = omega arith; step = rw (here, e) refl }
 
-pub goes_more : {A : Type 0} (set : List Terminal) (item : Reading A) (tokens : List Token) (front : List A) (rest after : List Token) (x : A) → Goes set item tokens front rest
-    → next_among set rest ≡ true → item rest ≡ Some (x, after) → length after < length rest → Goes set item tokens (front ++ x ∷ []) after
-goes_more set item tokens front rest after x g here e less =
+pub goes_more : {A : Type 0} (set : List Terminal) (item : Reading A) (tokens : List Token) (prefix : List A) (rest after : List Token) (x : A) → Goes set item tokens prefix rest
+    → next_among set rest ≡ true → item rest ≡ Some (x, after) → length after < length rest → Goes set item tokens (prefix ++ x ∷ []) after
+goes_more set item tokens prefix rest after x g here e less =
     let s = step_of set item g.fuel rest after x g.enough here e less in
     record {
       fuel = s.less;
       enough = s.enough;
-      ahead = g.ahead ∙ ap (with_front front) s.step ∙ with_front-push front x (repeated set item s.less after);
+      ahead = g.ahead ∙ ap (with_prefix prefix) s.step ∙ with_prefix-push prefix x (repeated set item s.less after);
     }
 
 stopped : {A : Type 0} (set : List Terminal) (item : Reading A) (fuel : ℕ) (rest : List Token) → next_among set rest ≡ false → repeated set item fuel rest ≡ Some ([], rest)
 stopped set item zero rest e = rw e refl
 stopped set item (suc n) rest e = rw e refl
 
-pub goes_end : {A : Type 0} (set : List Terminal) (item : Reading A) (tokens : List Token) (front : List A) (rest : List Token) → Goes set item tokens front rest → next_among set rest ≡ false
-    → many set item tokens ≡ Some (front, rest)
-goes_end {A = A} set item tokens front rest g e =
-    g.ahead ∙ ap (with_front front) (stopped set item g.fuel rest e) ∙ ap (λ (xs : List A). Some (xs, rest)) (append-nil front)
+pub goes_end : {A : Type 0} (set : List Terminal) (item : Reading A) (tokens : List Token) (prefix : List A) (rest : List Token) → Goes set item tokens prefix rest → next_among set rest ≡ false
+    → many set item tokens ≡ Some (prefix, rest)
+goes_end {A = A} set item tokens prefix rest g e =
+    g.ahead ∙ ap (with_prefix prefix) (stopped set item g.fuel rest e) ∙ ap (λ (xs : List A). Some (xs, rest)) (append-nil prefix)
 
 failed : {A : Type 0} (set : List Terminal) (item : Reading A) (fuel : ℕ) (rest : List Token) → next_among set rest ≡ true → item rest ≡ None → repeated set item fuel rest ≡ None
 failed set item zero rest here e = rw here refl
 failed set item (suc n) rest here e = rw (here, e) refl
 
-pub goes_nowhere : {A : Type 0} (set : List Terminal) (item : Reading A) (tokens : List Token) (front : List A) (rest : List Token) → Goes set item tokens front rest → next_among set rest ≡ true
+pub goes_nowhere : {A : Type 0} (set : List Terminal) (item : Reading A) (tokens : List Token) (prefix : List A) (rest : List Token) → Goes set item tokens prefix rest → next_among set rest ≡ true
     → item rest ≡ None → many set item tokens ≡ None
-goes_nowhere set item tokens front rest g here e = g.ahead ∙ ap (with_front front) (failed set item g.fuel rest here e)
+goes_nowhere set item tokens prefix rest g here e = g.ahead ∙ ap (with_prefix prefix) (failed set item g.fuel rest here e)
 
 both_shorter : {A B : Type 0} (r : Reading A) (s : Reading B) → Shortens r → Shortens s → Shortens (both r s)
 both_shorter r s p q = record {

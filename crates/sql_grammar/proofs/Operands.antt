@@ -70,7 +70,7 @@ sum_agrees p = wider
     (made_agrees make.sum_of (both_agrees (term_agrees p) (many_agrees (terminal.Sign symbol.Plus ∷ terminal.Sign symbol.Minus ∷ []) (signed_agrees p) refl refl) refl)) refl refl
 
 pub nowhere_agrees : {A : Type 0} → Agrees (terminal.Sign symbol.Open ∷ []) false [] (nowhere {A = A}) Nowhere
-nowhere_agrees = record { sound = λ tokens x rest e. absurd (cc); starts = λ x front k. absurd k; complete = λ x front tokens rest k e last. absurd k }
+nowhere_agrees = record { sound = λ tokens x rest e. absurd (cc); starts = λ x prefix k. absurd k; complete = λ x prefix tokens rest k e last. absurd k }
 
 -- at each depth
 pub operand_in_agrees : (depth : ℕ)

@@ -22,7 +22,7 @@ use Rattle.sql_grammar.proofs.Sets.{disjoint}
 use Rattle.sql_grammar.proofs.Agreement.{
   Agrees,
   Starts,
-  Front,
+  HasPrefix,
   bind_some,
   at_rest,
   pairs,
@@ -39,8 +39,8 @@ use Rattle.sql_grammar.proofs.Agreement.{
 
 -- ---- one token
 
-kind_agrees : (kind : Terminal) → Agrees (kind ∷ []) false [] (one (make.place_of kind)) (One (make.place_of kind))
-kind_agrees kind = one_agrees (kind ∷ []) (make.place_of kind) (λ t x e. or_left (matches kind t.lexeme) false (cond_some (matches kind t.lexeme) t.at x e).0)
+kind_agrees : (kind : Terminal) → Agrees (kind ∷ []) false [] (one (make.offset_of kind)) (One (make.offset_of kind))
+kind_agrees kind = one_agrees (kind ∷ []) (make.offset_of kind) (λ t x e. or_left (matches kind t.lexeme) false (cond_some (matches kind t.lexeme) t.at x e).0)
 
 pub word_agrees : (k : Keyword) → Agrees (terminal.Word k ∷ []) false [] (word k) (Word k)
 word_agrees k = kind_agrees (terminal.Word k)
@@ -157,21 +157,25 @@ listed_agrees p d e =
 -- ---- one thing and then another that depends on it
 
 after_sound : {A B : Type 0} (r : Reading A) (s : A → Reading B) (S : Spelling A) (T : A → Spelling B)
-    → ((tokens : List Token) (x : A) (rest : List Token) → r tokens ≡ Some (x, rest) → Front (S x) tokens rest)
-    → ((x : A) (tokens : List Token) (y : B) (rest : List Token) → s x tokens ≡ Some (y, rest) → Front (T x y) tokens rest)
-    → (tokens : List Token) (y : B) (rest : List Token) → after r s tokens ≡ Some (y, rest) → Front (After S T y) tokens rest
+    → ((tokens : List Token) (x : A) (rest : List Token) → r tokens ≡ Some (x, rest) → HasPrefix (S x) tokens rest)
+    → ((x : A) (tokens : List Token) (y : B) (rest : List Token) → s x tokens ≡ Some (y, rest) → HasPrefix (T x y) tokens rest)
+    → (tokens : List Token) (y : B) (rest : List Token) → after r s tokens ≡ Some (y, rest) → HasPrefix (After S T y) tokens rest
 after_sound r s S T sound_r sound_s tokens y rest e =
     let first = bind_some (r tokens) _ (y, rest) e in
     let a = sound_r tokens first.value.0 first.value.1 first.read in
     let b = sound_s first.value.0 first.value.1 y rest first.after in
-    record { front = a.front ++ b.front; same = a.same ∙ ap (λ ts. a.front ++ ts) b.same ∙ sym (append_assoc a.front b.front rest); holds = (first.value.0, a.front, b.front, refl, a.holds, b.holds) }
+    record {
+      prefix = a.prefix ++ b.prefix;
+      same = a.same ∙ ap (λ ts. a.prefix ++ ts) b.same ∙ sym (append_assoc a.prefix b.prefix rest);
+      holds = (first.value.0, a.prefix, b.prefix, refl, a.holds, b.holds);
+    }
 
 pub after_agrees : {A B : Type 0} {a b : List Terminal} {none void : Bool} {g h : List Terminal} {r : Reading A} {s : A → Reading B} {S : Spelling A} {T : A → Spelling B}
     → Agrees a none g r S → ((x : A) → Agrees b void h (s x) (T x)) → disjoint b g ≡ true → Agrees (begins_both none a b) (none && void) (with_empty void g h) (after r s) (After S T)
 after_agrees {a = a} {b = b} {none = none} {void = void} {g = g} {h = h} {r = r} {s = s} {S = S} {T = T} p q d = record {
   sound = after_sound r s S T p.sound (λ x. (q x).sound);
-  starts = λ y front k. subst (Starts (begins_both none a b) (none && void)) (sym k.3) (starts_both a b none void k.1 k.2 (p.starts k.0 k.1 k.4) ((q k.0).starts y k.2 k.5));
-  complete = λ y front tokens rest k e last.
+  starts = λ y prefix k. subst (Starts (begins_both none a b) (none && void)) (sym k.3) (starts_both a b none void k.1 k.2 (p.starts k.0 k.1 k.4) ((q k.0).starts y k.2 k.5));
+  complete = λ y prefix tokens rest k e last.
       let mid : tokens ≡ k.1 ++ (k.2 ++ rest) = e ∙ ap (λ fs. fs ++ rest) k.3 ∙ append_assoc k.1 k.2 rest in
       let first = p.complete k.0 k.1 tokens (k.2 ++ rest) k.4 mid (ends_before g b void h k.2 rest ((q k.0).starts y k.2 k.5) d last) in
       let second = (q k.0).complete y k.2 (k.2 ++ rest) rest k.5 refl (ends_after g void h rest last) in
@@ -182,7 +186,7 @@ pub given_agrees : {A : Type 0} (x : A) → Agrees [] true [] (given x) (Given x
 given_agrees {A = A} x = record {
   sound = λ tokens y rest e.
       let p = pairs (x, tokens) (y, rest) e in
-      at_rest p.second (record { front = []; same = refl; holds = (p.first, refl) });
-  starts = λ y front k. subst (Starts [] true) (sym k.1) refl;
-  complete = λ y front tokens rest k e last. ap (λ (ts : List Token). Some (x, ts)) (e ∙ ap (λ fs. fs ++ rest) k.1) ∙ ap (λ (z : A). Some (z, rest)) k.0;
+      at_rest p.second (record { prefix = []; same = refl; holds = (p.first, refl) });
+  starts = λ y prefix k. subst (Starts [] true) (sym k.1) refl;
+  complete = λ y prefix tokens rest k e last. ap (λ (ts : List Token). Some (x, ts)) (e ∙ ap (λ fs. fs ++ rest) k.1) ∙ ap (λ (z : A). Some (z, rest)) k.0;
 }

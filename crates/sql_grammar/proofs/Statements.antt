@@ -116,7 +116,7 @@ after_items = terminal.Sign symbol.Dot ∷ terminal.Sign symbol.Plus ∷ termina
 abbrev after_order : List Terminal
 after_order = terminal.Sign symbol.Dot ∷ terminal.Word keyword.Asc ∷ terminal.Word keyword.Desc ∷ terminal.Sign symbol.Comma ∷ terminal.Word keyword.Order ∷ []
 
--- the terminals that may continue a query behind FROM
+-- the terminals that may continue a query after FROM
 abbrev after_tail : List Terminal
 after_tail = terminal.Word keyword.As ∷ terminal.Ident ∷
     terminal.Word keyword.Or ∷ terminal.Word keyword.And ∷

@@ -21,7 +21,7 @@ tree_sound tokens x e =
     let read = bind_some (statement tokens) whole x e in
     let all = all_read read.value.0 read.value.1 x read.after in
     let f = statement_agrees.sound tokens read.value.0 read.value.1 read.read in
-    let same : tokens ≡ f.front = f.same ∙ ap (λ ts. f.front ++ ts) all.1 ∙ append-nil f.front in
+    let same : tokens ≡ f.prefix = f.same ∙ ap (λ ts. f.prefix ++ ts) all.1 ∙ append-nil f.prefix in
     subst (λ (y : Statement). Spells y tokens) all.0 (subst (Spells read.value.0) (sym same) f.holds)
 
 tree_complete : (tokens : List Token) (x : Statement) → Spells x tokens → tree_of tokens ≡ Some x

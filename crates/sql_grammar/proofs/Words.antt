@@ -36,12 +36,12 @@ nothing_next (t ∷ ts) = refl
 some_word : (t : Token) (word : List ℕ) (at : ℕ) → make.word_in word t ≡ Some at → reads_word t word ≡ true
 some_word t word at e = ap is_some e
 
-pub reads_front : (word : List ℕ) (at : ℕ) (front f g : List Token) → Reads word at f → front ≡ f ++ g → ReadsOneOf (word ∷ []) front
-reads_front word at front f g one same =
+pub reads_prefix : (word : List ℕ) (at : ℕ) (prefix f g : List Token) → Reads word at f → prefix ≡ f ++ g → ReadsOneOf (word ∷ []) prefix
+reads_prefix word at prefix f g one same =
     let begins : ReadsOneOf (word ∷ []) ((one.0 ∷ []) ++ g) = or_left (reads_word one.0 word) false (some_word one.0 word at one.2) in
     subst (ReadsOneOf (word ∷ [])) (sym (same ∙ ap (λ fs. fs ++ g) one.1)) begins
 
-pub reads_more : (a b : List (List ℕ)) (front : List Token) → ReadsOneOf a front ⊎ ReadsOneOf b front → ReadsOneOf (a ++ b) front
+pub reads_more : (a b : List (List ℕ)) (prefix : List Token) → ReadsOneOf a prefix ⊎ ReadsOneOf b prefix → ReadsOneOf (a ++ b) prefix
 reads_more a b [] (inl k) = k
 reads_more a b [] (inr k) = k
 reads_more a b (t ∷ ts) (inl k) = list_any-append (reads_word t) a b ∙ or_left (list_any (reads_word t) a) (list_any (reads_word t) b) k
@@ -73,7 +73,7 @@ others word (w ∷ words) t d h =
     let p = not_and (bytes_eq word w) (distinct word words) d in
     other_step word w words t (reads_word t word) (reads_word t w) refl refl p.0 (others word words t p.1) h
 
-tells_one : (word : List ℕ) (front rest : List Token) → ReadsOneOf (word ∷ []) front → next_reads word (front ++ rest) ≡ true
+tells_one : (word : List ℕ) (prefix rest : List Token) → ReadsOneOf (word ∷ []) prefix → next_reads word (prefix ++ rest) ≡ true
 tells_one word [] rest k = absurd k
 tells_one word (t ∷ ts) rest k = only_one (reads_word t word) k
   where
@@ -81,13 +81,13 @@ tells_one word (t ∷ ts) rest k = only_one (reads_word t word) k
     only_one true e = refl
     only_one false e = e
 
-tells_other : (word : List ℕ) (words : List (List ℕ)) (front rest : List Token) → distinct word words ≡ true → ReadsOneOf words front → next_reads word (front ++ rest) ≡ false
+tells_other : (word : List ℕ) (words : List (List ℕ)) (prefix rest : List Token) → distinct word words ≡ true → ReadsOneOf words prefix → next_reads word (prefix ++ rest) ≡ false
 tells_other word words [] rest d k = absurd k
 tells_other word words (t ∷ ts) rest d k = others word words t d k
 
-pub word_tells : {A : Type 0} (word : List ℕ) (words : List (List ℕ)) (S T : Spelling A) → ((x : A) (front : List Token) → S x front → ReadsOneOf (word ∷ []) front)
-    → ((x : A) (front : List Token) → T x front → ReadsOneOf words front) → distinct word words ≡ true → Tells (next_reads word) [] S T
+pub word_tells : {A : Type 0} (word : List ℕ) (words : List (List ℕ)) (S T : Spelling A) → ((x : A) (prefix : List Token) → S x prefix → ReadsOneOf (word ∷ []) prefix)
+    → ((x : A) (prefix : List Token) → T x prefix → ReadsOneOf words prefix) → distinct word words ≡ true → Tells (next_reads word) [] S T
 word_tells word words S T s t d = record {
-  left = λ x front rest k e. tells_one word front rest (s x front k);
-  right = λ x front rest k e. tells_other word words front rest d (t x front k);
+  left = λ x prefix rest k e. tells_one word prefix rest (s x prefix k);
+  right = λ x prefix rest k e. tells_other word words prefix rest d (t x prefix k);
 }

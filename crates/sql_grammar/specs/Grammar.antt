@@ -29,10 +29,10 @@ use Rattle.sql_grammar.specs.Making.{Signed, Test, Tail, KeyChange}
 -- ---- one token
 
 abbrev pub Word : Keyword → Spelling ℕ
-Word k = One (make.place_of (terminal.Word k))
+Word k = One (make.offset_of (terminal.Word k))
 
 abbrev pub Sign : Symbol → Spelling ℕ
-Sign s = One (make.place_of (terminal.Sign s))
+Sign s = One (make.offset_of (terminal.Sign s))
 
 abbrev pub Reads : List ℕ → Spelling ℕ
 Reads capitals = One (make.word_in capitals)

@@ -44,9 +44,9 @@ use Rattle.sql_grammar.specs.Readers.{Terminal, matches, is_keyword}
 
 -- ---- one token
 
--- the place of a token of a kind
-abbrev pub place_of : Terminal → Token → Option ℕ
-place_of kind t = if matches kind t.lexeme then Some t.at else None
+-- the offset of a token of a kind
+abbrev pub offset_of : Terminal → Token → Option ℕ
+offset_of kind t = if matches kind t.lexeme then Some t.at else None
 
 abbrev pub ident_of : Lexeme → Option (List ℕ)
 ident_of (lexeme.Ident name) = Some name
@@ -103,7 +103,7 @@ leaf_of at (lexeme.Symbol s) = None
 abbrev pub leaf_in : Token → Option Operand
 leaf_in t = leaf_of t.at t.lexeme
 
--- + or -, at its place
+-- + or -, at its offset
 abbrev pub sign_of : ℕ → Lexeme → Option (Bool × ℕ)
 sign_of at (lexeme.Symbol symbol.Plus) = Some (false, at)
 sign_of at (lexeme.Symbol symbol.Minus) = Some (true, at)
@@ -130,7 +130,7 @@ comparison_in t = comparison_of t.lexeme >>= λ c. Some (t.at, c)
 abbrev pub middle : {A B C : Type 0} → A × (B × C) → Option B
 middle x = Some x.1.0
 
--- what stands behind another
+-- what stands after another
 abbrev pub behind : {A B : Type 0} → A × B → Option B
 behind x = Some x.1
 
@@ -149,7 +149,7 @@ column_operand c = Some (operands.Column c.at c.column)
 abbrev pub minus : ℕ × Operand → Option Operand
 minus x = Some (operands.Minus x.0 x.1)
 
--- a term behind the first, with its sign
+-- a term after the first, with its sign
 abbrev pub Signed : Type 0
 Signed = (Bool × ℕ) × operands.Operand ColumnRef (List ℕ)
 

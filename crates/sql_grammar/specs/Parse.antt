@@ -45,10 +45,10 @@ test_begins = terminal.Word keyword.Is ∷ terminal.Word keyword.Not ∷ termina
 -- ---- one token
 
 abbrev pub word : Keyword → Reading ℕ
-word k = one (make.place_of (terminal.Word k))
+word k = one (make.offset_of (terminal.Word k))
 
 abbrev pub sign : Symbol → Reading ℕ
-sign s = one (make.place_of (terminal.Sign s))
+sign s = one (make.offset_of (terminal.Sign s))
 
 abbrev pub reads : List ℕ → Reading ℕ
 reads capitals = one (make.word_in capitals)
@@ -149,7 +149,7 @@ first r q = choice (terminal.Sign symbol.Open ∷ []) q (made make.computes (bar
 abbrev pub sum_from : Reading Operand → Operand → Reading Operand
 sum_from r first = made (make.sum_from first) (many (terminal.Sign symbol.Plus ∷ terminal.Sign symbol.Minus ∷ []) (signed r))
 
--- the rest of a sum, and the test behind it
+-- the rest of a sum, and the test after it
 abbrev pub rest_of_sum : Reading Operand → Operand → Reading Inner
 rest_of_sum r left = made (make.with_rest left) (both (many (terminal.Sign symbol.Plus ∷ terminal.Sign symbol.Minus ∷ []) (signed r)) (optional test_begins test))
 

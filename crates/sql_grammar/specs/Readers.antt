@@ -1,4 +1,4 @@
--- Readers: what is read from the front of some tokens, and the tokens after it.
+-- Readers: what is read from a prefix of some tokens, and the tokens after it.
 use Rattle.std.specs.Prelude.{ℕ, zero, suc, List, [], ◌∷◌, length, Option, Some, None, Bool, true, false, if◌then◌else◌}
 use Rattle.std.specs.List.{list_any}
 use Rattle.ae_base.specs.Options.{◌>>=◌}

@@ -11,11 +11,11 @@ One f x tokens = (t : Token) × (tokens ≡ t ∷ []) × (f t ≡ Some x)
 
 -- one thing and then another
 abbrev pub Both : {A B : Type 0} → Spelling A → Spelling B → Spelling (A × B)
-Both S T x tokens = (front rest : List Token) × (tokens ≡ front ++ rest) × S x.0 front × T x.1 rest
+Both S T x tokens = (prefix rest : List Token) × (tokens ≡ prefix ++ rest) × S x.0 prefix × T x.1 rest
 
 -- one thing and then another that depends on it
 abbrev pub After : {A B : Type 0} → Spelling A → (A → Spelling B) → Spelling B
-After {A = A} S T y tokens = (x : A) × (front : List Token) × (rest : List Token) × (tokens ≡ front ++ rest) × S x front × T x y rest
+After {A = A} S T y tokens = (x : A) × (prefix : List Token) × (rest : List Token) × (tokens ≡ prefix ++ rest) × S x prefix × T x y rest
 
 -- it alone, of no tokens
 abbrev pub Given : {A : Type 0} → A → Spelling A
@@ -37,4 +37,4 @@ Optional S (Some x) tokens = S x tokens
 -- any number of them, one after another
 abbrev pub Many : {A : Type 0} → Spelling A → Spelling (List A)
 Many S [] tokens = tokens ≡ []
-Many S (x ∷ xs) tokens = (front rest : List Token) × (tokens ≡ front ++ rest) × S x front × Many S xs rest
+Many S (x ∷ xs) tokens = (prefix rest : List Token) × (tokens ≡ prefix ++ rest) × S x prefix × Many S xs rest

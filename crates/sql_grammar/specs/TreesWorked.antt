@@ -18,12 +18,12 @@ use Rattle.sql_grammar.specs.Texts.{tree_of, parsed_tokens, statement_in}
 
 -- ---- tokens
 
-abbrev pub from_place : ℕ → List Lexeme → List Token
-from_place at [] = []
-from_place at (l ∷ ls) = record { at = at; lexeme = l } ∷ from_place (suc at) ls
+abbrev pub from_offset : ℕ → List Lexeme → List Token
+from_offset at [] = []
+from_offset at (l ∷ ls) = record { at = at; lexeme = l } ∷ from_offset (suc at) ls
 
 abbrev pub parsed : List Lexeme → Result Statement SqlFault
-parsed lexemes = parsed_tokens (Some (from_place 0 lexemes))
+parsed lexemes = parsed_tokens (Some (from_offset 0 lexemes))
 
 abbrev pub setting : List ℕ → Lexeme → List Lexeme
 setting name value = Ident name ∷ Symbol symbol.Equal ∷ value ∷ []

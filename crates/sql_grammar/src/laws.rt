@@ -2,8 +2,8 @@
 
 ghost use Rattle.sql_grammar.specs.Laws.{TreesAreOne, TreeIsTheGrammars};
 
-/// The statement that is read of a list of tokens is the one that the grammar gives it, and nothing
-/// is read exactly where the grammar gives it none.
+/// The statement that is read of a list of tokens is the one that the grammar gives it, and none is
+/// read exactly if the grammar gives it none.
 pub fn reads_the_grammar()
     ensures { TreeIsTheGrammars }
 {}

@@ -12,7 +12,7 @@ pub enum MasterSetting {
 }
 
 /// A setting of CREATE COLUMN ENCRYPTION KEY or of ENCRYPTED WITH: the key that is named, what else
-/// is given of it, or the algorithm, which is the only one that there is.
+/// is given of it, or the algorithm, of which there is only one.
 #[derive(Drop)]
 pub enum KeySetting<V> {
     Key(Name),

@@ -49,7 +49,7 @@ fn sized_type(word: &str, size: u64) -> Option<Ty>
     None
 }
 
-/// The type of a name, with the number behind it.
+/// The type of a name, with the number after it.
 pub fn type_of(word: &str, size: Option<u64>) -> Option<Ty>
     ensures { result ≡ make.type_of (chars word.now, size) }
 {

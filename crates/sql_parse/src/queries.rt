@@ -247,7 +247,7 @@ fn order(alloc: Global, tokens: &mut Cursor) -> Result<Seq<OrderKey>, Refusal>
     listed::<OrderKeyReader>(alloc, tokens)
 }
 
-/// What stands from FROM on.
+/// What comes from FROM on.
 #[derive(Drop)]
 pub(crate) struct Tail {
     from: SourceTable,

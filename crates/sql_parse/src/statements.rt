@@ -80,7 +80,7 @@ fn insert(alloc: Global, tokens: &mut Cursor) -> Result<Statement, Refusal>
     })
 }
 
-/// The condition of WHERE, where that word is there.
+/// The condition of WHERE, if there is one.
 pub(crate) fn filter(alloc: Global, tokens: &mut Cursor) -> Result<Option<ConditionTree>, Refusal>
     ensures { Gives (option_map condition_of) result tokens.new (parse.filter tokens.old) }
 {

@@ -9,7 +9,7 @@ use Rattle.std.proofs.lemmas.List.Sums.{prefix_len_is, prefix_len_passes, fold-a
 use Rattle.std.proofs.lemmas.Bool.Decides.{nat_tests}
 use Rattle.std.proofs.lemmas.Str.Ascii.{IsAscii-nil, IsAscii-cons}
 use Rattle.sql_tree.specs.declared.lexemes.Lexeme.TheVariants as lexeme
-use Rattle.sql_tree.specs.Tokens.{is_word_byte, is_digit, begins_word, number_front, value_of_digits}
+use Rattle.sql_tree.specs.Tokens.{is_word_byte, is_digit, begins_word, next_number, value_of_digits}
 
 -- n is where the test first fails
 pub take_while_is : (p : ℕ → Bool) (xs : List ℕ) (n : ℕ) → n ≤ length xs → ((k : ℕ) → k < n → p (get_or xs k 0) ≡ true) → (n < length xs → p (get_or xs n 0) ≡ false) → take n xs ≡ take_while p xs
@@ -61,7 +61,7 @@ digits_some [] h = absurd (cc)
 digits_some (b ∷ bytes) h = rw (take_while-cons is_digit b bytes, h) (omega arith)
 
 pub number_read : (bytes digits : List ℕ) → digits ≡ take_while is_digit bytes → begins_word (slice_index bytes (length digits)) ≡ false
-    → number_front bytes ≡ Some (lexeme.Number (value_of_digits digits), length digits)
+    → next_number bytes ≡ Some (lexeme.Number (value_of_digits digits), length digits)
 number_read bytes digits e h =
     let P : List ℕ → Type 0 = λ ds. begins_word (slice_index bytes (length ds)) ≡ false in
     let stop : begins_word (slice_index bytes (length (take_while is_digit bytes))) ≡ false = subst P e h in

@@ -1,4 +1,4 @@
--- The bound trees: statements in which each name is a place.
+-- The bound trees: statements in which each name is an ordinal.
 use Rattle.std.specs.Prelude.{ℕ, List, length, map, Option, Bool, true, false, ◌||◌, ◌==◌, not}
 use Rattle.std.specs.List.{list_any}
 use Rattle.std.specs.Option.{option_map}
@@ -6,7 +6,7 @@ use Rattle.ae_base.specs.declared.types.Ty.{Ty}
 use Rattle.sql_tree.specs.Operands as operands
 use Rattle.sql_tree.specs.Conditions as conditions
 use Rattle.sql_tree.specs.declared.bound.ColumnSite.{ColumnSite}
-use Rattle.sql_tree.specs.declared.bound.PlaceAt.{PlaceAt}
+use Rattle.sql_tree.specs.declared.bound.OrdinalAt.{OrdinalAt}
 use Rattle.sql_tree.specs.declared.bound.BoundDefinition.{BoundDefinition}
 use Rattle.sql_tree.specs.declared.bound.BoundSource.{BoundSource}
 use Rattle.sql_tree.specs.declared.bound.BoundOrderKey.{BoundOrderKey}
@@ -35,16 +35,16 @@ pub record BoundRow : Type 0 where
   pub at : ℕ
   pub values : List (operands.Operand ℕ ℕ)
 
--- rows for a table: the places of the named columns, and rows with a value for each of these
+-- rows for a table: the ordinals of the named columns, and rows with a value for each of these
 pub record BoundInsert : Type 0 where
   pub table : List ℕ
-  pub named : List ℕ
+  pub columns : List ℕ
   pub rows : List BoundRow
 
 -- one assignment of SET, at its =
 pub record BoundAssignment : Type 0 where
   pub at : ℕ
-  pub place : ℕ
+  pub ordinal : ℕ
   pub value : operands.Operand ℕ ℕ
 
 pub record BoundUpdate : Type 0 where
@@ -77,7 +77,7 @@ pub record BoundQuery : Type 0 where
   pub from : BoundSource
   pub joins : List BoundJoin
   pub filter : Option (conditions.Condition ℕ ℕ)
-  pub group_by : List PlaceAt
+  pub group_by : List OrdinalAt
   pub order_by : List BoundOrderKey
 
 abbrev pub is_count : BoundItemValue → Bool
@@ -107,10 +107,10 @@ abbrev pub row_of : code_row.BoundRow → BoundRow
 row_of row = record { at = row.at; values = map operands.operand_of row.values }
 
 abbrev pub insert_of : code_insert.BoundInsert → BoundInsert
-insert_of i = record { table = i.table; named = i.named; rows = map row_of i.rows }
+insert_of i = record { table = i.table; columns = i.columns; rows = map row_of i.rows }
 
 abbrev pub assignment_of : code_assignment.BoundAssignment → BoundAssignment
-assignment_of a = record { at = a.at; place = a.place; value = operands.operand_of a.value }
+assignment_of a = record { at = a.at; ordinal = a.ordinal; value = operands.operand_of a.value }
 
 abbrev pub update_of : code_update.BoundUpdate → BoundUpdate
 update_of u = record { table = u.table; assignments = map assignment_of u.assignments; filter = option_map conditions.condition_of u.filter }

@@ -7,7 +7,7 @@ pub mod OnTables
 pub mod Operands
 pub mod Placed
 pub mod Reading
-pub mod Sorts
+pub mod Kinds
 pub mod Statements
 pub mod Tokens
 pub mod TokensWorked

@@ -16,5 +16,5 @@ conditions_listed (condition ∷ all) = conditions.Then (conditions.condition_of
 
 -- whether a term uses a parameter
 abbrev pub uses_in_term : ℕ → code_term.Term ℕ ℕ → Bool
-uses_in_term place (code_term.Plus at operand) = uses_in place (operands.operand_of operand)
-uses_in_term place (code_term.Minus at operand) = uses_in place (operands.operand_of operand)
+uses_in_term ordinal (code_term.Plus at operand) = uses_in ordinal (operands.operand_of operand)
+uses_in_term ordinal (code_term.Minus at operand) = uses_in ordinal (operands.operand_of operand)

@@ -13,7 +13,7 @@ mutual
     Minus : (at : ℕ) (operand : Operand C P) → Operand C P
     Sum : (first : Operand C P) (terms : Terms C P) → Operand C P
 
-  -- the terms behind the first of a sum, each at its operator
+  -- the terms after the first of a sum, each at its operator
   pub data Terms (C P : Type 0) : Type 0 where
     NoMore : Terms C P
     PlusThen : (at : ℕ) (operand : Operand C P) (more : Terms C P) → Terms C P
@@ -35,10 +35,10 @@ abbrev mutual
   term_before (code_term.Plus at operand) more = PlusThen at (operand_of operand) more
   term_before (code_term.Minus at operand) more = MinusThen at (operand_of operand) more
 
--- the place of an operand's first token that is no parenthesis
-abbrev pub place_of : {C P : Type 0} → Operand C P → ℕ
-place_of (Literal at v) = at
-place_of (Param at param) = at
-place_of (Column at column) = at
-place_of (Minus at operand) = at
-place_of (Sum first terms) = place_of first
+-- the offset of an operand's first token that is no parenthesis
+abbrev pub offset_of : {C P : Type 0} → Operand C P → ℕ
+offset_of (Literal at v) = at
+offset_of (Param at param) = at
+offset_of (Column at column) = at
+offset_of (Minus at operand) = at
+offset_of (Sum first terms) = offset_of first

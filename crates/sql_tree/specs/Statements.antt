@@ -1,4 +1,4 @@
--- The statements as trees without where they lie in memory. Each place is an offset in the text, in bytes.
+-- The statements as trees without where they lie in memory. `at` is an offset in the text, in bytes.
 use Rattle.std.specs.Prelude.{ℕ, List, length, map, Option, Bool, true, false, ◌||◌, ◌==◌, not}
 use Rattle.std.specs.List.{list_any}
 use Rattle.std.specs.Option.{option_map}

@@ -1,4 +1,4 @@
--- The tokens of a text: at each place the longest one, with blanks and comments between.
+-- The tokens of a text: at each offset the longest one, with blanks and comments between.
 use Rattle.std.specs.Prelude.{
   ℕ,
   zero,
@@ -89,9 +89,9 @@ keyword_or word None = lexeme.Ident word
 abbrev pub word_lexeme : List ℕ → Lexeme
 word_lexeme word = keyword_or word (named_in keywords (in_capitals word))
 
--- a token at the front of a text, and how many bytes it has
-abbrev pub Front : Type 0
-Front = Option (Lexeme × ℕ)
+-- a token at the start of a text, and how many bytes it has
+abbrev pub NextToken : Type 0
+NextToken = Option (Lexeme × ℕ)
 
 -- a byte that so many bytes spell, before others
 abbrev pub with_byte : ℕ → ℕ → Option (List ℕ × ℕ) → Option (List ℕ × ℕ)
@@ -101,27 +101,27 @@ abbrev pub is_name : List ℕ → Bool
 is_name characters = nat_lt 0 (length characters) && nat_le (length characters) 128
 
 -- a word or a parameter's name has at most 128 bytes, and at least one
-abbrev pub named : (List ℕ → Lexeme) → ℕ → List ℕ → Front
+abbrev pub named : (List ℕ → Lexeme) → ℕ → List ℕ → NextToken
 named make sign name = if is_name name then Some (make name, sign + length name) else None
 
 abbrev pub value_of_digits : List ℕ → ℕ
 value_of_digits digits = fold (λ n digit. 10 * n + (digit - 48)) 0 digits
 
 -- digits make a number, unless a letter or _ follows
-abbrev pub number_front : List ℕ → Front
-number_front bytes =
+abbrev pub next_number : List ℕ → NextToken
+next_number bytes =
     let digits = take_while is_digit bytes in
     if begins_word (slice_index bytes (length digits)) then None else Some (lexeme.Number (value_of_digits digits), length digits)
 
-abbrev pub one : Symbol → Front
+abbrev pub one : Symbol → NextToken
 one s = Some (lexeme.Symbol s, 1)
 
-abbrev pub two : Symbol → Front
+abbrev pub two : Symbol → NextToken
 two s = Some (lexeme.Symbol s, 2)
 
 -- the symbol that a byte begins, with the byte after it
-abbrev pub symbol_front : ℕ → ℕ → Front
-symbol_front b next =
+abbrev pub next_symbol : ℕ → ℕ → NextToken
+next_symbol b next =
     if b == 40 then one symbol.Open else
     if b == 41 then one symbol.Close else
     if b == 44 then one symbol.Comma else
@@ -135,7 +135,7 @@ symbol_front b next =
     if b == 45 then one symbol.Minus else
     if b == 42 then one symbol.Star else None
 
--- what stands behind an opening quote up to the one that closes it, and how many bytes that is with the closing one;
+-- what stands after an opening quote up to the one that closes it, and how many bytes that is with the closing one;
 -- two quotes stand for one
 abbrev pub quoted : ℕ → List ℕ → Option (List ℕ × ℕ)
 quoted quote [] = None
@@ -154,33 +154,33 @@ abbrev pub bracketed_lexeme : List ℕ → Option Lexeme
 bracketed_lexeme bytes = if is_utf8 bytes && is_name (chars bytes) then Some (lexeme.Ident (chars bytes)) else None
 
 -- a token in quotes, of which so many bytes are its opening
-abbrev pub quoted_front : (List ℕ → Option Lexeme) → ℕ → ℕ → List ℕ → Front
-quoted_front make quote opening bytes =
+abbrev pub next_quoted : (List ℕ → Option Lexeme) → ℕ → ℕ → List ℕ → NextToken
+next_quoted make quote opening bytes =
     option_and_then (λ r. option_map (λ l. (l, opening + r.1)) (make r.0)) (quoted quote (drop opening bytes))
 
--- behind 0x stand the digits of whole bytes, and no other letter, digit or _
-abbrev pub binary_of : ℕ → Result (List ℕ) FromHexError → Front
+-- after 0x stand the digits of whole bytes, and no other letter, digit or _
+abbrev pub binary_of : ℕ → Result (List ℕ) FromHexError → NextToken
 binary_of len (Ok bytes) = Some (lexeme.Binary bytes, len)
 binary_of len (Err fault) = None
 
-abbrev pub binary_front : List ℕ → Front
-binary_front bytes = let digits = take_while is_word_byte (drop 2 bytes) in binary_of (2 + length digits) (decode_of digits)
+abbrev pub next_binary : List ℕ → NextToken
+next_binary bytes = let digits = take_while is_word_byte (drop 2 bytes) in binary_of (2 + length digits) (decode_of digits)
 
--- the token at the front of a text
-abbrev pub front : List ℕ → Front
-front bytes =
+-- the token at the start of a text
+abbrev pub next_token : List ℕ → NextToken
+next_token bytes =
     let b = slice_index bytes 0 in
     let next = slice_index bytes 1 in
-    if b == 39 then quoted_front text_lexeme 39 1 bytes else
-    if ((b == 78) || (b == 110)) && (next == 39) then quoted_front text_lexeme 39 2 bytes else
-    if b == 91 then quoted_front bracketed_lexeme 93 1 bytes else
-    if (b == 48) && (next == 120) then binary_front bytes else
+    if b == 39 then next_quoted text_lexeme 39 1 bytes else
+    if ((b == 78) || (b == 110)) && (next == 39) then next_quoted text_lexeme 39 2 bytes else
+    if b == 91 then next_quoted bracketed_lexeme 93 1 bytes else
+    if (b == 48) && (next == 120) then next_binary bytes else
     if b == 64 then named lexeme.Param 1 (take_while is_word_byte (drop 1 bytes)) else
     if begins_word b then named word_lexeme 0 (take_while is_word_byte bytes) else
-    if is_digit b then number_front bytes else
-    symbol_front b next
+    if is_digit b then next_number bytes else
+    next_symbol b next
 
--- how many bytes at the front of a text stand between tokens: a blank, or a comment up to the end of its line
+-- how many bytes at the start of a text stand between tokens: a blank, or a comment up to the end of its line
 abbrev pub passed_over : List ℕ → ℕ
 passed_over bytes =
     if is_blank (slice_index bytes 0) then 1 else
@@ -195,13 +195,13 @@ tokens_from at skip [] = Some []
 tokens_from at (suc skip) (b ∷ bytes) = tokens_from (at + 1) skip bytes
 tokens_from at zero (b ∷ bytes) =
     if nat_lt 0 (passed_over (b ∷ bytes)) then tokens_from (at + 1) (passed_over (b ∷ bytes) - 1) bytes
-    else option_and_then (then_tokens at (λ skip. tokens_from (at + 1) skip bytes)) (front (b ∷ bytes))
+    else option_and_then (then_tokens at (λ skip. tokens_from (at + 1) skip bytes)) (next_token (b ∷ bytes))
 
 -- the tokens of a text in UTF-8, or None where it is no token list
 abbrev pub tokens_of : List ℕ → Option (List Token)
 tokens_of bytes = tokens_from 0 0 bytes
 
--- the place of the first number above `most`
+-- the offset of the first number above `most`
 abbrev pub wide : ℕ → Lexeme → Bool
 wide most (lexeme.Number n) = nat_lt most n
 wide most other = false

@@ -40,5 +40,5 @@ pub wide_number : tokens_of (codes "SELECT 9223372036854775808")
     ≡ Some (token 0 (lexeme.Keyword keyword.Select) ∷ token 7 (lexeme.Number 9223372036854775808) ∷ [])
 wide_number = refl
 
-pub wide_place : first_wide 9223372036854775807 (token 0 (lexeme.Keyword keyword.Select) ∷ token 7 (lexeme.Number 9223372036854775808) ∷ []) ≡ Some 7
-wide_place = refl
+pub wide_ordinal : first_wide 9223372036854775807 (token 0 (lexeme.Keyword keyword.Select) ∷ token 7 (lexeme.Number 9223372036854775808) ∷ []) ≡ Some 7
+wide_ordinal = refl

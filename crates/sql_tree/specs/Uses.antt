@@ -1,4 +1,4 @@
--- Which parameters a bound statement uses, and the same statement with its parameters at other places.
+-- Which parameters a bound statement uses, and the same statement with its parameters at other ordinals.
 use Rattle.std.specs.Prelude.{ℕ, List, map, Option, Some, None, Bool, false, ◌||◌, ◌==◌}
 use Rattle.std.specs.List.{list_any}
 use Rattle.std.specs.Option.{option_map}
@@ -10,66 +10,66 @@ use Rattle.sql_tree.specs.Conditions as conditions
 use Rattle.sql_tree.specs.Bound.{BoundRow, BoundInsert, BoundAssignment, BoundUpdate, BoundDelete, BoundJoin, BoundItemValue, BoundItem, BoundQuery, BoundStatement, Bound}
 use Rattle.sql_tree.specs.Bound as bound
 
--- ---- whether the parameter at a place is used
+-- ---- whether the parameter at an ordinal is used
 
 abbrev mutual
   pub uses_in : ℕ → Operand ℕ ℕ → Bool
-  uses_in place (operands.Literal at value) = false
-  uses_in place (operands.Param at param) = param == place
-  uses_in place (operands.Column at column) = false
-  uses_in place (operands.Minus at operand) = uses_in place operand
-  uses_in place (operands.Sum first terms) = uses_in place first || uses_in_terms place terms
+  uses_in ordinal (operands.Literal at value) = false
+  uses_in ordinal (operands.Param at param) = param == ordinal
+  uses_in ordinal (operands.Column at column) = false
+  uses_in ordinal (operands.Minus at operand) = uses_in ordinal operand
+  uses_in ordinal (operands.Sum first terms) = uses_in ordinal first || uses_in_terms ordinal terms
 
   pub uses_in_terms : ℕ → Terms ℕ ℕ → Bool
-  uses_in_terms place operands.NoMore = false
-  uses_in_terms place (operands.PlusThen at operand more) = uses_in place operand || uses_in_terms place more
-  uses_in_terms place (operands.MinusThen at operand more) = uses_in place operand || uses_in_terms place more
+  uses_in_terms ordinal operands.NoMore = false
+  uses_in_terms ordinal (operands.PlusThen at operand more) = uses_in ordinal operand || uses_in_terms ordinal more
+  uses_in_terms ordinal (operands.MinusThen at operand more) = uses_in ordinal operand || uses_in_terms ordinal more
 
 abbrev mutual
   pub uses_in_condition : ℕ → Condition ℕ ℕ → Bool
-  uses_in_condition place (conditions.Compare at comparison left right) = uses_in place left || uses_in place right
-  uses_in_condition place (conditions.IsNull negated operand) = uses_in place operand
-  uses_in_condition place (conditions.In at negated operand list) = uses_in place operand || list_any (uses_in place) list
-  uses_in_condition place (conditions.Not condition) = uses_in_condition place condition
-  uses_in_condition place (conditions.AllOf all) = uses_in_conditions place all
-  uses_in_condition place (conditions.AnyOf any) = uses_in_conditions place any
+  uses_in_condition ordinal (conditions.Compare at comparison left right) = uses_in ordinal left || uses_in ordinal right
+  uses_in_condition ordinal (conditions.IsNull negated operand) = uses_in ordinal operand
+  uses_in_condition ordinal (conditions.In at negated operand list) = uses_in ordinal operand || list_any (uses_in ordinal) list
+  uses_in_condition ordinal (conditions.Not condition) = uses_in_condition ordinal condition
+  uses_in_condition ordinal (conditions.AllOf all) = uses_in_conditions ordinal all
+  uses_in_condition ordinal (conditions.AnyOf any) = uses_in_conditions ordinal any
 
   pub uses_in_conditions : ℕ → Conditions ℕ ℕ → Bool
-  uses_in_conditions place conditions.NoMore = false
-  uses_in_conditions place (conditions.Then condition more) = uses_in_condition place condition || uses_in_conditions place more
+  uses_in_conditions ordinal conditions.NoMore = false
+  uses_in_conditions ordinal (conditions.Then condition more) = uses_in_condition ordinal condition || uses_in_conditions ordinal more
 
 abbrev pub uses_in_filter : ℕ → Option (Condition ℕ ℕ) → Bool
-uses_in_filter place None = false
-uses_in_filter place (Some condition) = uses_in_condition place condition
+uses_in_filter ordinal None = false
+uses_in_filter ordinal (Some condition) = uses_in_condition ordinal condition
 
 abbrev pub uses_in_row : ℕ → BoundRow → Bool
-uses_in_row place row = list_any (uses_in place) row.values
+uses_in_row ordinal row = list_any (uses_in ordinal) row.values
 
 abbrev pub uses_in_assignment : ℕ → BoundAssignment → Bool
-uses_in_assignment place assignment = uses_in place assignment.value
+uses_in_assignment ordinal assignment = uses_in ordinal assignment.value
 
 abbrev pub uses_in_value : ℕ → BoundItemValue → Bool
-uses_in_value place (bound.Value operand) = uses_in place operand
-uses_in_value place (bound.Count at) = false
+uses_in_value ordinal (bound.Value operand) = uses_in ordinal operand
+uses_in_value ordinal (bound.Count at) = false
 
 abbrev pub uses_in_item : ℕ → BoundItem → Bool
-uses_in_item place item = uses_in_value place item.value
+uses_in_item ordinal item = uses_in_value ordinal item.value
 
 abbrev pub uses_in_join : ℕ → BoundJoin → Bool
-uses_in_join place join = uses_in_condition place join.on
+uses_in_join ordinal join = uses_in_condition ordinal join.on
 
 abbrev pub uses_in_statement : ℕ → BoundStatement → Bool
-uses_in_statement place (bound.Insert insert) = list_any (uses_in_row place) insert.rows
-uses_in_statement place (bound.Update update) = list_any (uses_in_assignment place) update.assignments || uses_in_filter place update.filter
-uses_in_statement place (bound.Delete delete) = uses_in_filter place delete.filter
-uses_in_statement place (bound.Select query) =
-    list_any (uses_in_item place) query.items || (list_any (uses_in_join place) query.joins || uses_in_filter place query.filter)
-uses_in_statement place other = false
+uses_in_statement ordinal (bound.Insert insert) = list_any (uses_in_row ordinal) insert.rows
+uses_in_statement ordinal (bound.Update update) = list_any (uses_in_assignment ordinal) update.assignments || uses_in_filter ordinal update.filter
+uses_in_statement ordinal (bound.Delete delete) = uses_in_filter ordinal delete.filter
+uses_in_statement ordinal (bound.Select query) =
+    list_any (uses_in_item ordinal) query.items || (list_any (uses_in_join ordinal) query.joins || uses_in_filter ordinal query.filter)
+uses_in_statement ordinal other = false
 
 abbrev pub uses : ℕ → Bound → Bool
-uses place bound = uses_in_statement place bound.statement
+uses ordinal bound = uses_in_statement ordinal bound.statement
 
--- ---- each parameter at another place
+-- ---- each parameter at another ordinal
 
 abbrev mutual
   pub renamed_operand : (ℕ → ℕ) → Operand ℕ ℕ → Operand ℕ ℕ
@@ -105,7 +105,7 @@ abbrev pub renamed_row : (ℕ → ℕ) → BoundRow → BoundRow
 renamed_row f row = record { at = row.at; values = map (renamed_operand f) row.values }
 
 abbrev pub renamed_assignment : (ℕ → ℕ) → BoundAssignment → BoundAssignment
-renamed_assignment f a = record { at = a.at; place = a.place; value = renamed_operand f a.value }
+renamed_assignment f a = record { at = a.at; ordinal = a.ordinal; value = renamed_operand f a.value }
 
 abbrev pub renamed_value : (ℕ → ℕ) → BoundItemValue → BoundItemValue
 renamed_value f (bound.Value operand) = bound.Value (renamed_operand f operand)
@@ -131,7 +131,7 @@ renamed_query f q = record {
 
 abbrev pub renamed_statement : (ℕ → ℕ) → BoundStatement → BoundStatement
 renamed_statement f (bound.Definition d) = bound.Definition d
-renamed_statement f (bound.Insert insert) = bound.Insert (record { table = insert.table; named = insert.named; rows = map (renamed_row f) insert.rows })
+renamed_statement f (bound.Insert insert) = bound.Insert (record { table = insert.table; columns = insert.columns; rows = map (renamed_row f) insert.rows })
 renamed_statement f (bound.Update update) =
     bound.Update (record { table = update.table; assignments = map (renamed_assignment f) update.assignments; filter = renamed_filter f update.filter })
 renamed_statement f (bound.Delete delete) = bound.Delete (record { table = delete.table; filter = renamed_filter f delete.filter })

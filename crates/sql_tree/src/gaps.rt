@@ -3,10 +3,9 @@
 ghost use Rattle.std.specs.Prelude.{◌≡◌, ◌≤◌, ◌==◌, length, not, take_while};
 ghost use Rattle.sql_tree.specs.Tokens as spec;
 
-use crate::fronts::{byte_at, is_blank};
+use crate::next_tokens::{byte_at, is_blank};
 
-/// How many bytes at the front stand between tokens: a blank, or a comment up to the end of its
-/// line.
+/// How many of the first bytes separate tokens: a blank, or a comment up to the end of its line.
 pub(crate) fn passed_over(bytes: &[u8]) -> usize
     ensures gap { result ≡ spec.passed_over bytes.now }
     ensures within { 1 ≤ length bytes.now → result ≤ length bytes.now }

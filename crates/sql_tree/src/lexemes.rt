@@ -4,7 +4,7 @@ use ae_base::blobs::Blob;
 use ae_base::names::{Name, ParamName};
 use ae_base::texts::Txt;
 
-/// A reserved word, which is no identifier unless it stands in brackets.
+/// A reserved word, which is no identifier unless it is in brackets.
 #[derive(Clone, Copy, PartialEq, Eq, Debug)]
 pub enum Keyword {
     Add,

@@ -47,7 +47,7 @@ pub enum Operand<C, P> {
     },
 }
 
-/// A term behind the first of a sum, at its operator.
+/// A term after the first of a sum, at its operator.
 #[derive(Drop)]
 #[cycle(operand)]
 pub enum Term<C, P> {

@@ -6,14 +6,14 @@ ghost use Rattle.sql_tree.specs.declared.lexemes.Lexeme.TheVariants as lexeme;
 ghost use Rattle.sql_tree.specs.Tokens as spec;
 ghost use Rattle.sql_tree.specs.Reading.{IsPrefix, quoted_byte};
 
-use crate::fronts::Front;
 use crate::lexemes::Lexeme;
+use crate::next_tokens::NextToken;
 use ae_base::names::Name;
 use ae_base::texts::Txt;
 use std::alloc::{AllocError, Global};
 
-/// The byte that begins what stands in quotes, and how many bytes spell it: two quotes stand for
-/// one. There is none where the closing quote stands, or nothing.
+/// The first byte of a text in quotes, and how many bytes spell it: two quotes spell one. There is
+/// none at the closing quote, or at the end.
 fn quoted_byte(bytes: &[u8], quote: u8) -> Option<(u8, usize)>
     ensures byte { result ≡ quoted_byte quote bytes.now }
     ensures within { IfSome result (λ x. (1 ≤ x.1) × (x.1 ≤ length bytes.now)) }
@@ -25,7 +25,7 @@ fn quoted_byte(bytes: &[u8], quote: u8) -> Option<(u8, usize)>
     }
 }
 
-/// What stands behind an opening quote up to the closing one, and how many bytes that is with the
+/// The text after an opening quote up to the closing one, and how many bytes that is with the
 /// closing one.
 fn quoted(alloc: Global, bytes: &[u8], quote: u8) -> Result<Option<(Vec<u8>, usize)>, AllocError>
     ensures { IfOk result (λ found. MatchOption found (spec.quoted quote bytes.now ≡ None)
@@ -60,39 +60,39 @@ pub(crate) fn text(
     bytes: &[u8],
     opening: usize,
     most: u64,
-) -> Result<Front, AllocError>
+) -> Result<NextToken, AllocError>
     requires some { 1 ≤ opening }
     requires within { opening ≤ length bytes.now }
     ensures { IfOk result
-        (IsPrefix most bytes.now (spec.quoted_front spec.text_lexeme 39 opening bytes.now)) }
+        (IsPrefix most bytes.now (spec.next_quoted spec.text_lexeme 39 opening bytes.now)) }
 {
     let Some((text, len)) = quoted(alloc, &bytes[opening..], b'\'')? else {
-        return Ok(Front::Nothing);
+        return Ok(NextToken::Nothing);
     };
     Ok(match text_of(text) {
-        Some(text) => Front::Token {
+        Some(text) => NextToken::Token {
             lexeme: Lexeme::Text(text),
             len: opening + len,
         },
-        None => Front::Nothing,
+        None => NextToken::Nothing,
     })
 }
 
 /// An identifier in brackets.
-pub(crate) fn bracketed(alloc: Global, bytes: &[u8], most: u64) -> Result<Front, AllocError>
+pub(crate) fn bracketed(alloc: Global, bytes: &[u8], most: u64) -> Result<NextToken, AllocError>
     requires { 1 ≤ length bytes.now }
     ensures { IfOk result
-        (IsPrefix most bytes.now (spec.quoted_front spec.bracketed_lexeme 93 1 bytes.now)) }
+        (IsPrefix most bytes.now (spec.next_quoted spec.bracketed_lexeme 93 1 bytes.now)) }
 {
     let Some((text, len)) = quoted(alloc, &bytes[1..], b']')? else {
-        return Ok(Front::Nothing);
+        return Ok(NextToken::Nothing);
     };
     Ok(match name_of(text) {
-        Some(name) => Front::Token {
+        Some(name) => NextToken::Token {
             lexeme: Lexeme::Ident(name),
             len: 1 + len,
         },
-        None => Front::Nothing,
+        None => NextToken::Nothing,
     })
 }
 

@@ -27,7 +27,7 @@ pub struct Encryption {
     pub kind: EncryptionKind,
 }
 
-/// A column of CREATE TABLE. `unique` is the place of its word UNIQUE.
+/// A column of CREATE TABLE. `unique` is the offset of its word UNIQUE.
 #[derive(Drop)]
 pub struct ColumnSpec {
     pub name: Name,
@@ -138,7 +138,7 @@ pub struct OrderKey {
     pub descending: bool,
 }
 
-/// A SELECT. `distinct` is the place of the word DISTINCT.
+/// A SELECT. `distinct` is the offset of the word DISTINCT.
 #[derive(Drop)]
 pub struct Query {
     pub distinct: Option<u32>,
@@ -205,7 +205,7 @@ pub enum Definition {
     DropTable(Name),
     DropMaster(Name),
     DropKey(Name),
-    /// ALTER TABLE .. REPLACE BY, which puts the table `new` in the place of `old`.
+    /// ALTER TABLE .. REPLACE BY, which replaces the table `old` by `new`.
     ReplaceTable {
         old: Name,
         new: Name,

@@ -4,9 +4,9 @@ ghost use Rattle.std.specs.Prelude.{◌≡◌, ◌<◌, ◌^◌, length};
 ghost use Rattle.sql_tree.specs.declared.tokens.TokensFault.TheVariants.{OutOfMemory};
 ghost use Rattle.sql_tree.specs.Reading.{Tokenizes};
 
-use crate::fronts::{Front, front_of};
 use crate::gaps::passed_over;
 use crate::lexemes::Token;
+use crate::next_tokens::{NextToken, next_token_of};
 use ae_base::lists::Seq;
 use std::alloc::{AllocError, Global};
 use thiserror::Error;
@@ -48,19 +48,19 @@ pub fn tokens(alloc: Global, text: &str, most: u64) -> Result<Seq<Token>, Tokens
             at += gap;
             continue;
         }
-        match front_of(alloc, &bytes[at..], most)? {
-            Front::Token { lexeme, len } => {
+        match next_token_of(alloc, &bytes[at..], most)? {
+            NextToken::Token { lexeme, len } => {
                 tokens.push(Token {
                     at: at as u32,
                     lexeme,
                 })?;
                 at += len;
             }
-            Front::Wide { len } => {
+            NextToken::Wide { len } => {
                 wide = wide.or(Some(at as u32));
                 at += len;
             }
-            Front::Nothing => return Err(TokensFault::NotTokens),
+            NextToken::Nothing => return Err(TokensFault::NotTokens),
         }
     }
     match wide {

@@ -12,13 +12,13 @@ use Rattle.catalog.specs.Catalogs.{Catalog}
 use Rattle.catalog.specs.WellFormed.{IsCatalog, IsKeyThere}
 use Rattle.enc_types.specs.Laws.{TypingsAreOfColumns}
 use Rattle.expression_binding.specs.Declarations.{type_of}
-use Rattle.statement_analysis.specs.Describing.{Meant}
-use Rattle.statement_analysis.specs.Understood.{IsUnderstood}
+use Rattle.statement_analysis.specs.Describing.{Analysis}
+use Rattle.statement_analysis.specs.Analyzed.{IsAnalyzed}
 
 -- each declared parameter has an encryption
-pub encs_count : (catalog : Catalog) (declarations : List ParamDecl) (meant : Meant) → TypingsAreOfColumns → IsUnderstood catalog declarations meant → length meant.encs ≡ length declarations
-unfolding IsUnderstood
-encs_count catalog declarations meant law u = (law meant.bound meant.encs u.typed).0 ∙ ap length u.bound.params ∙ length-map declarations type_of
+pub encs_count : (catalog : Catalog) (declarations : List ParamDecl) (analysis : Analysis) → TypingsAreOfColumns → IsAnalyzed catalog declarations analysis → length analysis.encs ≡ length declarations
+unfolding IsAnalyzed
+encs_count catalog declarations analysis law u = (law analysis.bound analysis.encs u.typed).0 ∙ ap length u.bound.params ∙ length-map declarations type_of
 
 -- ---- keys
 
@@ -30,9 +30,9 @@ there_if catalog sites a e w = elim w [
 ]
 
 -- the keys of the parameters are there
-pub keys_there : (catalog : Catalog) (declarations : List ParamDecl) (meant : Meant) → TypingsAreOfColumns → IsCatalog catalog → IsUnderstood catalog declarations meant
-    → All (IsKeyThere catalog) meant.encs
-unfolding IsUnderstood
-keys_there catalog declarations meant law c u =
-    All-weaker (λ e. (e ≡ Plain) ⊎ Contains (map (λ (site : ColumnSite). site.enc) meant.bound.columns) e) (IsKeyThere catalog)
-    (there_if catalog meant.bound.columns (u.bound.keys c)) meant.encs (law meant.bound meant.encs u.typed).1
+pub keys_there : (catalog : Catalog) (declarations : List ParamDecl) (analysis : Analysis) → TypingsAreOfColumns → IsCatalog catalog → IsAnalyzed catalog declarations analysis
+    → All (IsKeyThere catalog) analysis.encs
+unfolding IsAnalyzed
+keys_there catalog declarations analysis law c u =
+    All-weaker (λ e. (e ≡ Plain) ⊎ Contains (map (λ (site : ColumnSite). site.enc) analysis.bound.columns) e) (IsKeyThere catalog)
+    (there_if catalog analysis.bound.columns (u.bound.keys c)) analysis.encs (law analysis.bound analysis.encs u.typed).1

@@ -2,6 +2,6 @@ mod Encryptions
 pub mod Interface
 mod Listing
 mod Passing
-mod Told
+mod Described
 mod Typings
 mod Used

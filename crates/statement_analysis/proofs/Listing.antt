@@ -41,9 +41,9 @@ use Rattle.ae_base.specs.declared.keys.KeyMeta.{KeyMeta}
 use Rattle.ae_base.specs.declared.one_or_two.OneOrTwo.{OneOrTwo}
 use Rattle.ae_base.specs.declared.types.Enc.{Enc}
 use Rattle.ae_base.specs.declared.types.Enc.TheVariants as enc
-use Rattle.catalog.specs.Catalogs.{Catalog, key_of, key_meta, values_told, meta_of}
+use Rattle.catalog.specs.Catalogs.{Catalog, key_of, key_meta, described_values, meta_of}
 use Rattle.catalog.specs.WellFormed.{IsCatalog, IsKeyThere}
-use Rattle.catalog.specs.Laws.{KeysAreTold}
+use Rattle.catalog.specs.Laws.{KeysAreDescribed}
 use Rattle.catalog.specs.declared.keys.ColumnKey.{ColumnKey}
 use Rattle.wire_messages.specs.KeyLists.{entries_of_key, entries_of, keys_used, ids_of, AreTheKeysOf}
 use Rattle.statement_analysis.specs.Describing.{meta_list, keys_of}
@@ -176,19 +176,19 @@ meta_named key None meta e = absurd cc
 meta_named key (Some values) meta e = let f : meta_of key values ≡ meta = cc in sym (ap (λ (m : KeyMeta). m.id) f)
 
 meta_found : (catalog : Catalog) (id : ℕ) (o : Option ColumnKey) → ((k : ColumnKey) → o ≡ Some k → k.id ≡ id) → (meta : KeyMeta)
-    → option_and_then (λ key. option_map (meta_of key) (values_told catalog key.values)) o ≡ Some meta → meta.id ≡ id
+    → option_and_then (λ key. option_map (meta_of key) (described_values catalog key.values)) o ≡ Some meta → meta.id ≡ id
 meta_found catalog id None h meta e = absurd cc
-meta_found catalog id (Some key) h meta e = meta_named key (values_told catalog key.values) meta e ∙ h key refl
+meta_found catalog id (Some key) h meta e = meta_named key (described_values catalog key.values) meta e ∙ h key refl
 
-told_one : (o : Option KeyMeta) (id : ℕ) (ids : List ℕ) (rest : List KeyMeta) → IsSome o → ((m : KeyMeta) → o ≡ Some m → m.id ≡ id) → ids_of rest ≡ ids → ids_of (meta_list o ++ rest) ≡ id ∷ ids
-told_one None id ids rest s h e = absurd cc
-told_one (Some m) id ids rest s h e = let f = h m refl in rw (f, e) refl
+described_one : (o : Option KeyMeta) (id : ℕ) (ids : List ℕ) (rest : List KeyMeta) → IsSome o → ((m : KeyMeta) → o ≡ Some m → m.id ≡ id) → ids_of rest ≡ ids → ids_of (meta_list o ++ rest) ≡ id ∷ ids
+described_one None id ids rest s h e = absurd cc
+described_one (Some m) id ids rest s h e = let f = h m refl in rw (f, e) refl
 
-told_ids : (catalog : Catalog) → IsCatalog catalog → KeysAreTold → (ids : List ℕ) → All (IsThere catalog) ids → ids_of (flat_map (λ id. meta_list (key_meta catalog id)) ids) ≡ ids
-told_ids catalog c law [] a = refl
-told_ids catalog c law (id ∷ ids) a =
-    told_one (key_meta catalog id) id ids (flat_map (λ id. meta_list (key_meta catalog id)) ids) (law catalog id c (All-head (IsThere catalog) id ids a))
-    (λ m e. meta_found catalog id (key_of catalog id) (λ k f. found_id catalog.keys id k f) m e) (told_ids catalog c law ids (All-tail (IsThere catalog) id ids a))
+described_ids : (catalog : Catalog) → IsCatalog catalog → KeysAreDescribed → (ids : List ℕ) → All (IsThere catalog) ids → ids_of (flat_map (λ id. meta_list (key_meta catalog id)) ids) ≡ ids
+described_ids catalog c law [] a = refl
+described_ids catalog c law (id ∷ ids) a =
+    described_one (key_meta catalog id) id ids (flat_map (λ id. meta_list (key_meta catalog id)) ids) (law catalog id c (All-head (IsThere catalog) id ids a))
+    (λ m e. meta_found catalog id (key_of catalog id) (λ k f. found_id catalog.keys id k f) m e) (described_ids catalog c law ids (All-tail (IsThere catalog) id ids a))
 
 -- ---- each has at most two values
 
@@ -205,9 +205,9 @@ few_entries (key ∷ keys) =
     let both = length-append (entries_of_key key) (entries_of keys) in
     omega (arith, one, b, rest, both)
 
-pub are_the_keys : (catalog : Catalog) → IsCatalog catalog → KeysAreTold → (encs : List Enc) → All (IsKeyThere catalog) encs → AreTheKeysOf encs (keys_of catalog encs)
+pub are_the_keys : (catalog : Catalog) → IsCatalog catalog → KeysAreDescribed → (encs : List Enc) → All (IsKeyThere catalog) encs → AreTheKeysOf encs (keys_of catalog encs)
 are_the_keys catalog c law encs a =
-    let e = told_ids catalog c law (keys_used [] encs) (used_there catalog [] encs a) in
+    let e = described_ids catalog c law (keys_used [] encs) (used_there catalog [] encs a) in
     let n = length-map (keys_of catalog encs) (λ (key : KeyMeta). key.id) in
     let m : length (ids_of (keys_of catalog encs)) ≡ length (keys_used [] encs) = ap length e in
     let le = few_used_keys catalog [] encs a in

@@ -18,8 +18,8 @@ use Rattle.enc_types.specs.Rules.{at_of, rules}
 use Rattle.enc_types.specs.declared.rules.Rule.{Rule}
 use Rattle.inference.specs.Infers.{IsClashOf}
 use Rattle.inference.specs.declared.infer.EncryptionClash.{EncryptionClash}
-use Rattle.statement_analysis.specs.Describing.{meant_of, typed, with_encs}
-use Rattle.statement_analysis.specs.Understood.{IsNamed, IsUnderstood}
+use Rattle.statement_analysis.specs.Describing.{analysis_of, typed, with_encs}
+use Rattle.statement_analysis.specs.Analyzed.{IsNamed, IsAnalyzed}
 use Rattle.statement_analysis.specs.Explaining.{Shows}
 
 pub typed_where : (b : Bound) (encs : List Enc) → inferred_encs b ≡ Ok encs → typed b ≡ Ok (record { bound = b; encs = encs })
@@ -33,10 +33,10 @@ clash_where b clash c = ap (with_encs b) c.inferred
 pub shows_nothing : (b : Bound) (encs : List Enc) → inferred_encs b ≡ Ok encs → Shows b (inferred_encs b) []
 shows_nothing b encs e = subst (λ r. Shows b r []) (sym e) refl
 
-pub shows_chain : (b : Bound) (clash : EncryptionClash) (places : List ℕ) → IsClashOf b.params b.columns (rules b) clash → places ≡ map at_of clash.chain
-    → Shows b (inferred_encs b) places
+pub shows_chain : (b : Bound) (clash : EncryptionClash) (offsets : List ℕ) → IsClashOf b.params b.columns (rules b) clash → offsets ≡ map at_of clash.chain
+    → Shows b (inferred_encs b) offsets
 unfolding inferred_encs
-shows_chain b clash places c e = subst (λ r. Shows b r places) (sym c.inferred) (record { chain = clash.chain; clashes = c.clashes; told = e })
+shows_chain b clash offsets c e = subst (λ r. Shows b r offsets) (sym c.inferred) (record { chain = clash.chain; clashes = c.clashes; described = e })
 
 -- what is bound is named so
 pub named_so : (law : BoundStatementsAre) (catalog : Catalog) (statement : Statement) (declarations : List ParamDecl) (result : Result code.Bound (Refusal SqlFault))
@@ -46,14 +46,14 @@ named_so law catalog statement declarations (Ok b) a = law catalog statement dec
 named_so law catalog statement declarations (Err e) a = tt
 
 -- what is named and typed is understood
-pub understood_so : (catalog : Catalog) (declarations : List ParamDecl) (bound : code.Bound) (result : Result Typed (Refusal SqlFault)) → IsNamed catalog declarations (bound_of bound)
-    → IfOk result (λ typed. typed.bound ≡ bound) → IfOk result (λ typed. IsUnderstood catalog declarations (meant_of typed))
-unfolding IsNamed IsUnderstood
-understood_so catalog declarations bound (Ok typed) b e = record { bound = subst (λ b. IsBoundOver catalog declarations (bound_of b)) (sym e) b; typed = typed.typed }
-understood_so catalog declarations bound (Err f) b e = tt
+pub analyzed_so : (catalog : Catalog) (declarations : List ParamDecl) (bound : code.Bound) (result : Result Typed (Refusal SqlFault)) → IsNamed catalog declarations (bound_of bound)
+    → IfOk result (λ typed. typed.bound ≡ bound) → IfOk result (λ typed. IsAnalyzed catalog declarations (analysis_of typed))
+unfolding IsNamed IsAnalyzed
+analyzed_so catalog declarations bound (Ok typed) b e = record { bound = subst (λ b. IsBoundOver catalog declarations (bound_of b)) (sym e) b; typed = typed.typed }
+analyzed_so catalog declarations bound (Err f) b e = tt
 
 -- the places that are told of a clash
-pub shows_places : {E : Type 0} (b : Bound) (clash : EncryptionClash) (chain : List Rule) (result : Result (List ℕ) E) → IsClashOf b.params b.columns (rules b) clash → chain ≡ clash.chain
-    → IfOk result (λ places. places ≡ map at_of chain) → IfOk result (Shows b (inferred_encs b))
-shows_places b clash chain (Ok places) c e p = shows_chain b clash places c (subst (λ (rs : List Rule). places ≡ map at_of rs) e p)
-shows_places b clash chain (Err f) c e p = tt
+pub shows_ordinals : {E : Type 0} (b : Bound) (clash : EncryptionClash) (chain : List Rule) (result : Result (List ℕ) E) → IsClashOf b.params b.columns (rules b) clash → chain ≡ clash.chain
+    → IfOk result (λ offsets. offsets ≡ map at_of chain) → IfOk result (Shows b (inferred_encs b))
+shows_ordinals b clash chain (Ok offsets) c e p = shows_chain b clash offsets c (subst (λ (rs : List Rule). offsets ≡ map at_of rs) e p)
+shows_ordinals b clash chain (Err f) c e p = tt

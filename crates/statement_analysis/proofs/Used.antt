@@ -27,37 +27,37 @@ few_one : (name : List ℕ) (enc : Enc) (rest : List UsedParam) (n : ℕ) (is : 
 few_one name enc rest n true le = omega (arith, le)
 few_one name enc rest n false le = omega (arith, le)
 
-pub few_used : (place : ℕ) (b : Bound) (ds : List ParamDecl) (es : List Enc) → length (used_from place b ds es) ≤ length ds
-few_used place b [] es = omega arith
-few_used place b (d ∷ ds) [] = omega arith
-few_used place b (d ∷ ds) (e ∷ es) =
-    let le = few_one d.name e (used_from (place + 1) b ds es) (length ds) (uses place b) (few_used (place + 1) b ds es) in omega (arith, le)
+pub few_used : (ordinal : ℕ) (b : Bound) (ds : List ParamDecl) (es : List Enc) → length (used_from ordinal b ds es) ≤ length ds
+few_used ordinal b [] es = omega arith
+few_used ordinal b (d ∷ ds) [] = omega arith
+few_used ordinal b (d ∷ ds) (e ∷ es) =
+    let le = few_one d.name e (used_from (ordinal + 1) b ds es) (length ds) (uses ordinal b) (few_used (ordinal + 1) b ds es) in omega (arith, le)
 
 absent_one : (n name : List ℕ) (enc : Enc) (rest : List UsedParam) (is : Bool) → bytes_eq n name ≡ false → list_any (bytes_eq n) (names_of rest) ≡ false
     → list_any (bytes_eq n) (names_of (if is then record { name = name; enc = enc } ∷ rest else rest)) ≡ false
 absent_one n name enc rest true f r = rw (f, r) refl
 absent_one n name enc rest false f r = r
 
-absent_used : (n : List ℕ) (place : ℕ) (b : Bound) (ds : List ParamDecl) (es : List Enc) → list_any (bytes_eq n) (declared_names ds) ≡ false
-    → list_any (bytes_eq n) (names_of (used_from place b ds es)) ≡ false
-absent_used n place b [] es h = refl
-absent_used n place b (d ∷ ds) [] h = refl
-absent_used n place b (d ∷ ds) (e ∷ es) h =
+absent_used : (n : List ℕ) (ordinal : ℕ) (b : Bound) (ds : List ParamDecl) (es : List Enc) → list_any (bytes_eq n) (declared_names ds) ≡ false
+    → list_any (bytes_eq n) (names_of (used_from ordinal b ds es)) ≡ false
+absent_used n ordinal b [] es h = refl
+absent_used n ordinal b (d ∷ ds) [] h = refl
+absent_used n ordinal b (d ∷ ds) (e ∷ es) h =
     let p = or_parts (bytes_eq n d.name) (list_any (bytes_eq n) (declared_names ds)) h in
-    absent_one n d.name e (used_from (place + 1) b ds es) (uses place b) p.0 (absent_used n (place + 1) b ds es p.1)
+    absent_one n d.name e (used_from (ordinal + 1) b ds es) (uses ordinal b) p.0 (absent_used n (ordinal + 1) b ds es p.1)
 
 differ_one : (name : List ℕ) (enc : Enc) (rest : List UsedParam) (is : Bool) → list_any (bytes_eq name) (names_of rest) ≡ false → all_differ (names_of rest) ≡ true
     → all_differ (names_of (if is then record { name = name; enc = enc } ∷ rest else rest)) ≡ true
 differ_one name enc rest true f r = rw (f, r) refl
 differ_one name enc rest false f r = r
 
-pub used_differ : (place : ℕ) (b : Bound) (ds : List ParamDecl) (es : List Enc) → all_differ (declared_names ds) ≡ true → all_differ (names_of (used_from place b ds es)) ≡ true
-used_differ place b [] es h = refl
-used_differ place b (d ∷ ds) [] h = refl
-used_differ place b (d ∷ ds) (e ∷ es) h =
+pub used_differ : (ordinal : ℕ) (b : Bound) (ds : List ParamDecl) (es : List Enc) → all_differ (declared_names ds) ≡ true → all_differ (names_of (used_from ordinal b ds es)) ≡ true
+used_differ ordinal b [] es h = refl
+used_differ ordinal b (d ∷ ds) [] h = refl
+used_differ ordinal b (d ∷ ds) (e ∷ es) h =
     let p = and_parts (not (list_any (bytes_eq d.name) (declared_names ds))) (all_differ (declared_names ds)) h in
-    differ_one d.name e (used_from (place + 1) b ds es) (uses place b)
-    (absent_used d.name (place + 1) b ds es (not-true (list_any (bytes_eq d.name) (declared_names ds)) p.0)) (used_differ (place + 1) b ds es p.1)
+    differ_one d.name e (used_from (ordinal + 1) b ds es) (uses ordinal b)
+    (absent_used d.name (ordinal + 1) b ds es (not-true (list_any (bytes_eq d.name) (declared_names ds)) p.0)) (used_differ (ordinal + 1) b ds es p.1)
 
 -- what holds of each parameter's encryption holds of those that are used
 with_one : (P : Enc → Type 0) (name : List ℕ) (enc : Enc) (rest : List UsedParam) (is : Bool) → P enc
@@ -65,7 +65,7 @@ with_one : (P : Enc → Type 0) (name : List ℕ) (enc : Enc) (rest : List UsedP
 with_one P name enc rest true p a = All-cons P enc (encs_of rest) p a
 with_one P name enc rest false p a = a
 
-pub used_encs : (P : Enc → Type 0) (place : ℕ) (b : Bound) (ds : List ParamDecl) (es : List Enc) → All P es → All P (encs_of (used_from place b ds es))
-used_encs P place b [] es a = All-nil P
-used_encs P place b (d ∷ ds) [] a = All-nil P
-used_encs P place b (d ∷ ds) (e ∷ es) a = with_one P d.name e (used_from (place + 1) b ds es) (uses place b) (All-head P e es a) (used_encs P (place + 1) b ds es (All-tail P e es a))
+pub used_encs : (P : Enc → Type 0) (ordinal : ℕ) (b : Bound) (ds : List ParamDecl) (es : List Enc) → All P es → All P (encs_of (used_from ordinal b ds es))
+used_encs P ordinal b [] es a = All-nil P
+used_encs P ordinal b (d ∷ ds) [] a = All-nil P
+used_encs P ordinal b (d ∷ ds) (e ∷ es) a = with_one P d.name e (used_from (ordinal + 1) b ds es) (uses ordinal b) (All-head P e es a) (used_encs P (ordinal + 1) b ds es (All-tail P e es a))

@@ -18,37 +18,37 @@ use Rattle.wire_messages.specs.KeyLists.{keys_used}
 use Rattle.wire_messages.specs.Messages.{Description}
 
 -- a bound statement, and how each of its declared parameters is encrypted by the least typing
-pub record Meant : Type 0 where
+pub record Analysis : Type 0 where
   pub bound : Bound
   pub encs : List Enc
 
 -- a typed statement of the code, without where it lies in memory
-abbrev pub meant_of : Typed → Meant
-meant_of typed = record { bound = bound_of typed.bound; encs = typed.encs }
+abbrev pub analysis_of : Typed → Analysis
+analysis_of typed = record { bound = bound_of typed.bound; encs = typed.encs }
 
-abbrev pub with_encs : Bound → Result (List Enc) ℕ → Result Meant SqlFault
+abbrev pub with_encs : Bound → Result (List Enc) ℕ → Result Analysis SqlFault
 with_encs bound (Ok encs) = Ok (record { bound = bound; encs = encs })
 with_encs bound (Err at) = Err (fault.EncryptionClash at)
 
-abbrev pub typed : Bound → Result Meant SqlFault
+abbrev pub typed : Bound → Result Analysis SqlFault
 typed bound = with_encs bound (inferred_encs bound)
 
--- the statement of a text, with a place for each name
+-- the statement of a text, with an ordinal for each name
 abbrev pub binding_of : Catalog → List ℕ → List ParamDecl → Result Bound SqlFault
 binding_of catalog text declarations = statement_in (encode_utf8_all text) >>= λ statement. bind catalog statement declarations
 
 -- what a text means with its parameters declared so, or its first fault: parsing, then binding, then typing
-unfoldable pub understood : Catalog → List ℕ → List ParamDecl → Result Meant SqlFault
-understood catalog text declarations = binding_of catalog text declarations >>= typed
+unfoldable pub analyzed : Catalog → List ℕ → List ParamDecl → Result Analysis SqlFault
+analyzed catalog text declarations = binding_of catalog text declarations >>= typed
 
 -- ---- descriptions
 
 -- the parameters that a statement uses, in the order of their declarations
 abbrev pub used_from : ℕ → Bound → List ParamDecl → List Enc → List UsedParam
-used_from place bound [] encs = []
-used_from place bound (d ∷ ds) [] = []
-used_from place bound (d ∷ ds) (e ∷ es) =
-    if uses place bound then record { name = d.name; enc = e } ∷ used_from (place + 1) bound ds es else used_from (place + 1) bound ds es
+used_from ordinal bound [] encs = []
+used_from ordinal bound (d ∷ ds) [] = []
+used_from ordinal bound (d ∷ ds) (e ∷ es) =
+    if uses ordinal bound then record { name = d.name; enc = e } ∷ used_from (ordinal + 1) bound ds es else used_from (ordinal + 1) bound ds es
 
 abbrev pub meta_list : Option KeyMeta → List KeyMeta
 meta_list None = []
@@ -58,11 +58,11 @@ meta_list (Some meta) = meta ∷ []
 abbrev pub keys_of : Catalog → List Enc → List KeyMeta
 keys_of catalog encs = flat_map (λ id. meta_list (key_meta catalog id)) (keys_used [] encs)
 
-abbrev pub description : Catalog → List ParamDecl → Meant → Description
-description catalog declarations meant =
-    let params = used_from 0 meant.bound declarations meant.encs in
+abbrev pub description : Catalog → List ParamDecl → Analysis → Description
+description catalog declarations analysis =
+    let params = used_from 0 analysis.bound declarations analysis.encs in
     record { version = catalog.version; keys = keys_of catalog (map (λ p. p.enc) params); params = params }
 
 -- the description of a text, or its first fault
 abbrev pub describe : Catalog → List ℕ → List ParamDecl → Result Description SqlFault
-describe catalog text declarations = understood catalog text declarations >>= λ meant. Ok (description catalog declarations meant)
+describe catalog text declarations = analyzed catalog text declarations >>= λ analysis. Ok (description catalog declarations analysis)

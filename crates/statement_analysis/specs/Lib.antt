@@ -1,5 +1,5 @@
 pub mod Describing
 pub mod Explaining
 pub mod Params
-pub mod Sorts
-pub mod Understood
+pub mod Kinds
+pub mod Analyzed

@@ -1,22 +1,22 @@
-//! What a client is told of a statement before it sends values.
+//! The description of a statement, which a client gets before it sends values.
 
 ghost use Rattle.std.specs.Prelude.{◌≡◌, ◌≤◌, IfOk, IsTrue, length, map};
 ghost use Rattle.ae_base.specs.Names.{all_differ};
 ghost use Rattle.ae_base.specs.Results.{Answers};
 ghost use Rattle.catalog.specs.WellFormed.{IsCatalog};
 ghost use Rattle.wire_messages.specs.KeyLists.{AreTheKeysOf};
-ghost use Rattle.statement_analysis.specs.Describing.{meant_of};
+ghost use Rattle.statement_analysis.specs.Describing.{analysis_of};
 ghost use Rattle.statement_analysis.specs.Describing as spec;
-ghost use Rattle.statement_analysis.specs.Understood.{IsUnderstood};
+ghost use Rattle.statement_analysis.specs.Analyzed.{IsAnalyzed};
 
 use crate::keys::keys_of;
-use crate::meaning::understood;
+use crate::meaning::analyzed;
 use crate::params::{declared, used_params};
 use ae_base::batches::ParamDecl;
 use ae_base::lists::Seq;
 use ae_base::refusals::Refusal;
 use catalog::catalogs::Catalog;
-use catalog::laws::keys_are_told;
+use catalog::laws::keys_are_described;
 use enc_types::laws::typings_are_of_columns;
 use enc_types::typed::Typed;
 use std::alloc::{AllocError, Global};
@@ -50,7 +50,7 @@ fn of_declared(
     requires differ { IsTrue (all_differ (map (λ d. d.name) declarations.now)) }
     ensures { Answers result (spec.describe catalog.now text.now declarations.now) }
 {
-    let typed = understood(alloc, catalog, text, declarations)?;
+    let typed = analyzed(alloc, catalog, text, declarations)?;
     Ok(of_typed(alloc, catalog, declarations, typed)?)
 }
 
@@ -63,9 +63,9 @@ fn of_typed(
     requires catalog { IsCatalog catalog.now }
     requires few { length declarations.now ≤ 128 }
     requires differ { IsTrue (all_differ (map (λ d. d.name) declarations.now)) }
-    requires understood { IsUnderstood catalog.now declarations.now (meant_of typed) }
+    requires analyzed { IsAnalyzed catalog.now declarations.now (analysis_of typed) }
     ensures { IfOk result
-        (λ d. d ≡ spec.description catalog.now declarations.now (meant_of typed)) }
+        (λ d. d ≡ spec.description catalog.now declarations.now (analysis_of typed)) }
 {
     let made = description(alloc, catalog, declarations, &typed);
     drop(typed);
@@ -81,11 +81,11 @@ fn description(
     requires catalog { IsCatalog catalog.now }
     requires few { length declarations.now ≤ 128 }
     requires differ { IsTrue (all_differ (map (λ d. d.name) declarations.now)) }
-    requires understood { IsUnderstood catalog.now declarations.now (meant_of typed.now) }
+    requires analyzed { IsAnalyzed catalog.now declarations.now (analysis_of typed.now) }
     ensures { IfOk result
-        (λ d. d ≡ spec.description catalog.now declarations.now (meant_of typed.now)) }
+        (λ d. d ≡ spec.description catalog.now declarations.now (analysis_of typed.now)) }
 {
-    keys_are_told();
+    keys_are_described();
     typings_are_of_columns();
     let params = used_params(alloc, typed, declarations)?;
     let keys = keys_of(alloc, catalog, params.as_slice())?;

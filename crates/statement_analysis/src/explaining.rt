@@ -18,7 +18,7 @@ use sql_tree::bound::Bound;
 use std::alloc::{AllocError, Global};
 use wire_parts::texts::StatementPart;
 
-/// The places of a chain of rules that clash, where the statement of a text has no encryption
+/// The offsets of a chain of rules that clash, where the statement of a text has no encryption
 /// typing; none for any other text.
 pub fn explain(
     alloc: Global,
@@ -47,17 +47,17 @@ fn chain_of(alloc: Global, bound: Bound) -> Result<Seq<u32>, AllocError>
             drop(typed);
             Ok(Seq::new(alloc))
         }
-        Err(Refusal::Fault(clash)) => places_of(alloc, clash.chain.as_slice()),
+        Err(Refusal::Fault(clash)) => ordinals_of(alloc, clash.chain.as_slice()),
         Err(Refusal::OutOfMemory) => Err(AllocError),
     }
 }
 
-fn places_of(alloc: Global, chain: &[Rule]) -> Result<Seq<u32>, AllocError>
-    ensures { IfOk result (λ places. places ≡ map at_of chain.now) }
+fn ordinals_of(alloc: Global, chain: &[Rule]) -> Result<Seq<u32>, AllocError>
+    ensures { IfOk result (λ offsets. offsets ≡ map at_of chain.now) }
 {
-    let mut places = Seq::new(alloc);
+    let mut offsets = Seq::new(alloc);
     for rule in chain {
-        places.push(rule.at())?;
+        offsets.push(rule.at())?;
     }
-    Ok(places)
+    Ok(offsets)
 }

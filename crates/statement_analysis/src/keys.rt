@@ -17,7 +17,7 @@ use std::alloc::{AllocError, Global};
 use wire_messages::key_lists::Encrypted;
 use wire_parts::keys::KeyPart;
 
-/// What a client is told of the keys of some items.
+/// The descriptions of the keys of some items.
 pub fn keys_of<T: Encrypted>(
     alloc: Global,
     catalog: &Catalog,
@@ -26,7 +26,7 @@ pub fn keys_of<T: Encrypted>(
     ensures { IfOk result (λ keys. keys ≡ spec.keys_of catalog.now (map T.enc_of items.now)) }
 {
     let ids = used_keys(alloc, items)?;
-    told_keys(alloc, catalog, ids.as_slice())
+    described_keys(alloc, catalog, ids.as_slice())
 }
 
 fn used_keys<T: Encrypted>(alloc: Global, items: &[T]) -> Result<Seq<KeyId>, AllocError>
@@ -39,7 +39,7 @@ fn used_keys<T: Encrypted>(alloc: Global, items: &[T]) -> Result<Seq<KeyId>, All
     Ok(ids)
 }
 
-/// Puts the key of one more encryption behind those that were used before it, where it is new.
+/// Appends the key of one more encryption to those that were used before it, if it is new.
 fn note(ids: &mut Seq<KeyId>, enc: Enc) -> Result<(), AllocError>
     ensures { OnOk result ((encs : List Enc) → ids.old ++ keys_used ids.old (enc ∷ encs) ≡ ids.new
         ++ keys_used ids.new encs) }
@@ -67,7 +67,7 @@ fn is_among(key: KeyId, ids: &[KeyId]) -> bool
     ids.iter().any(|id| *id == key)
 }
 
-fn told_keys(
+fn described_keys(
     alloc: Global,
     catalog: &Catalog,
     ids: &[KeyId],

@@ -5,7 +5,7 @@
 pub mod describing;
 pub mod explaining;
 pub mod keys;
+pub mod kinds;
 pub mod meaning;
 pub mod params;
-pub mod sorts;
 pub mod values;

@@ -3,9 +3,9 @@
 ghost use Rattle.std.specs.Prelude.{◌≡◌, IfOk};
 ghost use Rattle.ae_base.specs.Results.{AnswersAs};
 ghost use Rattle.sql_tree.specs.Bound.{bound_of};
-ghost use Rattle.statement_analysis.specs.Describing.{meant_of};
+ghost use Rattle.statement_analysis.specs.Describing.{analysis_of};
 ghost use Rattle.statement_analysis.specs.Describing as spec;
-ghost use Rattle.statement_analysis.specs.Understood.{IsNamed, IsUnderstood};
+ghost use Rattle.statement_analysis.specs.Analyzed.{IsNamed, IsAnalyzed};
 
 use ae_base::batches::ParamDecl;
 use ae_base::faults::SqlFault;
@@ -22,23 +22,23 @@ use wire_parts::texts::StatementPart;
 
 /// What a text means with its parameters declared so, or its first fault: of parsing, binding,
 /// typing.
-#[tactic(auto, unfolding(crate::specs::Describing::understood))]
-pub fn understood(
+#[tactic(auto, unfolding(crate::specs::Describing::analyzed))]
+pub fn analyzed(
     alloc: Global,
     catalog: &Catalog,
     text: &StatementPart<'_>,
     declarations: &[ParamDecl],
 ) -> Result<Typed, Refusal>
-    ensures exact { AnswersAs meant_of result
-        (spec.understood catalog.now text.now declarations.now) }
-    ensures meant { IfOk result
-        (λ typed. IsUnderstood catalog.now declarations.now (meant_of typed)) }
+    ensures exact { AnswersAs analysis_of result
+        (spec.analyzed catalog.now text.now declarations.now) }
+    ensures analysis { IfOk result
+        (λ typed. IsAnalyzed catalog.now declarations.now (analysis_of typed)) }
 {
     let bound = named(alloc, catalog, text, declarations)?;
     typed(alloc, bound)
 }
 
-/// The statement of a text, with a place for each name, or its first fault.
+/// The statement of a text, with an ordinal for each name, or its first fault.
 pub fn named(
     alloc: Global,
     catalog: &Catalog,
@@ -58,7 +58,7 @@ pub fn named(
 
 #[tactic(auto, using(crate::proofs::Typings::typed_where))]
 fn typed(alloc: Global, bound: Bound) -> Result<Typed, Refusal>
-    ensures exact { AnswersAs meant_of result (spec.typed (bound_of bound)) }
+    ensures exact { AnswersAs analysis_of result (spec.typed (bound_of bound)) }
     ensures bound { IfOk result (λ typed. typed.bound ≡ bound) }
 {
     match infer(alloc, bound) {

@@ -62,18 +62,18 @@ pub(crate) fn used_params(
 {
     let encs = typed.encs();
     let mut used = Seq::new(alloc);
-    for (place, declaration) in declarations.iter().enumerate() {
+    for (ordinal, declaration) in declarations.iter().enumerate() {
         add_where(
             &mut used,
-            uses(place, typed.bound()),
+            uses(ordinal, typed.bound()),
             declaration,
-            encs[place],
+            encs[ordinal],
         )?;
     }
     Ok(used)
 }
 
-/// Puts a parameter behind those before it, where it is used.
+/// Appends a parameter to those before it, if it is used.
 fn add_where(
     used: &mut Seq<UsedParam<'static>>,
     is_used: bool,

@@ -22,24 +22,24 @@ use wire_parts::texts::ParamNamePart;
 /// The values of parameters, or the first fault, parameter by parameter: ParamClash where one isn't
 /// encrypted as the typing has it or its value isn't of that, then BadCell where its cell has
 /// another shape than those of its type.
-pub fn suited(
+pub fn checked_params(
     alloc: Global,
     encs: &[Enc],
     params: &[SentParam<'_>],
 ) -> Result<Seq<Atom<Cell>>, Refusal>
     requires { length encs.now ≡ length params.now }
-    ensures exact { Answers result (spec.suited encs.now params.now) }
+    ensures exact { Answers result (spec.checked_params encs.now params.now) }
     ensures short { IfOk result (All IsSendable) }
 {
     let mut atoms = Seq::new(alloc);
-    for (place, param) in params.iter().enumerate() {
-        atoms.push(suited_atom(alloc, encs[place], param)?)?;
+    for (ordinal, param) in params.iter().enumerate() {
+        atoms.push(checked_atom(alloc, encs[ordinal], param)?)?;
     }
     Ok(atoms)
 }
 
-fn suited_atom(alloc: Global, wanted: Enc, param: &SentParam<'_>) -> Result<Atom<Cell>, Refusal>
-    ensures exact { Answers result (spec.suited_atom wanted param.now) }
+fn checked_atom(alloc: Global, wanted: Enc, param: &SentParam<'_>) -> Result<Atom<Cell>, Refusal>
+    ensures exact { Answers result (spec.checked_atom wanted param.now) }
     ensures short { IfOk result IsSendable }
 {
     let _short = param.atom.case();

@@ -9,7 +9,7 @@ use Rattle.scalar.specs.Eval.{atom_at}
 use Rattle.row_store.specs.declared.changes.Change.{Change}
 use Rattle.row_store.specs.Changes.{unhit, written}
 use Rattle.row_store.proofs.Interface.{written_long}
-use Rattle.indexed_tables.specs.Tables.{Held}
+use Rattle.indexed_tables.specs.Tables.{TableState}
 use Rattle.indexed_tables.specs.Updates.{AreKept, is_set}
 
 abbrev Row : Type 0
@@ -30,20 +30,20 @@ all_unhit (row ∷ rows) (false ∷ hits) h = All-cons IsOne row (unhit rows hit
 all_written : (rows : List Row) (changes : List (Change Row)) → All IsOne rows → AreOne changes → All IsOne (written rows changes)
 all_written rows [] h new = h
 all_written rows (c ∷ changes) h new =
-    all_written (slice_set rows c.place c.row) changes
-    (All-set IsOne rows c.place c.row (All-head (λ (c : Change Row). IsOne c.row) c changes new) h)
+    all_written (slice_set rows c.position c.row) changes
+    (All-set IsOne rows c.position c.row (All-head (λ (c : Change Row). IsOne c.row) c changes new) h)
     (All-tail (λ (c : Change Row). IsOne c.row) c changes new)
 
 -- ---- only the first column can differ
 
 module _ (sets : List BoundAssignment) (first : is_set sets 0 ≡ true) where
-  one_kept : (row other : Row) → IsOne row → IsOne other → (place : ℕ) → is_set sets place ≡ false → atom_at other place ≡ atom_at row place
+  one_kept : (row other : Row) → IsOne row → IsOne other → (position : ℕ) → is_set sets position ≡ false → atom_at other position ≡ atom_at row position
   one_kept row other r o zero n = let wrong : true ≡ false = sym first ∙ n in absurd cc
-  one_kept [] other r o (suc place) n = absurd (omega (arith, r))
-  one_kept (a ∷ row) [] r o (suc place) n = absurd (omega (arith, o))
-  one_kept (a ∷ []) (b ∷ []) r o (suc place) n = refl
-  one_kept (a ∷ []) (b ∷ c ∷ other) r o (suc place) n = absurd (omega (arith, o))
-  one_kept (a ∷ b ∷ row) (c ∷ other) r o (suc place) n = absurd (omega (arith, r))
+  one_kept [] other r o (suc position) n = absurd (omega (arith, r))
+  one_kept (a ∷ row) [] r o (suc position) n = absurd (omega (arith, o))
+  one_kept (a ∷ []) (b ∷ []) r o (suc position) n = refl
+  one_kept (a ∷ []) (b ∷ c ∷ other) r o (suc position) n = absurd (omega (arith, o))
+  one_kept (a ∷ b ∷ row) (c ∷ other) r o (suc position) n = absurd (omega (arith, r))
 
   each_kept : (old new : List Row) → length new ≡ length old → All IsOne old → All IsOne new → AreKept sets old new
   each_kept [] [] e h n = tt
@@ -63,11 +63,11 @@ two_changed none some both first second n s b f g =
 
 -- ---- what a table of one column keeps
 
-pub record IsColumn (held : Held) : Type 0 where
+pub record IsColumn (held : TableState) : Type 0 where
   pub key : held.keys ≡ (0 ∷ []) ∷ []
   pub narrow : All IsOne held.rows
 
-pub column_dropped : {A E : Type 0} (result : Result A E) (old new : Held) (hits : List Bool)
+pub column_dropped : {A E : Type 0} (result : Result A E) (old new : TableState) (hits : List Bool)
     → OnOk result (new ≡ record { keys = old.keys; rows = unhit old.rows hits }) → OnErr result (new ≡ old) → IsColumn old → IsColumn new
 column_dropped (Ok x) old new hits ok err h = subst IsColumn (sym ok) (record { key = h.key; narrow = all_unhit old.rows hits h.narrow })
 column_dropped (Err error) old new hits ok err h = subst IsColumn (sym err) h

@@ -28,7 +28,7 @@ fn number(n: Option<i64>) -> Atom<Cell>
     }
 }
 
-// Puts a row of a key and another number at the end of a table.
+// Appends a row of a key and another number to a table.
 fn add(
     alloc: Global,
     key: Option<i64>,

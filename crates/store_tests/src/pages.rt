@@ -15,7 +15,7 @@ fn counted(alloc: Global, count: usize) -> Result<Paged<usize>, AllocError> {
     Ok(table)
 }
 
-/// 600 rows stand in 3 pages; when 343 are taken from the front, 257 stand in 2, and after one more
+/// 600 rows stand in 3 pages; when 343 are taken from the start, 257 stand in 2, and after one more
 /// 256 in 1.
 #[test]
 fn pages_are_merged(rt: HostRuntime) -> Result<(), AllocError> {
@@ -48,7 +48,10 @@ fn pages_are_shared(rt: HostRuntime) -> Result<(), AllocError> {
     assert!(rt; copy.len() == 300);
     copy.make_writable(alloc, &[1])?;
     let mut changes = Seq::new(alloc);
-    changes.push(Change { place: 1, row: 7 })?;
+    changes.push(Change {
+        position: 1,
+        row: 7,
+    })?;
     copy.replace_all(changes);
     assert!(rt; *copy.get(1) == 7);
     copy.reserve(alloc, 1)?;

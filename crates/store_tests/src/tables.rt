@@ -75,22 +75,25 @@ impl Column {
         self.table.insert(alloc, rows)
     }
 
-    // Sets the numbers at a place and at the next one, unless two would be alike.
-    fn set_two(&mut self, alloc: Global, place: usize, new: [i64; 2]) -> Result<(), Refusal> {
-        if self.table.len() < 600 || place > 598 {
+    // Sets the numbers at a position and at the next one, unless two would be alike.
+    fn set_two(&mut self, alloc: Global, position: usize, new: [i64; 2]) -> Result<(), Refusal> {
+        if self.table.len() < 600 || position > 598 {
             return Err(Refusal::OutOfMemory);
         }
         let mut changes = Seq::new(alloc);
         let first = row(alloc, new[0])?;
-        changes.push(Change { place, row: first })?;
+        changes.push(Change {
+            position,
+            row: first,
+        })?;
         let second = row(alloc, new[1])?;
         changes.push(Change {
-            place: place + 1,
+            position: position + 1,
             row: second,
         })?;
         let set = BoundAssignment {
             at: 0,
-            place: 0,
+            position: 0,
             value: Operand::Column { at: 0, column: 0 },
         };
         self.table.update(alloc, &[set], changes)
@@ -115,12 +118,12 @@ impl Column {
         })
     }
 
-    // Whether a number stands at these places.
-    fn stands(&self, alloc: Global, n: i64, places: &[usize]) -> Result<bool, AllocError> {
+    // Whether a number stands at these positions.
+    fn stands(&self, alloc: Global, n: i64, positions: &[usize]) -> Result<bool, AllocError> {
         let key = Key::of_row(alloc, &[0], &row(alloc, n)?)?;
         let mut found = Vec::new(alloc);
-        self.table.places_with(&[0], &key, &mut found)?;
-        Ok(found.as_slice() == places)
+        self.table.positions_with(&[0], &key, &mut found)?;
+        Ok(found.as_slice() == positions)
     }
 }
 
@@ -137,7 +140,7 @@ fn some_dropped(alloc: Global) -> Result<[bool; 6], Refusal> {
     Ok([gone, first, behind, last, again, copied])
 }
 
-/// Rows behind those that are dropped are found where they stand then.
+/// Rows after those that are dropped are found where they stand then.
 #[test]
 fn rows_that_move_up(rt: HostRuntime) -> Result<(), AllocError> {
     match some_dropped(rt.alloc()) {

@@ -47,7 +47,7 @@ use Rattle.row_store.specs.Changes.{hit, is_at, marked}
 use Rattle.row_store.specs.Numbers.{AreRising, counted}
 use Rattle.row_store.proofs.Interface.{rising_hit, wider}
 use Rattle.row_changes.specs.Changes.{Tested, row_to_delete, all_tested}
-use Rattle.row_lookups.specs.Finding.{places_where}
+use Rattle.row_lookups.specs.Finding.{positions_where}
 use Rattle.table_changes.specs.Found.{lookup_of_filter, not_hit, among_others}
 use Rattle.table_changes.proofs.Hitting.{deletes_found}
 use Rattle.table_changes.proofs.Placed.{others_made, others_stay}
@@ -60,22 +60,22 @@ pub filter_wide : (width params : ℕ) (condition : Option BoundCondition) (rows
     → All (λ (row : Row). length row ≡ width) rows → IsPlacedFilter width params condition → All (λ (row : Row). IsPlacedFilter (length row) params condition) rows
 filter_wide width params condition rows h placed = λ i row lt. subst (λ n. IsPlacedFilter n params condition) (sym (h i row lt)) placed
 
--- ---- the places of the rows that are hit
+-- ---- the positions of the rows that are hit
 
--- no row before the first of some places is marked
-none_at : (n to : ℕ) (places : List ℕ) → AreRising (n + 1) to places → is_at n places ≡ false
+-- no row before the first of some positions is marked
+none_at : (n to : ℕ) (positions : List ℕ) → AreRising (n + 1) to positions → is_at n positions ≡ false
 none_at n to [] h = refl
-none_at n to (p ∷ places) h = differ h.0
+none_at n to (p ∷ positions) h = differ h.0
   where
     differ : n + 1 ≤ p → (p == n) ≡ false
     differ le = grind (arith, nat_tests)
 
-unmarked : (n count to : ℕ) (places : List ℕ) → AreRising (n + 1) to places → marked n (suc count) places ≡ false ∷ marked (n + 1) count places
-unmarked n count to places h = ap (λ b. b ∷ marked (n + 1) count (cond b (drop 1 places) places)) (none_at n to places h)
+unmarked : (n count to : ℕ) (positions : List ℕ) → AreRising (n + 1) to positions → marked n (suc count) positions ≡ false ∷ marked (n + 1) count positions
+unmarked n count to positions h = ap (λ b. b ∷ marked (n + 1) count (cond b (drop 1 positions) positions)) (none_at n to positions h)
 
 -- the first is
-marked_first : (n count : ℕ) (places : List ℕ) → marked n (suc count) (n ∷ places) ≡ true ∷ marked (n + 1) count places
-marked_first n count places = ap (λ b. b ∷ marked (n + 1) count (cond b places (n ∷ places))) same
+marked_first : (n count : ℕ) (positions : List ℕ) → marked n (suc count) (n ∷ positions) ≡ true ∷ marked (n + 1) count positions
+marked_first n count positions = ap (λ b. b ∷ marked (n + 1) count (cond b positions (n ∷ positions))) same
   where
     same : (n == n) ≡ true
     same = grind (arith, nat_tests)
@@ -93,10 +93,10 @@ marked_counted from (false ∷ hits) =
     let rise = rising_hit (from + 1) (from + 1 + length hits) (counted (from + 1) (length hits)) hits (counted_rising (from + 1) (length hits)) in
     unmarked from (length hits) (from + 1 + length hits) (hit (counted (from + 1) (length hits)) hits) rise ∙ ap (λ l. false ∷ l) (marked_counted (from + 1) hits)
 
--- the rows that a DELETE drops lie at these places, and they rise
-pub record AreDropped (f : Row → Result Tested SqlFault) (rows : List Row) (places : List ℕ) : Type 0 where
-  pub tested : each f rows ≡ Ok (all_tested rows (marked 0 (length rows) places))
-  pub rise : AreRising 0 (length rows) places
+-- the rows that a DELETE drops lie at these positions, and they rise
+pub record AreDropped (f : Row → Result Tested SqlFault) (rows : List Row) (positions : List ℕ) : Type 0 where
+  pub tested : each f rows ≡ Ok (all_tested rows (marked 0 (length rows) positions))
+  pub rise : AreRising 0 (length rows) positions
 
 -- where all are asked
 module _ (f : Row → Result Tested SqlFault) (read rows : List Row) (is : read ≡ rows) where
@@ -124,40 +124,41 @@ counted_at from zero i d lt = absurd (omega (arith, lt))
 counted_at from (suc count) zero d lt = omega arith
 counted_at from (suc count) (suc i) d lt = let next : from + 1 + i ≡ from + suc i = omega arith in counted_at (from + 1) count i d (omega (arith, lt)) ∙ next
 
-module _ (places : List ℕ) (hits : List Bool) (i : ℕ) (lp : i < length places) (lh : i < length hits) (done whole : List ℕ) (w : done ++ hit (drop i places) (drop i hits) ≡ whole) where
-  here : done ++ hit (get_or places i 0 ∷ drop (i + 1) places) (get_or hits i false ∷ drop (i + 1) hits) ≡ whole
+module _ (positions : List ℕ) (hits : List Bool) (i : ℕ) (lp : i < length positions) (lh : i < length hits) (done whole : List ℕ) (w : done ++ hit (drop i positions) (drop i hits) ≡ whole) where
+  here : done ++ hit (get_or positions i 0 ∷ drop (i + 1) positions) (get_or hits i false ∷ drop (i + 1) hits) ≡ whole
   here =
-      ap (λ l. done ++ hit l (get_or hits i false ∷ drop (i + 1) hits)) (sym (drop_more places i 0 lp))
-      ∙ ap (λ l. done ++ hit (drop i places) l) (sym (drop_more hits i false lh)) ∙ w
+      ap (λ l. done ++ hit l (get_or hits i false ∷ drop (i + 1) hits)) (sym (drop_more positions i 0 lp))
+      ∙ ap (λ l. done ++ hit (drop i positions) l) (sym (drop_more hits i false lh)) ∙ w
 
-  pub hit_next : (p : ℕ) (b : Bool) → p ≡ get_or places i 0 → b ≡ get_or hits i false → (done ++ cond b (p ∷ []) []) ++ hit (drop (i + 1) places) (drop (i + 1) hits) ≡ whole
+  pub hit_next : (p : ℕ) (b : Bool) → p ≡ get_or positions i 0 → b ≡ get_or hits i false → (done ++ cond b (p ∷ []) []) ++ hit (drop (i + 1) positions) (drop (i + 1) hits) ≡ whole
   hit_next p b e f =
-      append_assoc done (cond b (p ∷ []) []) (hit (drop (i + 1) places) (drop (i + 1) hits))
+      append_assoc done (cond b (p ∷ []) []) (hit (drop (i + 1) positions) (drop (i + 1) hits))
       ∙ ap (λ l. done ++ l) (one b)
-      ∙ ap (λ q. done ++ hit (q ∷ drop (i + 1) places) (b ∷ drop (i + 1) hits)) e
-      ∙ ap (λ c. done ++ hit (get_or places i 0 ∷ drop (i + 1) places) (c ∷ drop (i + 1) hits)) f ∙ here
+      ∙ ap (λ q. done ++ hit (q ∷ drop (i + 1) positions) (b ∷ drop (i + 1) hits)) e
+      ∙ ap (λ c. done ++ hit (get_or positions i 0 ∷ drop (i + 1) positions) (c ∷ drop (i + 1) hits)) f ∙ here
     where
-      one : (b : Bool) → cond b (p ∷ []) [] ++ hit (drop (i + 1) places) (drop (i + 1) hits) ≡ hit (p ∷ drop (i + 1) places) (b ∷ drop (i + 1) hits)
+      one : (b : Bool) → cond b (p ∷ []) [] ++ hit (drop (i + 1) positions) (drop (i + 1) hits) ≡ hit (p ∷ drop (i + 1) positions) (b ∷ drop (i + 1) hits)
       one true = refl
       one false = refl
 
-pub hit_over : (places : List ℕ) (hits : List Bool) (i : ℕ) (done whole : List ℕ) → length hits ≤ i → length places ≡ length hits → done ++ hit (drop i places) (drop i hits) ≡ whole → done ≡ whole
-hit_over places hits i done whole le e w =
-    sym (append-nil done) ∙ ap (λ l. done ++ hit l (drop i hits)) (sym (drop_all i places (omega (arith, le, e)))) ∙ w
+pub hit_over : (positions : List ℕ) (hits : List Bool) (i : ℕ) (done whole : List ℕ) → length hits ≤ i → length positions ≡ length hits → done ++ hit (drop i positions) (drop i hits) ≡ whole
+    → done ≡ whole
+hit_over positions hits i done whole le e w =
+    sym (append-nil done) ∙ ap (λ l. done ++ hit l (drop i hits)) (sym (drop_all i positions (omega (arith, le, e)))) ∙ w
 
 -- ---- of the rows that are found
 
-where_rising : (p : Row → Bool) (n : ℕ) (rows : List Row) → AreRising n (n + length rows) (places_where p n rows)
+where_rising : (p : Row → Bool) (n : ℕ) (rows : List Row) → AreRising n (n + length rows) (positions_where p n rows)
 where_rising p n [] = omega arith
-where_rising p n (row ∷ rows) = by_test (p row) (subst (λ m. AreRising (n + 1) m (places_where p (n + 1) rows)) to (where_rising p (n + 1) rows))
+where_rising p n (row ∷ rows) = by_test (p row) (subst (λ m. AreRising (n + 1) m (positions_where p (n + 1) rows)) to (where_rising p (n + 1) rows))
   where
     to : n + 1 + length rows ≡ n + suc (length rows)
     to = omega arith
 
-    by_test : (b : Bool) → AreRising (n + 1) (n + suc (length rows)) (places_where p (n + 1) rows)
-        → AreRising n (n + suc (length rows)) (cond b (n ∷ places_where p (n + 1) rows) (places_where p (n + 1) rows))
+    by_test : (b : Bool) → AreRising (n + 1) (n + suc (length rows)) (positions_where p (n + 1) rows)
+        → AreRising n (n + suc (length rows)) (cond b (n ∷ positions_where p (n + 1) rows) (positions_where p (n + 1) rows))
     by_test true h = (omega arith, omega arith, h)
-    by_test false h = wider (n + 1) n (n + suc (length rows)) (places_where p (n + 1) rows) (omega arith) h
+    by_test false h = wider (n + 1) n (n + suc (length rows)) (positions_where p (n + 1) rows) (omega arith) h
 
 module _ (p : Row → Bool) where
   -- the hits of the rows that pass, among the others, which aren't hit
@@ -175,12 +176,12 @@ module _ (p : Row → Bool) where
   among_hit : (row : Row) (rows : List Row) (hit : Bool) (hits : List Bool) → p row ≡ true → hits_among (row ∷ rows) (hit ∷ hits) ≡ hit ∷ hits_among rows hits
   among_hit row rows hit hits e = ap (λ b. cond b (hit ∷ hits_among rows hits) (false ∷ hits_among rows (hit ∷ hits))) e
 
-  pub marked_among : (n : ℕ) (rows : List Row) (hits : List Bool) → length hits ≡ length (filter p rows) → marked n (length rows) (hit (places_where p n rows) hits) ≡ hits_among rows hits
+  pub marked_among : (n : ℕ) (rows : List Row) (hits : List Bool) → length hits ≡ length (filter p rows) → marked n (length rows) (hit (positions_where p n rows) hits) ≡ hits_among rows hits
   marked_among n [] hits long = refl
   marked_among n (row ∷ rows) hits long = by_test (p row) refl hits long (λ hs l. marked_among (n + 1) rows hs l)
     where
       later : List ℕ
-      later = places_where p (n + 1) rows
+      later = positions_where p (n + 1) rows
 
       rest_unmarked : (hs : List Bool) → marked n (suc (length rows)) (hit later hs) ≡ false ∷ marked (n + 1) (length rows) (hit later hs)
       rest_unmarked hs = unmarked n (length rows) (n + 1 + length rows) (hit later hs) (rising_hit (n + 1) (n + 1 + length rows) later hs (where_rising p (n + 1) rows))
@@ -228,7 +229,7 @@ module _ (keys : List (List ℕ)) (width : ℕ) (condition : Option BoundConditi
   joined r = r >>= λ made. Ok (among_others p not_hit rows made)
 
   -- where those are asked that are found
-  dropped_all : (hits : List Bool) → length hits ≡ length (filter p rows) → each f (filter p rows) ≡ Ok (all_tested (filter p rows) hits) → AreDropped f rows (hit (places_where p 0 rows) hits)
+  dropped_all : (hits : List Bool) → length hits ≡ length (filter p rows) → each f (filter p rows) ≡ Ok (all_tested (filter p rows) hits) → AreDropped f rows (hit (positions_where p 0 rows) hits)
   dropped_all hits long h = record {
     tested =
         deletes_found keys width params condition rows lookup e ∙ ap joined h
@@ -236,10 +237,10 @@ module _ (keys : List (List ℕ)) (width : ℕ) (condition : Option BoundConditi
         ∙ ap (λ (hs : List Bool). let r : Result (List Tested) SqlFault = Ok (all_tested rows hs) in r) (sym (marked_among p 0 rows hits long));
     rise =
         let to : 0 + length rows ≡ length rows = omega arith in
-        subst (λ m. AreRising 0 m (hit (places_where p 0 rows) hits)) to (rising_hit 0 (0 + length rows) (places_where p 0 rows) hits (where_rising p 0 rows));
+        subst (λ m. AreRising 0 m (hit (positions_where p 0 rows) hits)) to (rising_hit 0 (0 + length rows) (positions_where p 0 rows) hits (where_rising p 0 rows));
   }
 
-  pub are_all_dropped : (ps : List ℕ) (read : List Row) (hits : List Bool) → ps ≡ places_where p 0 rows
+  pub are_all_dropped : (ps : List ℕ) (read : List Row) (hits : List Bool) → ps ≡ positions_where p 0 rows
       → read ≡ filter p rows → length hits ≡ length read → each f read ≡ Ok (all_tested read hits) → AreDropped f rows (hit ps hits)
   are_all_dropped ps read hits at is long h =
       subst (λ (qs : List ℕ). AreDropped f rows (hit qs hits)) (sym at)

@@ -13,9 +13,9 @@ use Rattle.sql_tree.specs.Bound.{BoundUpdate}
 use Rattle.lookups.specs.Lookups.{Lookup, is_found}
 use Rattle.row_store.specs.declared.changes.Change.{Change}
 use Rattle.row_changes.specs.Changes.{Tested, row_to_update, all_changed, spread, AreRising}
-use Rattle.row_lookups.specs.Finding.{places_where}
+use Rattle.row_lookups.specs.Finding.{positions_where}
 use Rattle.row_lookups.proofs.Interface.{where_below, where_long, where_rises}
-use Rattle.table_changes.specs.Found.{lookup_of_filter, not_hit, among_others, at_its_place}
+use Rattle.table_changes.specs.Found.{lookup_of_filter, not_hit, among_others, at_its_position}
 use Rattle.table_changes.proofs.Hitting.{updates_found}
 use Rattle.table_changes.proofs.Placed.{found_spread, rising_placed}
 
@@ -39,18 +39,18 @@ all_passing P p (x ∷ xs) h = by_test (p x) (all_passing P p xs (All-tail P x x
     by_test true rest = All-cons P x (filter p xs) (All-head P x xs h) rest
     by_test false rest = rest
 
-pub rising_within : (from to : ℕ) (cs : List Changed) → AreRising from to cs → All (λ (c : Changed). c.place < to) cs
-rising_within from to [] r = All-nil (λ (c : Changed). c.place < to)
-rising_within from to (c ∷ cs) r = All-cons (λ (c : Changed). c.place < to) c cs r.1 (rising_within (c.place + 1) to cs r.2)
+pub rising_within : (from to : ℕ) (cs : List Changed) → AreRising from to cs → All (λ (c : Changed). c.position < to) cs
+rising_within from to [] r = All-nil (λ (c : Changed). c.position < to)
+rising_within from to (c ∷ cs) r = All-cons (λ (c : Changed). c.position < to) c cs r.1 (rising_within (c.position + 1) to cs r.2)
 
--- ---- changes at their places, one by one
+-- ---- changes at their positions, one by one
 
 module _ (f : Changed → Changed) (rest more : List Changed) (c : Changed) (is : rest ≡ c ∷ more) where
   pub placed_more : (placed whole : List Changed) (x : Changed) → x ≡ f c → placed ++ map f rest ≡ whole → (placed ++ x ∷ []) ++ map f more ≡ whole
   placed_more placed whole x e w = append_assoc placed (x ∷ []) (map f more) ∙ ap (λ y. placed ++ y ∷ map f more) e ∙ ap (λ cs. placed ++ map f cs) (sym is) ∙ w
 
-  pub there_still : (most : ℕ) → All (λ (c : Changed). c.place < most) rest → All (λ (c : Changed). c.place < most) more
-  there_still most h = All-tail (λ (c : Changed). c.place < most) c more (subst (All (λ (c : Changed). c.place < most)) is h)
+  pub there_still : (most : ℕ) → All (λ (c : Changed). c.position < most) rest → All (λ (c : Changed). c.position < most) more
+  there_still most h = All-tail (λ (c : Changed). c.position < most) c more (subst (All (λ (c : Changed). c.position < most)) is h)
 
 module _ (keys : List (List ℕ)) (columns : List ColumnDef) (u : BoundUpdate) (params : Row) (rows : List Row)
     (lookup : Lookup) (e : lookup_of_filter keys (length columns) u.filter ≡ Some lookup) where
@@ -60,11 +60,11 @@ module _ (keys : List (List ℕ)) (columns : List ColumnDef) (u : BoundUpdate) (
   abbrev f : Row → Result Tested SqlFault
   f = row_to_update columns u params
 
-  abbrev places : List ℕ
-  places = places_where p 0 rows
+  abbrev positions : List ℕ
+  positions = positions_where p 0 rows
 
   abbrev at : ℕ → ℕ
-  at i = get_or places i 0
+  at i = get_or positions i 0
 
   abbrev found : List Row
   found = filter p rows
@@ -73,36 +73,36 @@ module _ (keys : List (List ℕ)) (columns : List ColumnDef) (u : BoundUpdate) (
   joined r = r >>= λ made. Ok (among_others p not_hit rows made)
 
   module _ (cs : List Changed) (r : AreRising 0 (length found) cs) where
-    all_of : all_changed rows (spread 0 (length rows) (map (at_its_place places) cs)) ≡ among_others p not_hit rows (all_changed found (spread 0 (length found) cs))
+    all_of : all_changed rows (spread 0 (length rows) (map (at_its_position positions) cs)) ≡ among_others p not_hit rows (all_changed found (spread 0 (length found) cs))
     all_of =
         let to : length found ≡ 0 + length found = omega arith in
         found_spread p at 0 0 rows cs (λ i lt. let one : 0 + i ≡ i = omega arith in ap at one) (subst (λ n. AreRising 0 n cs) to r)
 
-    changes_all : each f found ≡ Ok (all_changed found (spread 0 (length found) cs)) → each f rows ≡ Ok (all_changed rows (spread 0 (length rows) (map (at_its_place places) cs)))
+    changes_all : each f found ≡ Ok (all_changed found (spread 0 (length found) cs)) → each f rows ≡ Ok (all_changed rows (spread 0 (length rows) (map (at_its_position positions) cs)))
     changes_all h =
         updates_found keys (length columns) params columns u rows lookup e ∙ ap joined h
         ∙ ap (λ (ts : List Tested). let r : Result (List Tested) SqlFault = Ok ts in r) (sym all_of)
 
-    changes_rise : AreRising 0 (length rows) (map (at_its_place places) cs)
+    changes_rise : AreRising 0 (length rows) (map (at_its_position positions) cs)
     changes_rise =
         rising_placed p at 0 (length found) 0 (length rows) cs (λ i le lt. omega arith)
         (λ i k lt below. where_rises p 0 rows i k 0 lt (omega (arith, below, where_long p 0 rows)))
         (λ i below. where_below p 0 (length rows) rows (omega arith) i 0 (omega (arith, below, where_long p 0 rows))) r
 
-  -- changes of the rows that are found, put at these places, are those of all rows, and rise
+  -- changes of the rows that are found, put at these positions, are those of all rows, and rise
   pub record AreAll (ps : List ℕ) (cs : List Changed) : Type 0 where
-    pub changes : each f rows ≡ Ok (all_changed rows (spread 0 (length rows) (map (at_its_place ps) cs)))
-    pub rise : AreRising 0 (length rows) (map (at_its_place ps) cs)
+    pub changes : each f rows ≡ Ok (all_changed rows (spread 0 (length rows) (map (at_its_position ps) cs)))
+    pub rise : AreRising 0 (length rows) (map (at_its_position ps) cs)
 
-  pub are_all : (ps : List ℕ) (read : List Row) (n : ℕ) (cs : List Changed) → ps ≡ places → read ≡ found
+  pub are_all : (ps : List ℕ) (read : List Row) (n : ℕ) (cs : List Changed) → ps ≡ positions → read ≡ found
       → n ≡ length read → each f read ≡ Ok (all_changed read (spread 0 n cs)) → AreRising 0 n cs → AreAll ps cs
-  are_all ps read n cs at_places is long h r =
+  are_all ps read n cs at_positions is long h r =
       let same : n ≡ length found = long ∙ ap length is in
       let rises = subst (λ m. AreRising 0 m cs) same r in
       let made = subst (λ m. each f found ≡ Ok (all_changed found (spread 0 m cs))) same (subst (λ (rs : List Row). each f rs ≡ Ok (all_changed rs (spread 0 n cs))) is h) in
       record {
-        changes = subst (λ (ps : List ℕ). each f rows ≡ Ok (all_changed rows (spread 0 (length rows) (map (at_its_place ps) cs)))) (sym at_places) (changes_all cs rises made);
-        rise = subst (λ (ps : List ℕ). AreRising 0 (length rows) (map (at_its_place ps) cs)) (sym at_places) (changes_rise cs rises);
+        changes = subst (λ (ps : List ℕ). each f rows ≡ Ok (all_changed rows (spread 0 (length rows) (map (at_its_position ps) cs)))) (sym at_positions) (changes_all cs rises made);
+        rise = subst (λ (ps : List ℕ). AreRising 0 (length rows) (map (at_its_position ps) cs)) (sym at_positions) (changes_rise cs rises);
       }
 
   -- the first fault of the rows that are found is the first of all

@@ -5,7 +5,7 @@ use Rattle.std.proofs.lemmas.Bool.Decides.{nat_tests}
 use Rattle.ae_base.specs.Atoms.{Atom}
 use Rattle.row_store.specs.declared.changes.Change.{Change}
 use Rattle.row_changes.specs.Changes.{Tested, tested_with, all_changed, spread, AreRising}
-use Rattle.row_lookups.specs.Finding.{places_where}
+use Rattle.row_lookups.specs.Finding.{positions_where}
 use Rattle.row_lookups.proofs.Interface.{where_least, where_long}
 use Rattle.table_changes.specs.Found.{not_hit, among_others}
 
@@ -24,20 +24,20 @@ is_other n m lt = grind (arith, nat_tests, lt)
 same : (n m : ℕ) → (n == m) ≡ true → n ≡ m
 same n m e = grind (arith, nat_tests)
 
-later : (from place : ℕ) → (place == from) ≡ false → from ≤ place → from + 1 ≤ place
-later from place e le = grind (arith, nat_tests)
+later : (from position : ℕ) → (position == from) ≡ false → from ≤ position → from + 1 ≤ position
+later from position e le = grind (arith, nat_tests)
 
 abbrev moved : (ℕ → ℕ) → List Changed → List Changed
-moved at cs = map (λ (c : Changed). record { place = at c.place; row = c.row }) cs
+moved at cs = map (λ (c : Changed). record { position = at c.position; row = c.row }) cs
 
--- no change is of this place
+-- no change is of this position
 abbrev AreLater : ℕ → List Changed → Type 0
 AreLater n [] = Unit {0}
-AreLater n (c ∷ cs) = n < c.place
+AreLater n (c ∷ cs) = n < c.position
 
 spread_later : (n count : ℕ) (cs : List Changed) → AreLater n cs → spread n (suc count) cs ≡ None ∷ spread (n + 1) count cs
 spread_later n count [] h = refl
-spread_later n count (c ∷ cs) h = ap (λ b. cond b (Some c.row ∷ spread (n + 1) count cs) (None ∷ spread (n + 1) count (c ∷ cs))) (is_other n c.place h)
+spread_later n count (c ∷ cs) h = ap (λ b. cond b (Some c.row ∷ spread (n + 1) count cs) (None ∷ spread (n + 1) count (c ∷ cs))) (is_other n c.position h)
 
 -- a row that fails the test stays
 pub others_stay : (p : Row → Bool) (row : Row) (rows : List Row) (made : List Tested) → p row ≡ false → among_others p not_hit (row ∷ rows) made ≡ not_hit row ∷ among_others p not_hit rows made
@@ -50,20 +50,20 @@ pub others_made : (p : Row → Bool) (row : Row) (rows : List Row) (x : Tested) 
 others_made p row rows x made e = ap (λ b. cond b (x ∷ among_others p not_hit rows made) (not_hit row ∷ among_others p not_hit rows (x ∷ made))) e
 
 module _ (p : Row → Bool) (at : ℕ → ℕ) where
-  -- the rows that are found, counted on from a number, lie at the places of the others
+  -- the rows that are found, counted on from a number, lie at the positions of the others
   abbrev AreAt : (n j : ℕ) → List Row → Type 0
-  AreAt n j rows = (i : ℕ) → i < length (places_where p n rows) → at (j + i) ≡ get_or (places_where p n rows) i 0
+  AreAt n j rows = (i : ℕ) → i < length (positions_where p n rows) → at (j + i) ≡ get_or (positions_where p n rows) i 0
 
-  least : (n m j : ℕ) (rows : List Row) (place : ℕ) → m < n → AreAt n j rows → j ≤ place → place < j + length (filter p rows) → m < at place
-  least n m j rows place lt a le below =
-      let i : ℕ = place - j in
-      let there : place ≡ j + i = omega (arith, le) in
-      let within : i < length (places_where p n rows) = omega (arith, le, below, where_long p n rows) in
+  least : (n m j : ℕ) (rows : List Row) (position : ℕ) → m < n → AreAt n j rows → j ≤ position → position < j + length (filter p rows) → m < at position
+  least n m j rows position lt a le below =
+      let i : ℕ = position - j in
+      let there : position ≡ j + i = omega (arith, le) in
+      let within : i < length (positions_where p n rows) = omega (arith, le, below, where_long p n rows) in
       subst (λ k. m < k) (sym (ap at there ∙ a i within)) (where_least p m n rows lt i 0 within)
 
   are_later : (n m j : ℕ) (rows : List Row) (cs : List Changed) → m < n → AreAt n j rows → AreRising j (j + length (filter p rows)) cs → AreLater m (moved at cs)
   are_later n m j rows [] lt a r = tt
-  are_later n m j rows (c ∷ cs) lt a r = least n m j rows c.place lt a r.0 r.1
+  are_later n m j rows (c ∷ cs) lt a r = least n m j rows c.position lt a r.0 r.1
 
   abbrev Spreads : (n j : ℕ) → List Row → List Changed → Type 0
   Spreads n j rows cs = all_changed rows (spread n (length rows) (moved at cs)) ≡ among_others p not_hit rows (all_changed (filter p rows) (spread j (length (filter p rows)) cs))
@@ -85,9 +85,9 @@ module _ (p : Row → Bool) (at : ℕ → ℕ) where
         ∙ sym (ap (λ o. among_others p not_hit (row ∷ rows) (all_changed (row ∷ filter p rows) o)) (spread_later j (length (filter p rows)) cs l))
 
     -- one is
-    goes_in : (c : Changed) (cs : List Changed) → (c.place == j) ≡ true → AreRising (j + 1) (j + 1 + length (filter p rows)) cs → Goes (c ∷ cs)
+    goes_in : (c : Changed) (cs : List Changed) → (c.position == j) ≡ true → AreRising (j + 1) (j + 1 + length (filter p rows)) cs → Goes (c ∷ cs)
     goes_in c cs t r =
-        let here : (at c.place == n) ≡ true = is_same (at c.place) n (ap at (same c.place j t) ∙ first) in
+        let here : (at c.position == n) ≡ true = is_same (at c.position) n (ap at (same c.position j t) ∙ first) in
         let made = all_changed (filter p rows) (spread (j + 1) (length (filter p rows)) cs) in
         ap (λ b. all_changed (row ∷ rows) (cond b (Some c.row ∷ spread (n + 1) (length rows) (moved at cs)) (None ∷ spread (n + 1) (length rows) (moved at (c ∷ cs))))) here
         ∙ ap (λ l. tested_with row (Some c.row) ∷ l) (rest cs r)
@@ -98,26 +98,26 @@ module _ (p : Row → Bool) (at : ℕ → ℕ) where
 
     goes : (cs : List Changed) → AreRising j (j + suc (length (filter p rows))) cs → Goes cs
     goes [] r = goes_by [] tt tt
-    goes (c ∷ cs) r = by_test (c.place == j) refl
+    goes (c ∷ cs) r = by_test (c.position == j) refl
       where
         to : j + suc (length (filter p rows)) ≡ j + 1 + length (filter p rows)
         to = omega arith
 
-        by_test : (b : Bool) → (c.place == j) ≡ b → Goes (c ∷ cs)
+        by_test : (b : Bool) → (c.position == j) ≡ b → Goes (c ∷ cs)
         by_test true t =
-            let at_j : c.place ≡ j = same c.place j t in
-            goes_in c cs t (subst (λ k. AreRising (k + 1) (j + 1 + length (filter p rows)) cs) at_j (subst (λ k. AreRising (c.place + 1) k cs) to r.2))
+            let at_j : c.position ≡ j = same c.position j t in
+            goes_in c cs t (subst (λ k. AreRising (k + 1) (j + 1 + length (filter p rows)) cs) at_j (subst (λ k. AreRising (c.position + 1) k cs) to r.2))
         by_test false t =
-            let le : j + 1 ≤ c.place = later j c.place t r.0 in
-            goes_by (c ∷ cs) (le, omega (arith, r.1), subst (λ k. AreRising (c.place + 1) k cs) to r.2) (omega (arith, le))
+            let le : j + 1 ≤ c.position = later j c.position t r.0 in
+            goes_by (c ∷ cs) (le, omega (arith, r.1), subst (λ k. AreRising (c.position + 1) k cs) to r.2) (omega (arith, le))
 
   pub found_spread : (n j : ℕ) (rows : List Row) (cs : List Changed) → AreAt n j rows → AreRising j (j + length (filter p rows)) cs → Spreads n j rows cs
   found_spread n j [] cs a r = refl
   found_spread n j (row ∷ rows) cs a r = by_test (p row) refl a r (λ j cs a r. found_spread (n + 1) j rows cs a r)
     where
       by_test : (b : Bool) → p row ≡ b
-          → ((i : ℕ) → i < length (cond b (n ∷ places_where p (n + 1) rows) (places_where p (n + 1) rows))
-          → at (j + i) ≡ get_or (cond b (n ∷ places_where p (n + 1) rows) (places_where p (n + 1) rows)) i 0)
+          → ((i : ℕ) → i < length (cond b (n ∷ positions_where p (n + 1) rows) (positions_where p (n + 1) rows))
+          → at (j + i) ≡ get_or (cond b (n ∷ positions_where p (n + 1) rows) (positions_where p (n + 1) rows)) i 0)
           → AreRising j (j + length (cond b (row ∷ filter p rows) (filter p rows))) cs
           → ((k : ℕ) (ds : List Changed) → AreAt (n + 1) k rows → AreRising k (k + length (filter p rows)) ds → Spreads (n + 1) k rows ds)
           → all_changed (row ∷ rows) (spread n (suc (length rows)) (moved at cs))
@@ -137,8 +137,8 @@ module _ (p : Row → Bool) (at : ℕ → ℕ) where
       → ((i k : ℕ) → i < k → k < to → at i < at k) → ((i : ℕ) → i < to → at i < most) → AreRising from to cs → AreRising a most (moved at cs)
   rising_placed from to a most [] least up below r = tt
   rising_placed from to a most (c ∷ cs) least up below r = (
-    least c.place r.0 r.1,
-    below c.place r.1,
-    rising_placed (c.place + 1) to (at c.place + 1) most cs
-        (λ i le lt. let more = up c.place i (omega (arith, le)) lt in omega (arith, more)) up below r.2,
+    least c.position r.0 r.1,
+    below c.position r.1,
+    rising_placed (c.position + 1) to (at c.position + 1) most cs
+        (λ i le lt. let more = up c.position i (omega (arith, le)) lt in omega (arith, more)) up below r.2,
   )

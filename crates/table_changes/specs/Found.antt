@@ -23,6 +23,6 @@ among_others test stay [] made = []
 among_others test stay (row ∷ rows) [] = stay row ∷ among_others test stay rows []
 among_others test stay (row ∷ rows) (x ∷ made) = if test row then x ∷ among_others test stay rows made else stay row ∷ among_others test stay rows (x ∷ made)
 
--- the change of one of the rows at some places, as one of all rows
-abbrev pub at_its_place : List ℕ → Change (List Atom) → Change (List Atom)
-at_its_place places change = record { place = get_or places change.place 0; row = change.row }
+-- the change of one of the rows at some positions, as one of all rows
+abbrev pub at_its_position : List ℕ → Change (List Atom) → Change (List Atom)
+at_its_position positions change = record { position = get_or positions change.position 0; row = change.row }

@@ -13,7 +13,7 @@ ghost use Rattle.row_store.specs.Numbers.{AreRising, counted};
 ghost use Rattle.table_changes.specs.Found.{lookup_of_filter};
 
 use crate::filters::lookup_of_filter;
-use crate::found::{places_found, rows_at};
+use crate::found::{positions_found, rows_at};
 use ae_base::atoms::Atom;
 use ae_base::lists::Seq;
 use ae_base::refusals::Refusal;
@@ -26,8 +26,8 @@ use row_changes::deletes::hits;
 use sql_tree::bound::BoundCondition;
 use std::alloc::{AllocError, Global};
 
-/// The places of the rows that a DELETE with this filter drops from a table with so many columns
-/// and these unique keys, which rise; or the first fault. Where the filter gives a unique key, the
+/// The positions of the rows that a DELETE with this filter drops from a table with `width` columns
+/// and these unique keys, which rise; or the first fault. If the filter gives a unique key, the
 /// rows of that key alone are asked.
 pub fn dropped_in<K: Same>(
     alloc: Global,
@@ -42,7 +42,7 @@ pub fn dropped_in<K: Same>(
     requires keys { table.now.keys ≡ keys.now }
     requires wide { All (λ row. length row ≡ width) table.now.rows }
     ensures hits { AnswersAs
-        (λ places. all_tested table.now.rows (marked 0 (length table.now.rows) places)) result
+        (λ positions. all_tested table.now.rows (marked 0 (length table.now.rows) positions)) result
         (each (row_to_delete (option_map condition_of filter.now) params.now) table.now.rows) }
     ensures rising { IfOk result (AreRising 0 (length table.now.rows)) }
 {
@@ -52,7 +52,7 @@ pub fn dropped_in<K: Same>(
     }
 }
 
-/// The places of the rows of a table that a DELETE drops, of which all are asked.
+/// The positions of the rows of a table that a DELETE drops, all of which are asked.
 fn dropped_walked<K: Same>(
     alloc: Global,
     table: &Table<K>,
@@ -64,18 +64,18 @@ fn dropped_walked<K: Same>(
         (option_map condition_of filter.now))
         table.now.rows }
     ensures hits { AnswersAs
-        (λ places. all_tested table.now.rows (marked 0 (length table.now.rows) places)) result
+        (λ positions. all_tested table.now.rows (marked 0 (length table.now.rows) positions)) result
         (each (row_to_delete (option_map condition_of filter.now) params.now) table.now.rows) }
     ensures rising { IfOk result (AreRising 0 (length table.now.rows)) }
 {
     let rows = lent(alloc, table.rows())?;
     match hits(alloc, rows.as_slice(), filter, params) {
-        Ok(hits) => Ok(places_hit(alloc, hits.as_slice())?),
+        Ok(hits) => Ok(positions_hit(alloc, hits.as_slice())?),
         Err(refusal) => Err(refusal),
     }
 }
 
-/// The places of the rows of a table that a DELETE drops, of which those that the look-up of its
+/// The positions of the rows of a table that a DELETE drops, of which those that the look-up of its
 /// filter finds are asked.
 fn dropped_found<K: Same>(
     alloc: Global,
@@ -93,47 +93,51 @@ fn dropped_found<K: Same>(
         (option_map condition_of filter.now))
         table.now.rows }
     ensures hits { AnswersAs
-        (λ places. all_tested table.now.rows (marked 0 (length table.now.rows) places)) result
+        (λ positions. all_tested table.now.rows (marked 0 (length table.now.rows) positions)) result
         (each (row_to_delete (option_map condition_of filter.now) params.now) table.now.rows) }
     ensures rising { IfOk result (AreRising 0 (length table.now.rows)) }
 {
-    let places = places_found(alloc, table, lookup, params)?;
-    let rows = rows_at(alloc, table, places.as_slice())?;
+    let positions = positions_found(alloc, table, lookup, params)?;
+    let rows = rows_at(alloc, table, positions.as_slice())?;
     match hits(alloc, rows.as_slice(), filter, params) {
-        Ok(hits) => Ok(places_of_hit(alloc, hits.as_slice(), places.as_slice())?),
+        Ok(hits) => Ok(positions_of_hit(alloc, hits.as_slice(), positions.as_slice())?),
         Err(refusal) => Err(refusal),
     }
 }
 
-/// The places of those rows that are hit, of all.
-fn places_hit(alloc: Global, hits: &[bool]) -> Result<Seq<usize>, AllocError>
-    ensures { IfOk result (λ places. places ≡ hit (counted 0 (length hits.now)) hits.now) }
+/// The positions of those rows that are hit, of all.
+fn positions_hit(alloc: Global, hits: &[bool]) -> Result<Seq<usize>, AllocError>
+    ensures { IfOk result (λ positions. positions ≡ hit (counted 0 (length hits.now)) hits.now) }
 {
-    let mut places = Seq::new(alloc);
-    for (place, hit) in hits.iter().enumerate() {
-        note(&mut places, place, *hit)?;
+    let mut positions = Seq::new(alloc);
+    for (position, hit) in hits.iter().enumerate() {
+        note(&mut positions, position, *hit)?;
     }
-    Ok(places)
+    Ok(positions)
 }
 
-/// The places of those rows that are hit, of some.
-fn places_of_hit(alloc: Global, hits: &[bool], places: &[usize]) -> Result<Seq<usize>, AllocError>
-    requires { length hits.now ≡ length places.now }
-    ensures { IfOk result (λ dropped. dropped ≡ hit places.now hits.now) }
+/// The positions of those rows that are hit, of some.
+fn positions_of_hit(
+    alloc: Global,
+    hits: &[bool],
+    positions: &[usize],
+) -> Result<Seq<usize>, AllocError>
+    requires { length hits.now ≡ length positions.now }
+    ensures { IfOk result (λ dropped. dropped ≡ hit positions.now hits.now) }
 {
     let mut dropped = Seq::new(alloc);
     for (i, hit) in hits.iter().enumerate() {
-        note(&mut dropped, places[i], *hit)?;
+        note(&mut dropped, positions[i], *hit)?;
     }
     Ok(dropped)
 }
 
-/// Notes a place, if the row there is hit.
-fn note(places: &mut Seq<usize>, place: usize, hit: bool) -> Result<(), AllocError>
-    ensures { OnOk result (places.new ≡ places.old ++ (if hit then place ∷ [] else [])) }
+/// Notes a position, if the row there is hit.
+fn note(positions: &mut Seq<usize>, position: usize, hit: bool) -> Result<(), AllocError>
+    ensures { OnOk result (positions.new ≡ positions.old ++ (if hit then position ∷ [] else [])) }
 {
     if !hit {
         return Ok(());
     }
-    places.push(place)
+    positions.push(position)
 }

@@ -1,22 +1,22 @@
-//! The rows that a look-up finds, with their places.
+//! The rows that a look-up finds, with their positions.
 
 ghost use Rattle.std.specs.Prelude.{◌≡◌, ◌<◌, [], ℕ, length, map, get_or, IfOk};
 ghost use Rattle.std.specs.List.{All};
 ghost use Rattle.lookups.specs.Lent.{lookup_made};
 ghost use Rattle.lookups.specs.Lookups.{IsLookedUp, is_found};
-ghost use Rattle.row_lookups.specs.Finding.{places_where};
+ghost use Rattle.row_lookups.specs.Finding.{positions_where};
 
 use ae_base::atoms::{Atom, Row};
 use ae_base::sameness::Same;
 use indexed_tables::tables::Table;
 use lookups::finding::Lookup;
-use row_lookups::found::places_in;
+use row_lookups::found::positions_in;
 use scalar::rows::LentRow;
 use std::alloc::{AllocError, Global};
 
-/// The places of the rows of a table that a look-up by parameters and literals finds, in their
+/// The positions of the rows of a table that a look-up by parameters and literals finds, in their
 /// order.
-pub(crate) fn places_found<K: Same>(
+pub(crate) fn positions_found<K: Same>(
     alloc: Global,
     table: &Table<K>,
     lookup: &Lookup<'_>,
@@ -24,26 +24,26 @@ pub(crate) fn places_found<K: Same>(
 ) -> Result<Vec<usize>, AllocError>
     requires { (more : ℕ)
         × IsLookedUp table.now.keys (length params.now) 0 more (lookup_made lookup.now) }
-    ensures { IfOk result (λ places. places.items
-        ≡ places_where (is_found params.now (lookup_made lookup.now) []) 0 table.now.rows) }
+    ensures { IfOk result (λ positions. positions.items
+        ≡ positions_where (is_found params.now (lookup_made lookup.now) []) 0 table.now.rows) }
 {
     let nothing = Row::new(alloc);
-    places_in(alloc, table, lookup, &LentRow::whole(&nothing), params)
+    positions_in(alloc, table, lookup, &LentRow::whole(&nothing), params)
 }
 
-/// The rows at some places of a table.
+/// The rows at some positions of a table.
 pub(crate) fn rows_at<'t, K: Same>(
     alloc: Global,
     table: &'t Table<K>,
-    places: &[usize],
+    positions: &[usize],
 ) -> Result<Vec<&'t Row<K>>, AllocError>
-    requires { All (λ place. place < length table.now.rows) places.now }
+    requires { All (λ position. position < length table.now.rows) positions.now }
     ensures { IfOk result (λ found. map (λ row. row.now) found.items
-        ≡ map (λ place. get_or table.now.rows place []) places.now) }
+        ≡ map (λ position. get_or table.now.rows position []) positions.now) }
 {
     let mut rows = Vec::new(alloc);
-    for place in places {
-        rows.push(table.get(*place))?;
+    for position in positions {
+        rows.push(table.get(*position))?;
     }
     Ok(rows)
 }

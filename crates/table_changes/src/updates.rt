@@ -9,10 +9,10 @@ ghost use Rattle.sql_tree.specs.Conditions.{condition_of};
 ghost use Rattle.sql_tree.specs.Placed.{IsPlacedFilter};
 ghost use Rattle.lookups.specs.Lent.{lookup_made};
 ghost use Rattle.row_changes.specs.Changes.{ArePlacedSets, AreRising, all_changed, row_to_update, spread};
-ghost use Rattle.table_changes.specs.Found.{at_its_place, lookup_of_filter};
+ghost use Rattle.table_changes.specs.Found.{at_its_position, lookup_of_filter};
 
 use crate::filters::lookup_of_filter;
-use crate::found::{places_found, rows_at};
+use crate::found::{positions_found, rows_at};
 use ae_base::atoms::{Atom, Row};
 use ae_base::lists::Seq;
 use ae_base::refusals::Refusal;
@@ -27,7 +27,7 @@ use sql_tree::bound::BoundUpdate;
 use std::alloc::{AllocError, Global};
 
 /// The rows of a table with these columns and unique keys that an UPDATE changes, with their
-/// places, which rise; or the first fault. Where its filter gives a unique key, the rows of that
+/// positions, which rise; or the first fault. Where its filter gives a unique key, the rows of that
 /// key alone are asked.
 pub fn changes_in<K: Same>(
     alloc: Global,
@@ -54,7 +54,7 @@ pub fn changes_in<K: Same>(
     }
 }
 
-/// The rows of a table that an UPDATE changes, of which all are asked.
+/// The rows of a table that an UPDATE changes, all of which are asked.
 fn changes_walked<K: Same>(
     alloc: Global,
     columns: &[ColumnDef],
@@ -98,28 +98,28 @@ fn changes_found<K: Same>(
         (each (row_to_update columns.now (update_of update.now) params.now) table.now.rows) }
     ensures rising { IfOk result (AreRising 0 (length table.now.rows)) }
 {
-    let places = places_found(alloc, table, lookup, params)?;
-    let rows = rows_at(alloc, table, places.as_slice())?;
+    let positions = positions_found(alloc, table, lookup, params)?;
+    let rows = rows_at(alloc, table, positions.as_slice())?;
     match changes(alloc, columns, rows.as_slice(), update, params) {
-        Ok(changes) => Ok(at_their_places(alloc, changes, places.as_slice())?),
+        Ok(changes) => Ok(at_their_positions(alloc, changes, positions.as_slice())?),
         Err(refusal) => Err(refusal),
     }
 }
 
-/// Changes of the rows at some places, as changes of all rows.
-fn at_their_places<K: Same>(
+/// Changes of the rows at some positions, as changes of all rows.
+fn at_their_positions<K: Same>(
     alloc: Global,
     changes: Seq<Change<Row<K>>>,
-    places: &[usize],
+    positions: &[usize],
 ) -> Result<Seq<Change<Row<K>>>, AllocError>
-    requires { All (λ change. change.place < length places.now) changes }
-    ensures { IfOk result (λ placed. placed ≡ map (at_its_place places.now) changes) }
+    requires { All (λ change. change.position < length positions.now) changes }
+    ensures { IfOk result (λ placed. placed ≡ map (at_its_position positions.now) changes) }
 {
     let mut placed = Seq::new(alloc);
     for change in changes.into_vec() {
-        let Change { place, row } = change;
+        let Change { position, row } = change;
         placed.push(Change {
-            place: places[place],
+            position: positions[position],
             row,
         })?;
     }

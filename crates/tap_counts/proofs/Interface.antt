@@ -3,4 +3,4 @@
 -- The protected cells among the places of a frame.
 pub use Rattle.tap_counts.proofs.Behind.{spots_same}
 -- Frames of one entry are counted alike.
-pub use Rattle.tap_counts.proofs.Told.{frame_counted_alike}
+pub use Rattle.tap_counts.proofs.Replied.{frame_counted_alike}

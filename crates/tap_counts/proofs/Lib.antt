@@ -3,4 +3,4 @@ pub mod Interface
 mod Lined
 mod Noting
 mod Showing
-mod Told
+mod Replied

@@ -8,7 +8,7 @@ use Rattle.scalar.specs.Classes.{Class, Open, Det, Rnd, IsNotSealed}
 use Rattle.tap_counts.specs.Counting.{shown_of}
 use Rattle.tap_listing.specs.Classes.{classing, is_deterministic, kind_of}
 use Rattle.tap_listing.specs.Frames.{atom_spots}
-use Rattle.tap_listing.specs.Tables.{Tables, Tells}
+use Rattle.tap_listing.specs.Tables.{Tables, Knows}
 use Rattle.tap_listing.specs.declared.classes.Kind.TheVariants as kind
 
 pub is_det : (c : Class) → kind_of c ≡ kind.Deterministic → is_deterministic c ≡ true
@@ -35,8 +35,8 @@ past_free Open e x seen = refl
 past_free (Det k t) e x seen = absurd cc
 past_free (Rnd k t) e x seen = refl
 
-pub tells_free : (c : Class) → is_deterministic c ≡ false → (x : List ℕ) (t : Tables) (seen : List (Spot Class)) → Tells t seen → Tells t (seen_past classing seen (atom_spots c (Sealed x)))
-tells_free c e x t seen h = subst (Tells t) (sym (past_free c e x seen)) h
+pub knows_free : (c : Class) → is_deterministic c ≡ false → (x : List ℕ) (t : Tables) (seen : List (Spot Class)) → Knows t seen → Knows t (seen_past classing seen (atom_spots c (Sealed x)))
+knows_free c e x t seen h = subst (Knows t) (sym (past_free c e x seen)) h
 
 -- a cell of a deterministic class
 pub shown_numbered : (c : Class) → is_deterministic c ≡ true → (x y : List ℕ) → y ≡ x → (n : ℕ) (seen : List (Spot Class))
@@ -48,9 +48,9 @@ past_numbered Open e x seen = absurd cc
 past_numbered (Det k t) e x seen = refl
 past_numbered (Rnd k t) e x seen = absurd cc
 
-pub tells_numbered : (c : Class) → is_deterministic c ≡ true → (x y : List ℕ) → y ≡ x → (t : Tables) (seen : List (Spot Class))
-    → Tells t (noted classing seen c y) → Tells t (seen_past classing seen (atom_spots c (Sealed x)))
-tells_numbered c e x y same t seen h = subst (Tells t) (ap (noted classing seen c) same ∙ sym (past_numbered c e x seen)) h
+pub knows_numbered : (c : Class) → is_deterministic c ≡ true → (x y : List ℕ) → y ≡ x → (t : Tables) (seen : List (Spot Class))
+    → Knows t (noted classing seen c y) → Knows t (seen_past classing seen (atom_spots c (Sealed x)))
+knows_numbered c e x y same t seen h = subst (Knows t) (ap (noted classing seen c) same ∙ sym (past_numbered c e x seen)) h
 
 -- no cell
 pub past_unsealed : (c : Class) (a : Atom) → IsNotSealed a → (seen : List (Spot Class)) → seen_past classing seen (atom_spots c a) ≡ seen
@@ -62,8 +62,8 @@ past_unsealed (Rnd k t) Null h seen = refl
 past_unsealed (Rnd k t) (Plain v) h seen = refl
 past_unsealed (Rnd k t) (Sealed x) h seen = absurd h
 
-pub tells_unsealed : (c : Class) (a : Atom) → IsNotSealed a → (t : Tables) (seen : List (Spot Class)) → Tells t seen → Tells t (seen_past classing seen (atom_spots c a))
-tells_unsealed c a h t seen told = subst (Tells t) (sym (past_unsealed c a h seen)) told
+pub knows_unsealed : (c : Class) (a : Atom) → IsNotSealed a → (t : Tables) (seen : List (Spot Class)) → Knows t seen → Knows t (seen_past classing seen (atom_spots c a))
+knows_unsealed c a h t seen known = subst (Knows t) (sym (past_unsealed c a h seen)) known
 
 pub on_ok : {T E : Type 0} (P Q : Type 0) (r : Result T E) → (P → Q) → OnOk r P → OnOk r Q
 on_ok P Q (Ok x) f h = f h

@@ -1,4 +1,4 @@
--- What one without a key can count: the places of frames, and how often what is seen there came, class by class.
+-- What one without a key can count: the atoms of frames, and how often each was seen, class by class.
 use Rattle.std.specs.Prelude.{◌≡◌, ℕ, List, [], ◌∷◌, ◌++◌, Bool, true, false, drop, get_or, slice_set, if◌then◌else◌}
 use Rattle.std.specs.List.{list_any, position_or_len}
 use Rattle.ae_base.specs.Atoms.{Atom}
@@ -17,57 +17,57 @@ use Rattle.wire_payloads.specs.declared.payloads.Payload.{Payload}
 use Rattle.wire_payloads.specs.declared.payloads.Payload.TheVariants.{One, Rows}
 use Rattle.tap_listing.specs.Classes.{class_eq, classing, is_deterministic}
 use Rattle.tap_listing.specs.Frames.{atom_spots}
-use Rattle.tap_listing.specs.Tables.{Tables, Tells}
+use Rattle.tap_listing.specs.Tables.{Tables, Knows}
 use Rattle.tap_listing.specs.declared.frames.Frame.{Frame}
-use Rattle.tap_listing.specs.declared.frames.Frame.TheVariants.{Asked, Told}
+use Rattle.tap_listing.specs.declared.frames.Frame.TheVariants.{Asked, Replied}
 use Rattle.tap_text.specs.Text.{first_class}
 
 -- ---- places: the atoms of a frame, each at its class
 
-pub record Place : Type 0 where
+pub record ClassedAtom : Type 0 where
   pub class : Class
   pub atom : Atom
 
-abbrev pub place_at : Class → Atom → Place
-place_at c a = record { class = c; atom = a }
+abbrev pub atom_of_class : Class → Atom → ClassedAtom
+atom_of_class c a = record { class = c; atom = a }
 
-abbrev pub row_places : List Class → List Atom → List Place
-row_places classes [] = []
-row_places classes (a ∷ row) = place_at (first_class classes) a ∷ row_places (drop 1 classes) row
+abbrev pub row_atoms : List Class → List Atom → List ClassedAtom
+row_atoms classes [] = []
+row_atoms classes (a ∷ row) = atom_of_class (first_class classes) a ∷ row_atoms (drop 1 classes) row
 
-abbrev pub rows_places : List Class → List (List Atom) → List Place
-rows_places classes [] = []
-rows_places classes (row ∷ rows) = row_places classes row ++ rows_places classes rows
+abbrev pub rows_atoms : List Class → List (List Atom) → List ClassedAtom
+rows_atoms classes [] = []
+rows_atoms classes (row ∷ rows) = row_atoms classes row ++ rows_atoms classes rows
 
-abbrev pub params_places : List SentParam → List Place
-params_places [] = []
-params_places (p ∷ ps) = place_at (class_of p.ty p.enc) p.atom ∷ params_places ps
+abbrev pub params_atoms : List SentParam → List ClassedAtom
+params_atoms [] = []
+params_atoms (p ∷ ps) = atom_of_class (class_of p.ty p.enc) p.atom ∷ params_atoms ps
 
-abbrev pub request_places : Request → List Place
-request_places (Describe session characters declarations) = []
-request_places (Execute session version characters params) = params_places params
+abbrev pub request_atoms : Request → List ClassedAtom
+request_atoms (Describe session characters declarations) = []
+request_atoms (Execute session version characters params) = params_atoms params
 
-abbrev pub reply_places : List Class → Reply → List Place
-reply_places classes (reply.Described d) = []
-reply_places classes (reply.Columns h) = []
-reply_places classes (reply.Row row) = row_places classes row
-reply_places classes (reply.Ended d) = []
-reply_places classes (reply.Refused fault) = []
+abbrev pub reply_atoms : List Class → Reply → List ClassedAtom
+reply_atoms classes (reply.Described d) = []
+reply_atoms classes (reply.Columns h) = []
+reply_atoms classes (reply.Row row) = row_atoms classes row
+reply_atoms classes (reply.Ended d) = []
+reply_atoms classes (reply.Refused fault) = []
 
-abbrev pub payload_places : List Class → Payload → List Place
-payload_places classes (One reply) = reply_places classes reply
-payload_places classes (Rows rows) = rows_places classes rows
+abbrev pub payload_atoms : List Class → Payload → List ClassedAtom
+payload_atoms classes (One reply) = reply_atoms classes reply
+payload_atoms classes (Rows rows) = rows_atoms classes rows
 
-abbrev pub frame_places : List Class → Frame → List Place
-frame_places classes (Asked asked) = request_places asked.message
-frame_places classes (Told told) = payload_places classes told.message
+abbrev pub frame_atoms : List Class → Frame → List ClassedAtom
+frame_atoms classes (Asked asked) = request_atoms asked.message
+frame_atoms classes (Replied known) = payload_atoms classes known.message
 
 -- the protected cells among them
-abbrev pub spots_of : List Place → List (Spot Class)
+abbrev pub spots_of : List ClassedAtom → List (Spot Class)
 spots_of [] = []
-spots_of (p ∷ places) = atom_spots p.class p.atom ++ spots_of places
+spots_of (p ∷ classed) = atom_spots p.class p.atom ++ spots_of classed
 
--- ---- what is seen at a place, behind the cells seen
+-- ---- what is seen at a place, after the cells seen
 
 abbrev pub cell_shown : Bool → ℕ → Shown
 cell_shown true n = shown.Numbered n
@@ -98,10 +98,10 @@ tallied t c shown = record {
 }
 
 -- places one after another
-abbrev pub tallied_from : Tallied → List Place → List (Spot Class) → Tallied
+abbrev pub tallied_from : Tallied → List ClassedAtom → List (Spot Class) → Tallied
 tallied_from t [] seen = t
-tallied_from t (p ∷ places) seen = tallied_from (tallied t p.class (shown_of p.class p.atom seen)) places (seen_past classing seen (atom_spots p.class p.atom))
+tallied_from t (p ∷ classed) seen = tallied_from (tallied t p.class (shown_of p.class p.atom seen)) classed (seen_past classing seen (atom_spots p.class p.atom))
 
 -- whatever cells were seen before: these places were counted, and their cells are seen now
-abbrev pub Counts : List Place → Tables → Tables → Tallied → Tallied → Type 0
-Counts places old new before after = (seen : List (Spot Class)) → Tells old seen → (after ≡ tallied_from before places seen) × Tells new (seen_past classing seen (spots_of places))
+abbrev pub Counts : List ClassedAtom → Tables → Tables → Tallied → Tallied → Type 0
+Counts classed old new before after = (seen : List (Spot Class)) → Knows old seen → (after ≡ tallied_from before classed seen) × Knows new (seen_past classing seen (spots_of classed))

@@ -1,4 +1,4 @@
--- The lines of what can be counted: on a page the same lines, behind a mark.
+-- The lines of what can be counted: on a page the same lines, after a mark.
 use Rattle.std.specs.Prelude.{ℕ, ◌+◌, List, [], ◌∷◌, ◌++◌, Bool, true, false, ◌==◌, if◌then◌else◌, length, flat_map, codes, decimal}
 use Rattle.cell_counts.specs.Counts.{Counted, commonest}
 use Rattle.cell_counts.specs.declared.frequent.Common.{Common}

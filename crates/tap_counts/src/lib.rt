@@ -2,10 +2,10 @@
 //! were of each class, and which cells of a deterministic class came most often.
 #![tactic(auto)]
 
+mod classed;
 mod lines;
-mod places;
 mod tallies;
 
+pub use classed::count_frame;
 pub use lines::push_tally;
-pub use places::count_frame;
 pub use tallies::Tally;

@@ -12,7 +12,7 @@ use std::alloc::{AllocError, Global};
 use std::fmt::Write;
 use tap_listing::{CellClass, Kind};
 
-/// Puts a type as SQL writes it.
+/// Writes a type as SQL writes it.
 fn push_type(text: &mut String, ty: Ty) -> Result<(), AllocError>
     ensures { OnOk result (string_bytes text.new ≡ string_bytes text.old ++ type_text ty) }
 {
@@ -25,7 +25,7 @@ fn push_type(text: &mut String, ty: Ty) -> Result<(), AllocError>
     Ok(())
 }
 
-/// Puts the number of a class's key, and its type, where it is protected.
+/// Writes the number of a class's key, and its type, where it is protected.
 fn push_class(text: &mut String, class: &CellClass) -> Result<(), AllocError>
     ensures { OnOk result (string_bytes text.new ≡ string_bytes text.old
         ++ class_text class.now) }
@@ -40,7 +40,7 @@ fn push_class(text: &mut String, class: &CellClass) -> Result<(), AllocError>
     }
 }
 
-/// Puts how the cells of a class are shown.
+/// Writes how the cells of a class are shown.
 fn push_kind(text: &mut String, class: &CellClass) -> Result<(), AllocError>
     ensures { OnOk result (string_bytes text.new ≡ string_bytes text.old
         ++ kind_text (kind_of class.now)) }
@@ -52,7 +52,7 @@ fn push_kind(text: &mut String, class: &CellClass) -> Result<(), AllocError>
     }
 }
 
-/// Puts how often each of what stood at the places of a class came.
+/// Writes how often each value and cell of a class was seen.
 fn push_numbers(text: &mut String, counts: &Counts) -> Result<(), AllocError>
     ensures { OnOk result (string_bytes text.new ≡ string_bytes text.old
         ++ numbers_text counts.now.cells counts.now.nulls counts.now.values) }
@@ -62,7 +62,7 @@ fn push_numbers(text: &mut String, counts: &Counts) -> Result<(), AllocError>
     Ok(())
 }
 
-/// Puts the line of a class.
+/// Writes the line of a class.
 fn push_counts(text: &mut String, class: &CellClass, counts: &Counts) -> Result<(), AllocError>
     ensures { OnOk result (string_bytes text.new ≡ string_bytes text.old
         ++ counts_line class.now counts.now) }
@@ -74,7 +74,7 @@ fn push_counts(text: &mut String, class: &CellClass, counts: &Counts) -> Result<
     Ok(())
 }
 
-/// Puts how often a cell came.
+/// Writes how often a cell came.
 fn push_one(text: &mut String, one: &Common) -> Result<(), AllocError>
     ensures { OnOk result (string_bytes text.new ≡ string_bytes text.old
         ++ common_line one.now) }
@@ -84,7 +84,7 @@ fn push_one(text: &mut String, one: &Common) -> Result<(), AllocError>
     Ok(())
 }
 
-/// Puts cells, a line each.
+/// Writes cells, a line each.
 fn push_each(text: &mut String, best: &[Common]) -> Result<(), AllocError>
     ensures { OnOk result (string_bytes text.new ≡ string_bytes text.old
         ++ flat_map common_line best.now) }
@@ -95,7 +95,7 @@ fn push_each(text: &mut String, best: &[Common]) -> Result<(), AllocError>
     Ok(())
 }
 
-/// Puts how many different cells there were, and the commonest of them.
+/// Writes how many different cells there were, and the commonest of them.
 fn push_commonest(alloc: Global, text: &mut String, numbers: &[u64]) -> Result<(), AllocError>
     ensures { OnOk result (string_bytes text.new ≡ string_bytes text.old
         ++ common_lines numbers.now) }
@@ -108,7 +108,7 @@ fn push_commonest(alloc: Global, text: &mut String, numbers: &[u64]) -> Result<(
     push_each(text, best.as_slice())
 }
 
-/// Puts what can be counted of a class.
+/// Writes what can be counted of a class.
 fn push_class_lines(
     alloc: Global,
     text: &mut String,
@@ -122,7 +122,7 @@ fn push_class_lines(
     push_commonest(alloc, text, counts.numbers())
 }
 
-/// Puts the lines of all classes.
+/// Writes the lines of all classes.
 fn push_lines(alloc: Global, text: &mut String, tally: &Tally) -> Result<(), AllocError>
     ensures { OnOk result (string_bytes text.new ≡ string_bytes text.old
         ++ tally_lines tally.now.classes tally.now.counts) }
@@ -133,7 +133,7 @@ fn push_lines(alloc: Global, text: &mut String, tally: &Tally) -> Result<(), All
     Ok(())
 }
 
-/// Puts the first line.
+/// Writes the first line.
 fn push_head(text: &mut String, page: bool) -> Result<(), AllocError>
     ensures { OnOk result (string_bytes text.new ≡ string_bytes text.old ++ head_text page) }
 {
@@ -143,7 +143,7 @@ fn push_head(text: &mut String, page: bool) -> Result<(), AllocError>
     text.push_str("counts\n")
 }
 
-/// Puts what can be counted, class by class.
+/// Writes what can be counted, class by class.
 pub fn push_tally(
     alloc: Global,
     text: &mut String,

@@ -1,4 +1,4 @@
-//! How often what was seen came, class by class.
+//! How often each value was seen, class by class.
 
 ghost use Rattle.std.specs.Prelude.{◌≡◌, ◌<◌, OnOk, Some, length, slice_get};
 ghost use Rattle.tap_counts.specs.Counting.{no_tally, tallied};

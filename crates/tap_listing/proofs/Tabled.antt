@@ -37,7 +37,7 @@ use Rattle.first_seen.specs.Parts.{Spot, cells_of, noted, number_in}
 use Rattle.scalar.specs.Classes.{Class}
 use Rattle.tap_listing.specs.ClassLaws.{class_eq-Decides}
 use Rattle.tap_listing.specs.Classes.{class_eq, classing, is_deterministic}
-use Rattle.tap_listing.specs.Tables.{Tables, Tells, table_in}
+use Rattle.tap_listing.specs.Tables.{Tables, Knows, table_in}
 
 itself : (c : Class) → class_eq c c ≡ true
 itself c = (class_eq-Decides c c).1 refl
@@ -135,10 +135,10 @@ written (k ∷ ks) (t ∷ ts) c d n table e at lt = by (class_eq c k) refl (λ i
 
 -- ---- a cell of a class is seen
 
-module _ (ks : List Class) (ts : List (List (List ℕ))) (seen : List (Spot Class)) (tells : Tells (record { classes = ks; cells = ts }) seen) (long : length ts ≡ length ks)
+module _ (ks : List Class) (ts : List (List (List ℕ))) (seen : List (Spot Class)) (knows : Knows (record { classes = ks; cells = ts }) seen) (long : length ts ≡ length ks)
     (c : Class) (det : is_deterministic c ≡ true) (n : ℕ) (table : List (List ℕ)) (at : n ≡ position_or_len (class_eq c) ks) (lt : n < length ks) (is : table ≡ get_or ts n table) (cell : List ℕ) where
   own : table ≡ cells_of classing seen c
-  own = read ks ts c n table long at lt is ∙ tells c det
+  own = read ks ts c n table long at lt is ∙ knows c det
 
   pub numbered : position_or_len (bytes_eq cell) table ≡ number_in classing seen c cell
   numbered = ap (position_or_len (bytes_eq cell)) own ∙ sym (number_by classing class_eq-Decides seen c cell)
@@ -146,33 +146,33 @@ module _ (ks : List Class) (ts : List (List (List ℕ))) (seen : List (Spot Clas
   abbrev with_cell : List (List ℕ) → List (List ℕ)
   with_cell t = if list_any (bytes_eq cell) t then t else (t ++ cell ∷ [])
 
-  pub tells_on : (new : List (List ℕ)) → new ≡ with_cell table → Tells (record { classes = ks; cells = slice_set ts n new }) (noted classing seen c cell)
-  tells_on new e d which = written ks ts c d n new long at lt ∙ by (class_eq d c) refl
+  pub knows_on : (new : List (List ℕ)) → new ≡ with_cell table → Knows (record { classes = ks; cells = slice_set ts n new }) (noted classing seen c cell)
+  knows_on new e d which = written ks ts c d n new long at lt ∙ by (class_eq d c) refl
     where
       by : (b : Bool) → class_eq d c ≡ b → cond (class_eq d c) new (table_in ks ts d) ≡ cells_of classing (noted classing seen c cell) d
       by true f =
           let same : d ≡ c = (class_eq-Decides d c).0 f in
           rw f (e ∙ ap with_cell own ∙ sym (own_by classing class_eq-Decides seen c cell) ∙ ap (cells_of classing (noted classing seen c cell)) (sym same))
-      by false f = rw f (tells d which ∙ sym (others_by classing class_eq-Decides seen c d cell (turned c d f)))
+      by false f = rw f (knows d which ∙ sym (others_by classing class_eq-Decides seen c d cell (turned c d f)))
 
 -- a new class, and all told as before
-pub tells_pushed : (ks : List Class) (ts : List (List (List ℕ))) (seen : List (Spot Class)) (c : Class) → length ts ≡ length ks → Tells (record { classes = ks; cells = ts }) seen
-    → Tells (record { classes = ks ++ c ∷ []; cells = ts ++ [] ∷ [] }) seen
-tells_pushed ks ts seen c long tells d which = pushed ks ts c d long ∙ tells d which
+pub knows_pushed : (ks : List Class) (ts : List (List (List ℕ))) (seen : List (Spot Class)) (c : Class) → length ts ≡ length ks → Knows (record { classes = ks; cells = ts }) seen
+    → Knows (record { classes = ks ++ c ∷ []; cells = ts ++ [] ∷ [] }) seen
+knows_pushed ks ts seen c long knows d which = pushed ks ts c d long ∙ knows d which
 
 -- ---- where the table of a class stands, once the class is there
 
 pub record Stands (ks : List Class) (ts : List (List (List ℕ))) (seen : List (Spot Class)) (c : Class) (n : ℕ) : Type 0 where
-  pub tells : Tells (record { classes = ks; cells = ts }) seen
+  pub knows : Knows (record { classes = ks; cells = ts }) seen
   pub long : length ts ≡ length ks
   pub at : n ≡ position_or_len (class_eq c) ks
   pub within : n < length ks
 
 module _ (t : Tables) (ks ks_after : List Class) (ts reserved : List (List (List ℕ))) (seen : List (Spot Class)) (k c : Class) (added : Bool) (n : ℕ)
-    (view : record { classes = ks; cells = ts } ≡ t) (told : Tells t seen) (long : length ts ≡ length ks) (same : k ≡ c) (is_added : added ≡ not (list_any (class_eq k) ks))
+    (view : record { classes = ks; cells = ts } ≡ t) (known : Knows t seen) (long : length ts ≡ length ks) (same : k ≡ c) (is_added : added ≡ not (list_any (class_eq k) ks))
     (keys : ks_after ≡ (if list_any (class_eq k) ks then ks else (ks ++ k ∷ []))) (at : n ≡ position_or_len (class_eq k) ks) (within : n < length ks_after) (room : reserved ≡ ts) where
-  before : Tells (record { classes = ks; cells = ts }) seen
-  before = subst (λ x. Tells x seen) (sym view) told
+  before : Knows (record { classes = ks; cells = ts }) seen
+  before = subst (λ x. Knows x seen) (sym view) known
 
   pub stands_there : added ≡ false → Stands ks_after reserved seen c n
   stands_there e =
@@ -180,7 +180,7 @@ module _ (t : Tables) (ks ks_after : List Class) (ts reserved : List (List (List
       let old : ks_after ≡ ks = keys ∙ rw there refl in
       subst (λ x. Stands x reserved seen c n) (sym old) (
       subst (λ x. Stands ks x seen c n) (sym room) (record {
-        tells = before;
+        knows = before;
         long = long;
         at = at ∙ ap (λ x. position_or_len (class_eq x) ks) same;
         within = subst (λ x. n < length x) old within;
@@ -194,7 +194,7 @@ module _ (t : Tables) (ks ks_after : List Class) (ts reserved : List (List (List
       let tables : pushed ≡ ts ++ [] ∷ [] = f ∙ ap (λ x. x ++ table ∷ []) room ∙ ap (λ x. ts ++ x ∷ []) g in
       subst (λ x. Stands x pushed seen c n) (sym more) (
       subst (λ x. Stands (ks ++ c ∷ []) x seen c n) (sym tables) (record {
-        tells = tells_pushed ks ts seen c long before;
+        knows = knows_pushed ks ts seen c long before;
         long = omega (arith, long, length-append ts ([] ∷ []), length-append ks (c ∷ []));
         at = at ∙ ap (λ x. position_or_len (class_eq x) ks) same ∙ sym (position_kept ks c);
         within = subst (λ x. n < length x) more within;

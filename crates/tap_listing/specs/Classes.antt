@@ -1,4 +1,4 @@
--- Classes of cells: told apart, and which of them have their cells numbered.
+-- Classes of cells: how they are compared, and which of them have their cells numbered.
 use Rattle.std.specs.Prelude.{ℕ, ◌+◌, ◌*◌, ◌^◌, Bool, true, false, ◌==◌, ◌&&◌}
 use Rattle.ae_base.specs.declared.types.Ty.{Ty}
 use Rattle.ae_base.specs.declared.types.Ty.TheVariants as ty

@@ -1,4 +1,4 @@
--- The frames of a recording, and what is shown of them: all but the bytes of protected cells.
+-- The frames of a recording, and what is shown of them: all except the bytes of protected cells.
 use Rattle.std.specs.Prelude.{List, [], ◌∷◌, ◌++◌, map}
 use Rattle.ae_base.specs.Atoms.{Atom}
 use Rattle.ae_base.specs.declared.atoms.AtomOf.TheVariants.{Null, Plain, Sealed}
@@ -14,7 +14,7 @@ use Rattle.wire_payloads.specs.declared.payloads.Payload.{Payload}
 use Rattle.wire_payloads.specs.declared.payloads.Payload.TheVariants.{One, Rows}
 use Rattle.tap_listing.specs.Classes.{classing}
 pub use Rattle.tap_listing.specs.declared.frames.Frame.{Frame}
-pub use Rattle.tap_listing.specs.declared.frames.Frame.TheVariants.{Asked, Told}
+pub use Rattle.tap_listing.specs.declared.frames.Frame.TheVariants.{Asked, Replied}
 
 -- ---- frames
 
@@ -22,7 +22,7 @@ pub use Rattle.tap_listing.specs.declared.frames.Frame.TheVariants.{Asked, Told}
 abbrev pub class_of_column : SentColumn → Class
 class_of_column column = class_of column.ty column.enc
 
--- the classes of the rows that come behind a payload: those of the columns that it tells, or those told before
+-- the classes of the rows that come after a payload: those of the columns that it describes, or those described before
 abbrev pub classes_behind : List Class → Payload → List Class
 classes_behind classes (One (Described description)) = classes
 classes_behind classes (One (Columns header)) = map class_of_column header.columns
@@ -34,7 +34,7 @@ classes_behind classes (Rows rows) = classes
 -- a request ends what was told of columns
 abbrev pub classes_after : List Class → Frame → List Class
 classes_after classes (Asked asked) = []
-classes_after classes (Told told) = classes_behind classes told.message
+classes_after classes (Replied known) = classes_behind classes known.message
 
 -- ---- atoms: a protected cell is left out, and is listed beside; all else stands as it is
 
@@ -75,7 +75,7 @@ abbrev pub request_spots : Request → List (Spot Class)
 request_spots (Describe session text declarations) = []
 request_spots (Execute session version text params) = params_spots params
 
--- ---- rows: an atom past the columns that were told has no class, and stands as it is
+-- ---- rows: an atom past the columns that were described has no class, and stands as it is
 
 abbrev pub blank_row : List Class → List Atom → List Atom
 blank_row classes [] = []
@@ -119,11 +119,11 @@ payload_spots classes (Rows rows) = rows_spots classes rows
 
 abbrev pub blank_frame : List Class → Frame → Frame
 blank_frame classes (Asked asked) = Asked (record asked { message = blank_request asked.message })
-blank_frame classes (Told told) = Told (record told { message = blank_payload classes told.message })
+blank_frame classes (Replied known) = Replied (record known { message = blank_payload classes known.message })
 
 abbrev pub frame_spots : List Class → Frame → List (Spot Class)
 frame_spots classes (Asked asked) = request_spots asked.message
-frame_spots classes (Told told) = payload_spots classes told.message
+frame_spots classes (Replied known) = payload_spots classes known.message
 
 abbrev pub part_of : List Class → Frame → Part Frame Class
 part_of classes frame = record { shown = blank_frame classes frame; spots = frame_spots classes frame }

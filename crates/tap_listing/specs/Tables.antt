@@ -12,12 +12,12 @@ pub record Tables : Type 0 where
 abbrev pub no_tables : Tables
 no_tables = record { classes = []; cells = [] }
 
--- the table of a class; one that isn't there is empty
+-- the table of a class; one that doesn't exist is empty
 abbrev pub table_in : List Class → List (List (List ℕ)) → Class → List (List ℕ)
 table_in [] tables c = []
 table_in (d ∷ classes) [] c = []
 table_in (d ∷ classes) (table ∷ tables) c = if class_eq c d then table else table_in classes tables c
 
 -- the tables have the cells seen, class by class
-abbrev pub Tells : Tables → List (Spot Class) → Type 0
-Tells t seen = (c : Class) → is_deterministic c ≡ true → table_in t.classes t.cells c ≡ cells_of classing seen c
+abbrev pub Knows : Tables → List (Spot Class) → Type 0
+Knows t seen = (c : Class) → is_deterministic c ≡ true → table_in t.classes t.cells c ≡ cells_of classing seen c

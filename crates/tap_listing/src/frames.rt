@@ -17,7 +17,7 @@ pub enum Frame<'a> {
     /// A request, to the server.
     Asked(Versioned<Request<'a>>),
     /// What a frame to the driver carries.
-    Told(Versioned<Payload<'a>>),
+    Replied(Versioned<Payload<'a>>),
 }
 
 /// The classes of the columns of an answer.
@@ -31,7 +31,7 @@ fn classes_of(alloc: Global, columns: &[SentColumn<'_>]) -> Result<Vec<CellClass
     Ok(classes)
 }
 
-/// The classes of the rows that come behind a frame, from those before it.
+/// The classes of the rows that come after a frame, from those before it.
 pub fn classes_past(
     alloc: Global,
     classes: Vec<CellClass>,
@@ -41,7 +41,7 @@ pub fn classes_past(
 {
     match frame {
         Frame::Asked(_) => Ok(Vec::new(alloc)),
-        Frame::Told(told) => match &told.message {
+        Frame::Replied(known) => match &known.message {
             Payload::One(Reply::Columns(header)) => classes_of(alloc, header.columns()),
             Payload::One(Reply::Described(_) | Reply::Row(_) | Reply::Ended(_) | Reply::Refused(_))
             | Payload::Rows(_) => Ok(classes),

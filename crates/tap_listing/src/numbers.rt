@@ -4,7 +4,7 @@ ghost use Rattle.std.specs.Prelude.{◌≡◌, List, IfOk, OnOk, true};
 ghost use Rattle.first_seen.specs.Parts.{Spot, number_in, noted};
 ghost use Rattle.scalar.specs.Classes.{Class};
 ghost use Rattle.tap_listing.specs.Classes.{classing, is_deterministic};
-ghost use Rattle.tap_listing.specs.Tables.{Tells, no_tables};
+ghost use Rattle.tap_listing.specs.Tables.{Knows, no_tables};
 
 use crate::classes::CellClass;
 use crate::tables::ClassTable;
@@ -60,10 +60,10 @@ impl CellNumbers {
         cell: Cell,
     ) -> Result<usize, AllocError>
         requires { is_deterministic class.now ≡ true }
-        ensures number { (seen : List (Spot Class)) → Tells self.old seen
+        ensures number { (seen : List (Spot Class)) → Knows self.old seen
             → IfOk result (λ n. n ≡ number_in classing seen class.now cell) }
-        ensures seen { (seen : List (Spot Class)) → Tells self.old seen
-            → OnOk result (Tells self.new (noted classing seen class.now cell)) }
+        ensures seen { (seen : List (Spot Class)) → Knows self.old seen
+            → OnOk result (Knows self.new (noted classing seen class.now cell)) }
     {
         self.tables.reserve(1)?;
         let (at, added) = self.classes.insert_full(class.copy())?;

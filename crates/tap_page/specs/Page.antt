@@ -1,4 +1,4 @@
--- What stands on a page before the frames of a listing, and behind them. Nothing of a recording is in it.
+-- The texts of a page before and after the frames of a listing. Nothing of a recording is in them.
 use Rattle.std.specs.Prelude.{ℕ, List, [], ◌∷◌, ◌++◌, flat_map, codes}
 
 -- each line ended by LF

@@ -1,4 +1,4 @@
-//! The page that a listing is put on: what stands before its frames, and behind them.
+//! The page of a listing: the texts before and after its frames.
 #![tactic(auto)]
 
 mod pages;

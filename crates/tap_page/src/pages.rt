@@ -1,4 +1,4 @@
-//! What stands on a page before the frames of a listing, and behind them. It loads nothing, and its
+//! The texts on a page before and after the frames of a listing. The page loads nothing, and its
 //! script writes texts alone, so that nothing of a recording is read as HTML.
 
 ghost use Rattle.std.specs.Prelude.{◌≡◌};
@@ -75,14 +75,14 @@ put(counts,'div','Values in the open: '+document.querySelectorAll('main b').leng
 </script>
 ";
 
-/// What stands before the frames.
+/// The text before the frames.
 pub fn head() -> &'static str
     ensures { result.now ≡ page_head }
 {
     HEAD
 }
 
-/// What stands behind the frames.
+/// The text after the frames.
 pub fn foot() -> &'static str
     ensures { result.now ≡ page_foot }
 {

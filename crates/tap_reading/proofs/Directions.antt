@@ -1,4 +1,4 @@
--- What stands at the front of a recording, by what stands there of each direction.
+-- What stands at the start of a recording, by what stands there of each direction.
 use Rattle.std.proofs.Common.{◌≡◌, ◌≤◌, ◌+◌, ℕ, List, ◌++◌, length, take, drop, Bool, true, false, not, sym, inl, inr}
 use Rattle.std.specs.Prelude.{◌||◌, nat_lt, slice_index}
 use Rattle.std.proofs.lemmas.List.{take-append-drop}
@@ -9,7 +9,7 @@ use Rattle.wire_payloads.specs.declared.payloads.Payload.{Payload}
 use Rattle.wire_encoding.specs.Packing.{SpellsPayload, most_body_bytes}
 use Rattle.wire_encoding.specs.Spelling.{SpellsRequest}
 use Rattle.tap_listing.specs.declared.frames.Frame.{Frame}
-use Rattle.tap_listing.specs.declared.frames.Frame.TheVariants.{Asked, Told}
+use Rattle.tap_listing.specs.declared.frames.Frame.TheVariants.{Asked, Replied}
 use Rattle.tap_reading.specs.Reading.{FindsTold, IsNone, SpellsFrame, is_tap_head}
 use Rattle.wire_frames.specs.Decoding.{Decodes}
 use Rattle.wire_frames.specs.declared.decoding.Decoded.{Decoded}
@@ -73,13 +73,13 @@ module _ (bytes : List ℕ) where
   -- ---- no frame of any direction
 
   module _ (asked : IsNone is_request_head SpellsRequest bytes) (first : IsNone (is_reply_head V1) (SpellsPayload V1) bytes) (second : IsNone (is_reply_head V2) (SpellsPayload V2) bytes) where
-    none_told : (v : FrameVersion) (m : Payload) (front rest : List ℕ) → SpellsPayload v m front → bytes ≡ front ++ rest → ⊥
-    none_told V1 m front rest s e = first.none m front rest s e
-    none_told V2 m front rest s e = second.none m front rest s e
+    none_told : (v : FrameVersion) (m : Payload) (prefix rest : List ℕ) → SpellsPayload v m prefix → bytes ≡ prefix ++ rest → ⊥
+    none_told V1 m prefix rest s e = first.none m prefix rest s e
+    none_told V2 m prefix rest s e = second.none m prefix rest s e
 
-    none : (frame : Frame) (front rest : List ℕ) → SpellsFrame frame front → bytes ≡ front ++ rest → ⊥
-    none (Asked a) front rest s e = asked.none a front rest s e
-    none (Told t) front rest s e = none_told t.version t.message front rest s e
+    none : (frame : Frame) (prefix rest : List ℕ) → SpellsFrame frame prefix → bytes ≡ prefix ++ rest → ⊥
+    none (Asked a) prefix rest s e = asked.none a prefix rest s e
+    none (Replied t) prefix rest s e = none_told t.version t.message prefix rest s e
 
     whole : 6 + stated bytes ≤ length bytes → IsRefused is_tap_head SpellsFrame bytes
     whole all = (

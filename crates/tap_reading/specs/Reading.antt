@@ -7,12 +7,12 @@ use Rattle.wire_frames.specs.declared.decoding.Decoded.TheVariants as decoded
 use Rattle.wire_encoding.specs.Packing.{SpellsPayload}
 use Rattle.wire_encoding.specs.Spelling.{SpellsRequest}
 use Rattle.tap_listing.specs.declared.frames.Frame.{Frame}
-use Rattle.tap_listing.specs.declared.frames.Frame.TheVariants.{Asked, Told}
+use Rattle.tap_listing.specs.declared.frames.Frame.TheVariants.{Asked, Replied}
 
 -- the bytes of a frame
 abbrev pub SpellsFrame : Frame → List ℕ → Type 0
 SpellsFrame (Asked asked) bytes = SpellsRequest asked bytes
-SpellsFrame (Told told) bytes = SpellsPayload told.version told.message bytes
+SpellsFrame (Replied told) bytes = SpellsPayload told.version told.message bytes
 
 -- the first two bytes of a frame: those of a request, or of a reply in a version
 abbrev pub is_tap_head : ℕ → ℕ → Bool
@@ -24,10 +24,10 @@ TapFrames bytes frames end = ReadsAs is_tap_head SpellsFrame 0 bytes frames end
 
 -- ---- what a decoder of one direction finds
 
--- no message of the direction stands at the front
+-- no message of the direction stands at the start
 pub record IsNone {M : Type 0} (is_head : ℕ → ℕ → Bool) (Spells : M → List ℕ → Type 0) (bytes : List ℕ) : Type 0 where
   pub refused : IsRefused is_head Spells bytes
-  pub none : (message : M) (front rest : List ℕ) → Spells message front → bytes ≡ front ++ rest → ⊥
+  pub none : (message : M) (prefix rest : List ℕ) → Spells message prefix → bytes ≡ prefix ++ rest → ⊥
 
 -- a frame to the driver; less than a frame; or none of either version
 abbrev pub FindsTold : Decoded Frame → List ℕ → Type 0

@@ -12,12 +12,12 @@ use wire_payloads::payloads::Payload;
 use wire_payloads::versioned::Versioned;
 
 fn told(version: FrameVersion, message: Payload<'_>) -> Frame<'_>
-    ensures { result ≡ Frame.Told (record { version = version; message = message.entry }) }
+    ensures { result ≡ Frame.Replied (record { version = version; message = message.entry }) }
 {
-    Frame::Told(Versioned { version, message })
+    Frame::Replied(Versioned { version, message })
 }
 
-/// What stands at the front of some bytes, where it is a frame to the driver.
+/// The first frame of some bytes, if it is one to the driver.
 fn decode_told(alloc: Global, bytes: &[u8]) -> Decoded<Frame<'_>>
     ensures { FindsTold result bytes.now }
 {
@@ -34,7 +34,7 @@ fn decode_told(alloc: Global, bytes: &[u8]) -> Decoded<Frame<'_>>
     }
 }
 
-/// Reads the frame at the front, of either direction and version. Its parts borrow from the bytes.
+/// Reads the first frame, of either direction and version. Its parts borrow from the bytes.
 pub fn decode(alloc: Global, bytes: &[u8]) -> Decoded<Frame<'_>>
     ensures { Decodes is_tap_head SpellsFrame result bytes.now }
 {

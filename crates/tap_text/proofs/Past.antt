@@ -7,7 +7,7 @@ use Rattle.first_seen.specs.Parts.{Spot, noted, number_in, seen_past}
 use Rattle.scalar.specs.Classes.{Class, Open, Det, Rnd, IsNotSealed}
 use Rattle.tap_listing.specs.Classes.{classing, is_deterministic, kind_of}
 use Rattle.tap_listing.specs.Frames.{atom_spots}
-use Rattle.tap_listing.specs.Tables.{Tables, Tells}
+use Rattle.tap_listing.specs.Tables.{Tables, Knows}
 use Rattle.tap_text.specs.Text.{atom_text, cell_text, numbered_text}
 use Rattle.tap_text.specs.Writing.{Writes}
 use Rattle.tap_listing.specs.declared.classes.Kind.TheVariants as kind
@@ -43,14 +43,14 @@ past_unsealed (Rnd k t) (Sealed x) h seen = absurd h
 
 -- the number of a cell is shown, and the cell is seen
 pub numbered_written : (page : Bool) (c : Class) → kind_of c ≡ kind.Deterministic → (x y z : List ℕ) → y ≡ x → z ≡ x → (old new : Tables) (n : ℕ) (before after : List ℕ)
-    → ((seen : List (Spot Class)) → Tells old seen → n ≡ number_in classing seen c z) → ((seen : List (Spot Class)) → Tells old seen → Tells new (noted classing seen c z))
+    → ((seen : List (Spot Class)) → Knows old seen → n ≡ number_in classing seen c z) → ((seen : List (Spot Class)) → Knows old seen → Knows new (noted classing seen c z))
     → after ≡ before ++ numbered_text page c n (length y) (slice_index y 0) → Writes (atom_text page c (Sealed x)) (atom_spots c (Sealed x)) old new before after
-numbered_written page c k x y z e f old new n before after number tells put seen told = (
+numbered_written page c k x y z e f old new n before after number knows put seen known = (
   put
       ∙ ap (λ w. before ++ numbered_text page c n (length w) (slice_index w 0)) e
-      ∙ ap (λ m. before ++ numbered_text page c m (length x) (slice_index x 0)) (number seen told ∙ ap (number_in classing seen c) f)
+      ∙ ap (λ m. before ++ numbered_text page c m (length x) (slice_index x 0)) (number seen known ∙ ap (number_in classing seen c) f)
       ∙ ap (λ k. before ++ cell_text page k c (number_in classing seen c x) x) (sym k),
-  subst (Tells new) (ap (noted classing seen c) f ∙ sym (past_numbered c k x seen)) (tells seen told),
+  subst (Knows new) (ap (noted classing seen c) f ∙ sym (past_numbered c k x seen)) (knows seen known),
 )
 
 pub on_ok : {T E : Type 0} (P Q : Type 0) (r : Result T E) → (P → Q) → OnOk r P → OnOk r Q

@@ -1,4 +1,4 @@
--- Texts of atoms, rows and parameters, one behind another.
+-- Texts of atoms, rows and parameters, one after another.
 use Rattle.std.proofs.Common.{◌≡◌, ◌<◌, ◌+◌, Bool, ℕ, suc, List, [], ◌∷◌, ◌++◌, length, drop, take, get_or, flat_map, refl, ap, sym, subst, ◌∙◌, append_assoc, arith}
 use Rattle.std.proofs.Math.Seq.{take-suc}
 use Rattle.ae_base.specs.Atoms.{Atom}
@@ -7,8 +7,8 @@ use Rattle.scalar.specs.Classes.{Class, class_at, class_of}
 use Rattle.wire_messages.specs.declared.params.SentParam.{SentParam}
 use Rattle.tap_listing.specs.Classes.{classing}
 use Rattle.tap_listing.specs.Frames.{atom_spots, params_spots, row_spots, rows_spots}
-use Rattle.tap_listing.specs.Tables.{Tables, Tells}
-use Rattle.tap_text.specs.Text.{first_class, param_text, params_text, place_text, row_line, row_text, rows_text}
+use Rattle.tap_listing.specs.Tables.{Tables, Knows}
+use Rattle.tap_text.specs.Text.{first_class, param_text, params_text, spot_text, row_line, row_text, rows_text}
 use Rattle.tap_text.specs.Writing.{Writes}
 
 past_append : (seen ss ts : List (Spot Class)) → seen_past classing seen (ss ++ ts) ≡ seen_past classing (seen_past classing seen ss) ts
@@ -16,41 +16,41 @@ past_append seen [] ts = refl
 past_append seen (s ∷ ss) ts = past_append (seen_with classing seen s) ss ts
 
 module _ (old mid new : Tables) (before text after : List ℕ) where
-  -- one text behind another
+  -- one text after another
   pub behind : (T U : List (Spot Class) → List ℕ) (ss ts : List (Spot Class)) → Writes T ss old mid before text → Writes U ts mid new text after
       → Writes (λ seen. T seen ++ U (seen_past classing seen ss)) (ss ++ ts) old new before after
-  behind T U ss ts h i seen tells =
-      let p = h seen tells in
+  behind T U ss ts h i seen knows =
+      let p = h seen knows in
       let q = i (seen_past classing seen ss) p.1 in (
         q.0 ∙ ap (λ t. t ++ U (seen_past classing seen ss)) p.0 ∙ append_assoc before (T seen) (U (seen_past classing seen ss)),
-        subst (Tells new) (sym (past_append seen ss ts)) q.1,
+        subst (Knows new) (sym (past_append seen ss ts)) q.1,
       )
 
--- what is written, with fixed texts before and behind it
-pub between : (old new : Tables) (before start text after front end : List ℕ) (T : List (Spot Class) → List ℕ) (ss : List (Spot Class))
-    → start ≡ before ++ front → Writes T ss old new start text → after ≡ text ++ end
-    → Writes (λ seen. (front ++ T seen) ++ end) ss old new before after
-between old new before start text after front end T ss e h f seen tells =
-    let p = h seen tells in
+-- what is written, with fixed texts before and after it
+pub between : (old new : Tables) (before start text after prefix end : List ℕ) (T : List (Spot Class) → List ℕ) (ss : List (Spot Class))
+    → start ≡ before ++ prefix → Writes T ss old new start text → after ≡ text ++ end
+    → Writes (λ seen. (prefix ++ T seen) ++ end) ss old new before after
+between old new before start text after prefix end T ss e h f seen knows =
+    let p = h seen knows in
     (f ∙ ap (λ t. t ++ end) (p.0 ∙ ap (λ s. s ++ T seen) e) ∙ simp append_assoc, p.1)
 
 -- what is written, with a fixed text before it
-pub behind_front : (old new : Tables) (before start after front : List ℕ) (T : List (Spot Class) → List ℕ) (ss : List (Spot Class))
-    → start ≡ before ++ front → Writes T ss old new start after → Writes (λ seen. front ++ T seen) ss old new before after
-behind_front old new before start after front T ss e h seen tells =
-    let p = h seen tells in
-    (p.0 ∙ ap (λ t. t ++ T seen) e ∙ append_assoc before front (T seen), p.1)
+pub behind_prefix : (old new : Tables) (before start after prefix : List ℕ) (T : List (Spot Class) → List ℕ) (ss : List (Spot Class))
+    → start ≡ before ++ prefix → Writes T ss old new start after → Writes (λ seen. prefix ++ T seen) ss old new before after
+behind_prefix old new before start after prefix T ss e h seen knows =
+    let p = h seen knows in
+    (p.0 ∙ ap (λ t. t ++ T seen) e ∙ append_assoc before prefix (T seen), p.1)
 
 -- the same text, and the same cells
 pub written_as : (old new : Tables) (before after : List ℕ) (T U : List (Spot Class) → List ℕ) (ss ts : List (Spot Class))
     → ((seen : List (Spot Class)) → T seen ≡ U seen) → ss ≡ ts → Writes T ss old new before after → Writes U ts old new before after
-written_as old new before after T U ss ts e f h seen tells =
-    let p = h seen tells in
-    (p.0 ∙ ap (λ t. before ++ t) (e seen), subst (λ l. Tells new (seen_past classing seen l)) f p.1)
+written_as old new before after T U ss ts e f h seen knows =
+    let p = h seen knows in
+    (p.0 ∙ ap (λ t. before ++ t) (e seen), subst (λ l. Knows new (seen_past classing seen l)) f p.1)
 
 -- nothing is written, and no cell seen
 pub nothing_written : (tables : Tables) (text : List ℕ) (T : List (Spot Class) → List ℕ) → ((seen : List (Spot Class)) → T seen ≡ []) → Writes T [] tables tables text text
-nothing_written tables text T e seen tells = (sym (ap (λ t. text ++ t) (e seen) ∙ simp append_nil), tells)
+nothing_written tables text T e seen knows = (sym (ap (λ t. text ++ t) (e seen) ∙ simp append_nil), knows)
   where
     append_nil : (xs : List ℕ) → xs ++ [] ≡ xs
     append_nil [] = refl
@@ -91,9 +91,9 @@ nil_text [] = refl
 nil_text (x ∷ xs) = ap (λ l. x ∷ l) (nil_text xs)
 
 row_text_more : (page : Bool) (cs : List Class) (xs : List Atom) (a : Atom) (seen : List (Spot Class))
-    → row_text page cs (xs ++ a ∷ []) seen ≡ row_text page cs xs seen ++ place_text page (class_at cs (length xs)) a (seen_past classing seen (row_spots cs xs))
-row_text_more page cs [] a seen = nil_text (place_text page (first_class cs) a seen) ∙ ap (λ c. place_text page c a seen)
-    (first_at cs) ∙ ap (λ l. place_text page (class_at cs 0) a (seen_past classing seen l)) (sym (empty cs))
+    → row_text page cs (xs ++ a ∷ []) seen ≡ row_text page cs xs seen ++ spot_text page (class_at cs (length xs)) a (seen_past classing seen (row_spots cs xs))
+row_text_more page cs [] a seen = nil_text (spot_text page (first_class cs) a seen) ∙ ap (λ c. spot_text page c a seen)
+    (first_at cs) ∙ ap (λ l. spot_text page (class_at cs 0) a (seen_past classing seen l)) (sym (empty cs))
   where
     empty : (cs : List Class) → row_spots cs [] ≡ []
     empty cs = refl
@@ -102,13 +102,13 @@ row_text_more page cs (x ∷ xs) a seen =
     let now = seen_past classing seen here in
     let past : seen_past classing now (row_spots (drop 1 cs) xs) ≡ seen_past classing seen (row_spots cs (x ∷ xs))
     = sym (past_append seen here (row_spots (drop 1 cs) xs)) ∙ ap (seen_past classing seen) (sym (spots_first cs x xs)) in
-    ap (λ t. place_text page (first_class cs) x seen ++ t) (
+    ap (λ t. spot_text page (first_class cs) x seen ++ t) (
     row_text_more page (drop 1 cs) xs a now
-    ∙ ap (λ c. row_text page (drop 1 cs) xs now ++ place_text page c a (seen_past classing now (row_spots (drop 1 cs) xs))) (next_at cs (length xs))
-    ∙ ap (λ s. row_text page (drop 1 cs) xs now ++ place_text page (class_at cs (suc (length xs))) a s) past
+    ∙ ap (λ c. row_text page (drop 1 cs) xs now ++ spot_text page c a (seen_past classing now (row_spots (drop 1 cs) xs))) (next_at cs (length xs))
+    ∙ ap (λ s. row_text page (drop 1 cs) xs now ++ spot_text page (class_at cs (suc (length xs))) a s) past
     )
-    ∙ sym (append_assoc (place_text page (first_class cs) x seen) (row_text page (drop 1 cs) xs now)
-    (place_text page (class_at cs (suc (length xs))) a (seen_past classing seen (row_spots cs (x ∷ xs)))))
+    ∙ sym (append_assoc (spot_text page (first_class cs) x seen) (row_text page (drop 1 cs) xs now)
+    (spot_text page (class_at cs (suc (length xs))) a (seen_past classing seen (row_spots cs (x ∷ xs)))))
 
 spots_more : (rows : List (List Atom)) (row : List Atom) (cs : List Class) → rows_spots cs (rows ++ row ∷ []) ≡ rows_spots cs rows ++ row_spots cs row
 spots_more [] row cs = nil_spots (row_spots cs row)
@@ -149,7 +149,7 @@ flat_more : {A : Type 0} (f : A → List ℕ) (xs : List A) (x : A) → flat_map
 flat_more f [] x = nil_text (f x)
 flat_more f (y ∷ xs) x = ap (λ l. f y ++ l) (flat_more f xs x) ∙ sym (append_assoc (f y) (flat_map f xs) (f x))
 
--- one more line behind those so far
+-- one more line after those so far
 pub line_behind : {A : Type 0} (f : A → List ℕ) (old mid new : List ℕ) (xs : List A) (i : ℕ) (x : A) → i < length xs
     → x ≡ get_or xs i x → mid ≡ old ++ flat_map f (take i xs) → new ≡ mid ++ f x → new ≡ old ++ flat_map f (take (i + 1) xs)
 line_behind f old mid new xs i x lt is h k =
@@ -158,12 +158,12 @@ line_behind f old mid new xs i x lt is h k =
 
 module _ (page : Bool) (old mid new : Tables) (before text after : List ℕ) where
   pub atom_behind : (cs : List Class) (xs longer : List Atom) (a : Atom) (n : ℕ) → longer ≡ xs ++ a ∷ [] → n ≡ length xs → Writes (row_text page cs xs) (row_spots cs xs) old mid before text
-      → Writes (place_text page (class_at cs n) a) (atom_spots (class_at cs n) a) mid new text after → Writes (row_text page cs longer) (row_spots cs longer) old new before after
+      → Writes (spot_text page (class_at cs n) a) (atom_spots (class_at cs n) a) mid new text after → Writes (row_text page cs longer) (row_spots cs longer) old new before after
   atom_behind cs xs longer a n e f h i =
-      let i = subst (λ m. Writes (place_text page (class_at cs m) a) (atom_spots (class_at cs m) a) mid new text after) f i in
-      let both = behind old mid new before text after (row_text page cs xs) (place_text page (class_at cs (length xs)) a) (row_spots cs xs) (atom_spots (class_at cs (length xs)) a) h i in
+      let i = subst (λ m. Writes (spot_text page (class_at cs m) a) (atom_spots (class_at cs m) a) mid new text after) f i in
+      let both = behind old mid new before text after (row_text page cs xs) (spot_text page (class_at cs (length xs)) a) (row_spots cs xs) (atom_spots (class_at cs (length xs)) a) h i in
       subst (λ l. Writes (row_text page cs l) (row_spots cs l) old new before after) (sym e) (
-      written_as old new before after (λ seen. row_text page cs xs seen ++ place_text page (class_at cs (length xs)) a (seen_past classing seen (row_spots cs xs))) (row_text page cs (xs ++ a ∷ []))
+      written_as old new before after (λ seen. row_text page cs xs seen ++ spot_text page (class_at cs (length xs)) a (seen_past classing seen (row_spots cs xs))) (row_text page cs (xs ++ a ∷ []))
       (row_spots cs xs ++ atom_spots (class_at cs (length xs)) a) (row_spots cs (xs ++ a ∷ [])) (λ seen. sym (row_text_more page cs xs a seen)) (sym (row_spots_more cs xs a)) both
       )
 

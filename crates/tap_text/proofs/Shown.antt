@@ -1,4 +1,4 @@
--- Texts that are put one behind another.
+-- Texts that are written one after another.
 use Rattle.std.proofs.Common.{◌≡◌, ◌<◌, ◌/◌, ◌%◌, ℕ, true, List, [], ◌∷◌, ◌++◌, get_or, ◌==◌, flat_map, refl, ap, ◌∙◌, append_assoc, arith}
 use Rattle.std.proofs.lemmas.Bool.{agree_below, agree_below_at, eqb-true}
 use Rattle.std.proofs.lemmas.List.Elements.{All-head, All-tail}
@@ -23,26 +23,26 @@ digits_shown (byte ∷ bytes) low =
     let rest = digits_shown bytes (All-tail (λ byte. byte < 256) byte bytes low) in
     rw (digit_same (byte / 16) (omega arith), digit_same (byte % 16) (omega arith), rest) refl
 
--- seven texts, one behind another
+-- seven texts, one after another
 pub seven_texts : (old a b c d e f g t1 t2 t3 t4 t5 t6 t7 : List ℕ) → t1 ≡ old ++ a → t2 ≡ t1 ++ b → t3 ≡ t2 ++ c
     → t4 ≡ t3 ++ d → t5 ≡ t4 ++ e → t6 ≡ t5 ++ f → t7 ≡ t6 ++ g → t7 ≡ old ++ (a ++ b ++ c ++ d ++ e ++ f ++ g)
 seven_texts old a b c d e f g t1 t2 t3 t4 t5 t6 t7 h1 h2 h3 h4 h5 h6 h7 =
     h7 ∙ ap (λ t. t ++ g) (h6 ∙ ap (λ t. t ++ f) (h5 ∙ ap (λ t. t ++ e) (h4 ∙ ap (λ t. t ++ d) (h3 ∙ ap (λ t. t ++ c) (h2 ∙ ap (λ t. t ++ b) h1))))) ∙ simp append_assoc
 
--- five texts, one behind another
+-- five texts, one after another
 pub five_texts : (old a b c d e t1 t2 t3 t4 t5 : List ℕ) → t1 ≡ old ++ a → t2 ≡ t1 ++ b → t3 ≡ t2 ++ c → t4 ≡ t3 ++ d → t5 ≡ t4 ++ e → t5 ≡ old ++ (a ++ b ++ c ++ d ++ e)
 five_texts old a b c d e t1 t2 t3 t4 t5 h1 h2 h3 h4 h5 =
     h5 ∙ ap (λ t. t ++ e) (h4 ∙ ap (λ t. t ++ d) (h3 ∙ ap (λ t. t ++ c) (h2 ∙ ap (λ t. t ++ b) h1))) ∙ simp append_assoc
 
--- two texts, one behind another
+-- two texts, one after another
 pub two_texts : (old a b t1 t2 : List ℕ) → t1 ≡ old ++ a → t2 ≡ t1 ++ b → t2 ≡ old ++ (a ++ b)
 two_texts old a b t1 t2 h1 h2 = h2 ∙ ap (λ t. t ++ b) h1 ∙ append_assoc old a b
 
--- a line, and a text behind it
+-- a line, and a text after it
 pub line_texts : (old a b t1 t2 : List ℕ) (n : ℕ) → t1 ≡ old ++ (a ++ n ∷ []) → t2 ≡ t1 ++ b → t2 ≡ old ++ (a ++ n ∷ b)
 line_texts old a b t1 t2 n h1 h2 = h2 ∙ ap (λ t. t ++ b) h1 ∙ simp append_assoc
 
--- a line of two texts, and two texts behind it
+-- a line of two texts, and two texts after it
 pub head_texts : (old a b d e t1 t2 t3 t4 t5 : List ℕ) (n : ℕ) → t1 ≡ old ++ a → t2 ≡ t1 ++ b → t3 ≡ t2 ++ n ∷ [] → t4 ≡ t3 ++ d → t5 ≡ t4 ++ e → t5 ≡ old ++ (a ++ b ++ n ∷ d ++ e)
 head_texts old a b d e t1 t2 t3 t4 t5 n h1 h2 h3 h4 h5 =
     h5 ∙ ap (λ t. t ++ e) (h4 ∙ ap (λ t. t ++ d) (h3 ∙ ap (λ t. t ++ n ∷ []) (h2 ∙ ap (λ t. t ++ b) h1))) ∙ simp append_assoc

@@ -59,7 +59,7 @@ use Rattle.wire_payloads.specs.declared.payloads.Payload.TheVariants.{One, Rows}
 use Rattle.tap_listing.specs.Classes.{classing, kind_of}
 use Rattle.tap_listing.specs.Frames.{atom_spots, row_spots}
 use Rattle.tap_listing.specs.declared.frames.Frame.{Frame}
-use Rattle.tap_listing.specs.declared.frames.Frame.TheVariants.{Asked, Told}
+use Rattle.tap_listing.specs.declared.frames.Frame.TheVariants.{Asked, Replied}
 use Rattle.tap_listing.specs.declared.classes.Kind.{Kind}
 use Rattle.tap_listing.specs.declared.classes.Kind.TheVariants as kind
 
@@ -89,7 +89,7 @@ line text = text ++ 10 ∷ []
 
 -- ---- what stands as it is
 
--- a statement's lines, each behind four spaces
+-- a statement's lines, each after four spaces
 abbrev pub statement_char : Bool → ℕ → List ℕ
 statement_char page c = if c == 10 then 10 ∷ codes "    " else char_text page c
 
@@ -162,26 +162,26 @@ cell_text page kind.Open c n x = open_cell_text page x
 cell_text page kind.Deterministic c n x = numbered_text page c n (length x) (slice_index x 0)
 cell_text page kind.Randomized c n x = sized_text page (length x) (slice_index x 0)
 
--- an atom at its class, behind the cells seen
+-- an atom at its class, after the cells seen
 abbrev pub atom_text : Bool → Class → Atom → List (Spot Class) → List ℕ
 atom_text page c Null seen = codes "NULL"
 atom_text page c (Plain datum) seen = plain_text page datum
 atom_text page c (Sealed x) seen = cell_text page (kind_of c) c (number_in classing seen c x) x
 
--- ---- rows and parameters, behind the cells seen
+-- ---- rows and parameters, after the cells seen
 
--- a place past the columns that were told is open
+-- a place past the columns that were described is open
 abbrev pub first_class : List Class → Class
 first_class [] = Open
 first_class (c ∷ classes) = c
 
-abbrev pub place_text : Bool → Class → Atom → List (Spot Class) → List ℕ
-place_text page c a seen = codes "| " ++ atom_text page c a seen ++ codes " "
+abbrev pub spot_text : Bool → Class → Atom → List (Spot Class) → List ℕ
+spot_text page c a seen = codes "| " ++ atom_text page c a seen ++ codes " "
 
 abbrev pub row_text : Bool → List Class → List Atom → List (Spot Class) → List ℕ
 row_text page classes [] seen = []
 row_text page classes (a ∷ row) seen =
-    place_text page (first_class classes) a seen ++ row_text page (drop 1 classes) row (seen_past classing seen (atom_spots (first_class classes) a))
+    spot_text page (first_class classes) a seen ++ row_text page (drop 1 classes) row (seen_past classing seen (atom_spots (first_class classes) a))
 
 abbrev pub row_line : Bool → List Class → List Atom → List (Spot Class) → List ℕ
 row_line page classes row seen = codes "    " ++ row_text page classes row seen ++ (codes "|" ++ 10 ∷ [])
@@ -230,12 +230,12 @@ abbrev pub version_text : FrameVersion → List ℕ
 version_text V1 = codes "v1 "
 version_text V2 = codes "v2 "
 
--- the place, the direction and the version
+-- the offset, the direction and the version
 abbrev pub asked_head : ℕ → FrameVersion → List ℕ
 asked_head at version = decimal at ++ codes " > " ++ version_text version
 
-abbrev pub told_head : ℕ → FrameVersion → List ℕ
-told_head at version = decimal at ++ codes " < " ++ version_text version
+abbrev pub answered_head : ℕ → FrameVersion → List ℕ
+answered_head at version = decimal at ++ codes " < " ++ version_text version
 
 abbrev pub request_text : Bool → Request → List (Spot Class) → List ℕ
 request_text page (Describe session characters declarations) seen =
@@ -262,4 +262,4 @@ payload_text page classes (Rows rows) seen = codes "rows" ++ 10 ∷ rows_text pa
 
 abbrev pub frame_text : Bool → ℕ → List Class → Frame → List (Spot Class) → List ℕ
 frame_text page at classes (Asked asked) seen = mark page (codes "<p class=q>") ++ asked_head at asked.version ++ request_text page asked.message seen
-frame_text page at classes (Told told) seen = mark page (codes "<p class=r>") ++ told_head at told.version ++ payload_text page classes told.message seen
+frame_text page at classes (Replied known) seen = mark page (codes "<p class=r>") ++ answered_head at known.version ++ payload_text page classes known.message seen

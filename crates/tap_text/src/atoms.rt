@@ -16,7 +16,7 @@ use tap_listing::{CellClass, CellNumbers, Kind};
 use wire_parts::atoms::{AtomCase, AtomPart};
 use wire_parts::parts::{CellPart, TxtPart};
 
-/// Puts a number.
+/// Writes a number.
 fn push_number(text: &mut String, page: bool, n: i64) -> Result<(), AllocError>
     ensures { OnOk result (string_bytes text.new ≡ string_bytes text.old
         ++ plain_text page (Num n)) }
@@ -26,7 +26,7 @@ fn push_number(text: &mut String, page: bool, n: i64) -> Result<(), AllocError>
     push_mark(text, page, "</b>")
 }
 
-/// Puts a text.
+/// Writes a text.
 fn push_text(text: &mut String, page: bool, characters: &TxtPart<'_>) -> Result<(), AllocError>
     ensures { OnOk result (string_bytes text.new ≡ string_bytes text.old
         ++ plain_text page (Text characters.now)) }
@@ -36,7 +36,7 @@ fn push_text(text: &mut String, page: bool, characters: &TxtPart<'_>) -> Result<
     push_mark(text, page, "</b>")
 }
 
-/// Puts a binary.
+/// Writes a binary.
 fn push_binary(text: &mut String, page: bool, bytes: &[u8]) -> Result<(), AllocError>
     ensures { OnOk result (string_bytes text.new ≡ string_bytes text.old
         ++ plain_text page (Bin bytes.now)) }
@@ -46,7 +46,7 @@ fn push_binary(text: &mut String, page: bool, bytes: &[u8]) -> Result<(), AllocE
     push_mark(text, page, "</b>")
 }
 
-/// Puts a cell that stands where nothing is protected.
+/// Writes a cell where nothing is protected.
 fn push_open_cell(text: &mut String, page: bool, cell: &[u8]) -> Result<(), AllocError>
     ensures { OnOk result (string_bytes text.new ≡ string_bytes text.old
         ++ open_cell_text page cell.now) }
@@ -67,7 +67,7 @@ fn lead_of(cell: &[u8]) -> u8
     }
 }
 
-/// Puts the length of a cell, and its first byte, where it isn't that of all cells.
+/// Writes the length of a cell, and its first byte, where it isn't that of all cells.
 fn push_size(text: &mut String, cell: &[u8]) -> Result<(), AllocError>
     ensures { OnOk result (string_bytes text.new ≡ string_bytes text.old
         ++ size_text (length cell.now) (slice_index cell.now 0)) }
@@ -80,7 +80,7 @@ fn push_size(text: &mut String, cell: &[u8]) -> Result<(), AllocError>
     text.push_str(")")
 }
 
-/// Puts the number of a class's key, and its type, where it is protected.
+/// Writes the number of a class's key, and its type, where it is protected.
 fn push_class(text: &mut String, class: &CellClass) -> Result<(), AllocError>
     ensures { OnOk result (string_bytes text.new ≡ string_bytes text.old
         ++ class_text class.now) }
@@ -95,7 +95,7 @@ fn push_class(text: &mut String, class: &CellClass) -> Result<(), AllocError>
     }
 }
 
-/// Puts a cell of a deterministic class, by its number.
+/// Writes a cell of a deterministic class, by its number.
 fn push_numbered(
     text: &mut String,
     page: bool,
@@ -114,7 +114,7 @@ fn push_numbered(
     push_mark(text, page, "</i>")
 }
 
-/// Puts a cell of a randomized class, by its length.
+/// Writes a cell of a randomized class, by its length.
 fn push_sized(text: &mut String, page: bool, cell: &[u8]) -> Result<(), AllocError>
     ensures { OnOk result (string_bytes text.new ≡ string_bytes text.old
         ++ sized_text page (length cell.now) (slice_index cell.now 0)) }
@@ -124,7 +124,7 @@ fn push_sized(text: &mut String, page: bool, cell: &[u8]) -> Result<(), AllocErr
     push_mark(text, page, "</u>")
 }
 
-/// Puts a cell as its class is shown. One of a deterministic class is seen from now on.
+/// Writes a cell as its class is shown. One of a deterministic class is seen from now on.
 fn push_cell(
     alloc: Global,
     text: &mut String,
@@ -147,7 +147,7 @@ fn push_cell(
     }
 }
 
-/// Puts an atom at its class.
+/// Writes an atom at its class.
 pub fn push_atom(
     alloc: Global,
     text: &mut String,

@@ -3,7 +3,7 @@
 ghost use Rattle.std.specs.Prelude.{◌≡◌, OnOk, string_bytes};
 ghost use Rattle.scalar.specs.Classes.{Class, class_at, class_of};
 ghost use Rattle.tap_listing.specs.Frames.{atom_spots, params_spots, row_spots, rows_spots};
-ghost use Rattle.tap_text.specs.Text.{param_text, params_text, place_text, row_line, row_text, rows_text};
+ghost use Rattle.tap_text.specs.Text.{param_text, params_text, spot_text, row_line, row_text, rows_text};
 ghost use Rattle.tap_text.specs.Writing.{Writes};
 
 use crate::atoms::push_atom;
@@ -16,18 +16,18 @@ use wire_messages::params::SentParam;
 use wire_messages::replies::RowParts;
 use wire_parts::atoms::AtomPart;
 
-/// The class at a place. One that isn't there is open.
-fn class_at(classes: &[CellClass], place: usize) -> CellClass
-    ensures { result ≡ class_at classes.now place }
+/// The class of an ordinal. A missing one is open.
+fn class_at(classes: &[CellClass], ordinal: usize) -> CellClass
+    ensures { result ≡ class_at classes.now ordinal }
 {
-    match classes.get(place) {
+    match classes.get(ordinal) {
         Some(class) => class.copy(),
         None => CellClass::new(Ty::Int, Enc::Plain),
     }
 }
 
-/// Puts an atom of a row, behind a bar.
-fn push_place(
+/// Writes an atom of a row, after a bar.
+fn push_spot(
     alloc: Global,
     text: &mut String,
     page: bool,
@@ -35,7 +35,7 @@ fn push_place(
     class: &CellClass,
     atom: &AtomPart<'_>,
 ) -> Result<(), AllocError>
-    ensures { OnOk result (Writes (place_text page class.now atom.now)
+    ensures { OnOk result (Writes (spot_text page class.now atom.now)
         (atom_spots class.now atom.now) numbers.old numbers.new
         (string_bytes text.old) (string_bytes text.new)) }
 {
@@ -45,7 +45,7 @@ fn push_place(
     Ok(())
 }
 
-/// Puts the atoms of a row, each at the class of its column.
+/// Writes the atoms of a row, each at the class of its column.
 fn push_atoms(
     alloc: Global,
     text: &mut String,
@@ -58,16 +58,16 @@ fn push_atoms(
         (row_spots classes.now atoms.now) numbers.old numbers.new
         (string_bytes text.old) (string_bytes text.new)) }
 {
-    let mut place = 0;
+    let mut ordinal = 0;
     for atom in atoms {
-        let class = class_at(classes, place);
-        push_place(alloc, text, page, numbers, &class, atom)?;
-        place += 1;
+        let class = class_at(classes, ordinal);
+        push_spot(alloc, text, page, numbers, &class, atom)?;
+        ordinal += 1;
     }
     Ok(())
 }
 
-/// Puts the line of a row.
+/// Writes the line of a row.
 pub fn push_row(
     alloc: Global,
     text: &mut String,
@@ -86,7 +86,7 @@ pub fn push_row(
     Ok(())
 }
 
-/// Puts rows, a line each.
+/// Writes rows, a line each.
 pub fn push_rows(
     alloc: Global,
     text: &mut String,
@@ -105,7 +105,7 @@ pub fn push_rows(
     Ok(())
 }
 
-/// Puts the line of a parameter.
+/// Writes the line of a parameter.
 fn push_param(
     alloc: Global,
     text: &mut String,
@@ -130,7 +130,7 @@ fn push_param(
     Ok(())
 }
 
-/// Puts parameters, a line each.
+/// Writes parameters, a line each.
 pub fn push_params(
     alloc: Global,
     text: &mut String,

@@ -6,7 +6,7 @@ ghost use Rattle.tap_text.specs.Text.{char_text, chars_text, hex_text, mark, quo
 
 use std::alloc::AllocError;
 
-/// The sign that a character is shown by: of a control character one that is seen.
+/// The sign that shows a character: for a control character a visible one.
 fn visible(c: char) -> char
     ensures { result ≡ visible c }
 {
@@ -25,7 +25,7 @@ fn visible(c: char) -> char
     }
 }
 
-/// Puts a mark of a page.
+/// Writes a mark of a page.
 pub fn push_mark(text: &mut String, page: bool, html: &str) -> Result<(), AllocError>
     ensures { OnOk result (string_bytes text.new ≡ string_bytes text.old ++ mark page html.now) }
 {
@@ -35,7 +35,7 @@ pub fn push_mark(text: &mut String, page: bool, html: &str) -> Result<(), AllocE
     Ok(())
 }
 
-/// Puts a character as it is shown.
+/// Writes a character as it is shown.
 fn push_char(text: &mut String, page: bool, c: char) -> Result<(), AllocError>
     ensures { OnOk result (string_bytes text.new ≡ string_bytes text.old ++ char_text page c) }
 {
@@ -48,7 +48,7 @@ fn push_char(text: &mut String, page: bool, c: char) -> Result<(), AllocError>
     text.push(visible(c))
 }
 
-/// Puts characters as they are shown.
+/// Writes characters as they are shown.
 pub fn push_chars(text: &mut String, page: bool, characters: &str) -> Result<(), AllocError>
     ensures { OnOk result (string_bytes text.new ≡ string_bytes text.old
         ++ chars_text page (chars characters.now)) }
@@ -69,7 +69,7 @@ fn push_statement_char(text: &mut String, page: bool, c: char) -> Result<(), All
     push_char(text, page, c)
 }
 
-/// Puts the lines of a statement, each behind four spaces.
+/// Writes the lines of a statement, each after four spaces.
 pub fn push_statement(text: &mut String, page: bool, characters: &str) -> Result<(), AllocError>
     ensures { OnOk result (string_bytes text.new ≡ string_bytes text.old
         ++ statement_text page (chars characters.now)) }
@@ -91,7 +91,7 @@ fn push_quoted_char(text: &mut String, page: bool, c: char) -> Result<(), AllocE
     push_char(text, page, c)
 }
 
-/// Puts a text as N'..' with each ' doubled.
+/// Writes a text as N'..' with each ' doubled.
 pub fn push_quoted(text: &mut String, page: bool, characters: &str) -> Result<(), AllocError>
     ensures { OnOk result (string_bytes text.new ≡ string_bytes text.old
         ++ quoted_text page (chars characters.now)) }
@@ -104,7 +104,7 @@ pub fn push_quoted(text: &mut String, page: bool, characters: &str) -> Result<()
     Ok(())
 }
 
-/// Puts 0x and two lower-case digits for each byte.
+/// Writes 0x and two lower-case digits for each byte.
 pub fn push_hex(text: &mut String, bytes: &[u8]) -> Result<(), AllocError>
     ensures { OnOk result (string_bytes text.new ≡ string_bytes text.old ++ hex_text bytes.now) }
 {

@@ -8,8 +8,8 @@ ghost use Rattle.tap_text.specs.Writing.{Writes};
 use crate::rows::{push_params, push_row, push_rows};
 use crate::signs::{push_mark, push_statement};
 use crate::words::{
-    push_all_used, push_asked_head, push_columns, push_declarations, push_done, push_fault,
-    push_keys, push_told_head,
+    push_all_used, push_answered_head, push_asked_head, push_columns, push_declarations, push_done,
+    push_fault, push_keys,
 };
 use std::alloc::{AllocError, Global};
 use std::fmt::Write;
@@ -18,7 +18,7 @@ use wire_messages::replies::{Description, Header, Reply};
 use wire_messages::requests::Request;
 use wire_payloads::payloads::Payload;
 
-/// Puts a request.
+/// Writes a request.
 fn push_request(
     alloc: Global,
     text: &mut String,
@@ -56,7 +56,7 @@ fn push_request(
     }
 }
 
-/// Puts a described statement.
+/// Writes a described statement.
 fn push_description(
     text: &mut String,
     page: bool,
@@ -70,7 +70,7 @@ fn push_description(
     push_all_used(text, page, description.params().as_slice())
 }
 
-/// Puts the columns of an answer.
+/// Writes the columns of an answer.
 fn push_header(text: &mut String, page: bool, header: &Header<'_>) -> Result<(), AllocError>
     ensures { OnOk result (string_bytes text.new ≡ string_bytes text.old
         ++ header_text page header.now) }
@@ -80,7 +80,7 @@ fn push_header(text: &mut String, page: bool, header: &Header<'_>) -> Result<(),
     push_columns(text, page, header.columns())
 }
 
-/// Puts a reply.
+/// Writes a reply.
 fn push_reply(
     alloc: Global,
     text: &mut String,
@@ -112,7 +112,7 @@ fn push_reply(
     }
 }
 
-/// Puts what a frame to the driver carries.
+/// Writes what a frame to the driver carries.
 fn push_payload(
     alloc: Global,
     text: &mut String,
@@ -134,7 +134,7 @@ fn push_payload(
     }
 }
 
-/// Puts a frame, whose rows are of the columns of these classes. Its cells are seen from now on.
+/// Writes a frame, whose rows are of the columns of these classes. Its cells are seen from now on.
 pub fn push_frame(
     alloc: Global,
     text: &mut String,
@@ -154,10 +154,10 @@ pub fn push_frame(
             push_asked_head(text, at, asked.version)?;
             push_request(alloc, text, page, numbers, &asked.message)
         }
-        Frame::Told(told) => {
+        Frame::Replied(known) => {
             push_mark(text, page, "<p class=r>")?;
-            push_told_head(text, at, told.version)?;
-            push_payload(alloc, text, page, numbers, classes, &told.message)
+            push_answered_head(text, at, known.version)?;
+            push_payload(alloc, text, page, numbers, classes, &known.message)
         }
     }
 }

@@ -1,4 +1,4 @@
-//! Types, keys and what else a listing shows as it is told.
+//! Types, keys and what else a listing shows as it is.
 
 ghost use Rattle.std.specs.Prelude.{◌≡◌, ◌++◌, OnOk, flat_map, string_bytes};
 ghost use Rattle.std.specs.Str.{chars};
@@ -12,7 +12,7 @@ ghost use Rattle.tap_text.specs.Text.{
   enc_text,
   key_text,
   key_value_text,
-  told_head,
+  answered_head,
   second_value_text,
   type_text,
   under_text,
@@ -31,7 +31,7 @@ use wire_messages::params::{Declaration, UsedParam};
 use wire_messages::replies::Done;
 use wire_parts::keys::{KeyPart, ValuePart};
 
-/// Puts a type as SQL writes it.
+/// Writes a type as SQL writes it.
 pub fn push_type(text: &mut String, ty: Ty) -> Result<(), AllocError>
     ensures { OnOk result (string_bytes text.new ≡ string_bytes text.old ++ type_text ty) }
 {
@@ -53,7 +53,7 @@ fn push_under(text: &mut String, kind: &str, key: KeyId) -> Result<(), AllocErro
     Ok(())
 }
 
-/// Puts how something is encrypted.
+/// Writes how something is encrypted.
 pub fn push_enc(text: &mut String, enc: Enc) -> Result<(), AllocError>
     ensures { OnOk result (string_bytes text.new ≡ string_bytes text.old ++ enc_text enc) }
 {
@@ -74,7 +74,7 @@ fn version_word(version: FrameVersion) -> &'static str
     }
 }
 
-/// Puts the place and the version of a frame to the server.
+/// Writes the offset and the version of a frame to the server.
 pub fn push_asked_head(text: &mut String, at: u64, version: FrameVersion) -> Result<(), AllocError>
     ensures { OnOk result (string_bytes text.new ≡ string_bytes text.old
         ++ asked_head at version) }
@@ -83,9 +83,14 @@ pub fn push_asked_head(text: &mut String, at: u64, version: FrameVersion) -> Res
     text.push_str(version_word(version))
 }
 
-/// Puts the place and the version of a frame to the driver.
-pub fn push_told_head(text: &mut String, at: u64, version: FrameVersion) -> Result<(), AllocError>
-    ensures { OnOk result (string_bytes text.new ≡ string_bytes text.old ++ told_head at version) }
+/// Writes the offset and the version of a frame to the driver.
+pub fn push_answered_head(
+    text: &mut String,
+    at: u64,
+    version: FrameVersion,
+) -> Result<(), AllocError>
+    ensures { OnOk result (string_bytes text.new
+        ≡ string_bytes text.old ++ answered_head at version) }
 {
     write!(text, "{at} < ")?;
     text.push_str(version_word(version))
@@ -107,7 +112,7 @@ fn push_declaration(
     Ok(())
 }
 
-/// Puts the declarations of a statement, a line each.
+/// Writes the declarations of a statement, a line each.
 pub fn push_declarations(
     text: &mut String,
     page: bool,
@@ -134,7 +139,7 @@ fn push_used(text: &mut String, page: bool, param: &UsedParam<'_>) -> Result<(),
     Ok(())
 }
 
-/// Puts the parameters of a described statement, a line each.
+/// Writes the parameters of a described statement, a line each.
 pub fn push_all_used(
     text: &mut String,
     page: bool,
@@ -163,7 +168,7 @@ fn push_column(text: &mut String, page: bool, column: &SentColumn<'_>) -> Result
     Ok(())
 }
 
-/// Puts the columns of an answer, a line each.
+/// Writes the columns of an answer, a line each.
 pub fn push_columns(
     text: &mut String,
     page: bool,
@@ -215,7 +220,7 @@ fn push_key(text: &mut String, page: bool, key: &KeyPart<'_>) -> Result<(), Allo
     push_second(text, page, &key.values().second)
 }
 
-/// Puts keys: each with its name, the paths of the master keys, and the wrapped keys.
+/// Writes keys: each with its name, the paths of the master keys, and the wrapped keys.
 pub fn push_keys(text: &mut String, page: bool, keys: &[KeyPart<'_>]) -> Result<(), AllocError>
     ensures { OnOk result (string_bytes text.new ≡ string_bytes text.old
         ++ flat_map (key_text page) keys.now) }
@@ -226,7 +231,7 @@ pub fn push_keys(text: &mut String, page: bool, keys: &[KeyPart<'_>]) -> Result<
     Ok(())
 }
 
-/// Puts what a request has done.
+/// Writes what a request has done.
 pub fn push_done(text: &mut String, done: Done) -> Result<(), AllocError>
     ensures { OnOk result (string_bytes text.new ≡ string_bytes text.old ++ done_text done) }
 {
@@ -238,7 +243,7 @@ pub fn push_done(text: &mut String, done: Done) -> Result<(), AllocError>
     Ok(())
 }
 
-/// Puts the line of a fault.
+/// Writes the line of a fault.
 pub fn push_fault(text: &mut String, page: bool, fault: &SqlFault) -> Result<(), AllocError>
     ensures { OnOk result (string_bytes text.new ≡ string_bytes text.old
         ++ chars_text page (chars (fault_line fault.now))) }

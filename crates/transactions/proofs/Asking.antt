@@ -15,7 +15,7 @@ use Rattle.engine.specs.Laws.{AreTypesMoved}
 use Rattle.engine.specs.Step.{Answer, Rows}
 use Rattle.engine.specs.Worlds.{World}
 use Rattle.engine.specs.declared.answers.ResultColumn.{ResultColumn}
-use Rattle.sql_tree.specs.Sorts.{control_in}
+use Rattle.sql_tree.specs.Kinds.{control_in}
 use Rattle.transactions.specs.Correspond.{AsksCorrespond, ExecutionsCorrespond}
 use Rattle.transactions.specs.Counted.{Execution, execution, step_of}
 use Rattle.transactions.specs.Stores.{Transaction, Store, Executes, asked, ask_by, ask_of, transaction_at, world_of, why_not, committed, transacted, transact}
@@ -77,7 +77,7 @@ module _ (store : Store) (session : ℕ) (e : Execution) (columns : List ResultC
   pub rows_by_step : (s : BoundStatement) → AnswersRows (transact store session (ask_by s e)).answer → AnswersRows (step_of (world_of store session) e).answer
   rows_by_step s h = asked_rows (control_in s) h
 
--- a statement with its parameters at other places asks for the same, over their values there
+-- a statement with its parameters at other ordinals asks for the same, over their values there
 control_renamed : (f : ℕ → ℕ) (s : BoundStatement) → control_in (renamed_statement f s) ≡ control_in s
 control_renamed f (bound.Definition d) = refl
 control_renamed f (bound.Insert i) = refl
@@ -94,7 +94,7 @@ asked_moved store session (Some control.Commit) moved e h = refl
 asked_moved store session (Some control.Rollback) moved e h = refl
 
 pub asks_renamed : (store : Store) (session : ℕ) (b : Bound) (f : ℕ → ℕ) (tys : List Ty) (encs others : List Enc) (params moved : List Atom)
-    → AreMoved (λ place. uses place b) f params moved → AreTypesMoved b f encs tys others
+    → AreMoved (λ ordinal. uses ordinal b) f params moved → AreTypesMoved b f encs tys others
     → transact store session (ask_of (execution (renamed f tys b) others moved)) ≡ transact store session (ask_of (execution b encs params))
 asks_renamed store session b f tys encs others params moved m t =
     ap (λ c. transact store session (asked c (execution (renamed f tys b) others moved))) (control_renamed f b.statement)

@@ -8,13 +8,13 @@ use Rattle.ae_base.specs.declared.faults.SqlFault.{SqlFault}
 use Rattle.ae_base.specs.declared.faults.SqlFault.TheVariants as fault
 use Rattle.catalog.specs.Catalogs.{Catalog}
 use Rattle.engine.specs.Step.{Answer}
-use Rattle.sql_tree.specs.Sorts.{is_definition, is_defining, tables_of}
+use Rattle.sql_tree.specs.Kinds.{is_definition, is_defining, tables_of}
 use Rattle.transactions.specs.Counted.{Counted, CountedOutcome, Execution, changed_by, counted_step, raised, raised_all}
 use Rattle.transactions.specs.Stores.{changed_behind, with_changed}
 use Rattle.transactions.specs.Serial.{Deed, after_deeds, changed_in, AreAnswered}
 use Rattle.transactions.specs.Frames.{put}
 use Rattle.transactions.proofs.Frame.{made, lies, counted_reads}
-use Rattle.transactions.proofs.Places.{covers, set_length, remove_length}
+use Rattle.transactions.proofs.Positions.{covers, set_length, remove_length}
 use Rattle.transactions.proofs.Replacing.{IsReplacing, IsReplaced, at_last, step_cases, work_behind, refused_behind}
 use Rattle.transactions.proofs.Replay.{AreWork, put_length, put_mixed, placed_is}
 use Rattle.transactions.proofs.Since.{IsCounted, Since, Unmoved, placed_kept}

@@ -11,7 +11,7 @@ use Rattle.ae_base.specs.declared.faults.SqlFault.TheVariants as fault
 use Rattle.ae_base.specs.declared.types.Enc.{Enc}
 use Rattle.sql_tree.specs.Bound.{BoundStatement, Bound}
 use Rattle.sql_tree.specs.Bound as bound
-use Rattle.sql_tree.specs.Sorts.{is_definition, target}
+use Rattle.sql_tree.specs.Kinds.{is_definition, target}
 use Rattle.sql_tree.specs.declared.bound.BoundDefinition.{BoundDefinition}
 use Rattle.catalog.specs.Catalogs.{Catalog}
 use Rattle.catalog.specs.Definitions.{MayDefine, defined_by}
@@ -48,7 +48,7 @@ use Rattle.transactions.specs.Stores.{
 use Rattle.transactions.specs.WellKept.{IsOverShared, IsOpen, IsStore}
 use Rattle.transactions.proofs.Between.{raised_world}
 use Rattle.transactions.proofs.Keeping.{IsLater, all_at, all_set}
-use Rattle.transactions.proofs.Places.{is_there}
+use Rattle.transactions.proofs.Positions.{is_there}
 use Rattle.transactions.proofs.Seen.{IsNext, next_catalog, same_next}
 
 -- ---- a step leaves the catalog, or the one that it defines

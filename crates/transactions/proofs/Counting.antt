@@ -6,11 +6,11 @@ use Rattle.ae_base.specs.declared.faults.SqlFault.{SqlFault}
 use Rattle.ae_base.specs.declared.faults.SqlFault.TheVariants as fault
 use Rattle.sql_tree.specs.Bound.{BoundStatement}
 use Rattle.engine.specs.Step.{Answer, Outcome}
-use Rattle.engine.specs.Worlds.{World, place_of}
-use Rattle.sql_tree.specs.Sorts.{is_defining, tables_of, target}
+use Rattle.engine.specs.Worlds.{World, table_position_of}
+use Rattle.sql_tree.specs.Kinds.{is_defining, tables_of, target}
 use Rattle.transactions.specs.Counted.{Counted, CountedOutcome, Execution, count_of, changed_by, counts_behind, is_at_last_count, counted, step_of, counted_step, raised_at}
 use Rattle.transactions.proofs.Frame.{lies, counted_reads}
-use Rattle.transactions.proofs.Places.{set_length}
+use Rattle.transactions.proofs.Positions.{set_length}
 use Rattle.transactions.proofs.Replay.{put_length}
 use Rattle.transactions.proofs.Since.{IsCounted, alone_kept}
 
@@ -72,7 +72,7 @@ step_counted c e h = by (changed_by e.bound.statement (counted_step c e).answer)
     by None k = k
     by (Some name) k =
         let a = (counted_step c e).after in
-        record { long = sym (set_length a.counts (place_of a.world name) (count_of a name + 1)) ∙ k.long }
+        record { long = sym (set_length a.counts (table_position_of a.world name) (count_of a name + 1)) ∙ k.long }
 
 pub executed_long : (c : Counted) (e : Execution) (a : Answer) (w : World) (counts : List ℕ) → length c.counts ≡ length c.world.contents → is_at_last_count c (target e.bound.statement) ≡ false
     → step_of c e ≡ record { answer = Ok a; world = w } → counts ≡ counts_behind c e.bound.statement → length counts ≡ length w.contents

@@ -21,7 +21,7 @@ use Rattle.engine.specs.Step.{Answer, Outcome, Rows, outcome, done_by, rows_to_i
 use Rattle.engine.specs.Worlds.{World, rows_of, with_rows}
 use Rattle.engine.specs.declared.answers.Answer as code
 use Rattle.engine.specs.declared.answers.ResultColumn.{ResultColumn}
-use Rattle.sql_tree.specs.Sorts.{control_in, is_definition, is_defining, tables_of, target}
+use Rattle.sql_tree.specs.Kinds.{control_in, is_definition, is_defining, tables_of, target}
 use Rattle.transactions.specs.Answers.{Transacts}
 use Rattle.transactions.specs.Counted.{Counted, CountedOutcome, Execution, changed_by, counts_behind, is_at_last_count, counted, step_of, counted_step, raised_at}
 use Rattle.transactions.specs.Forgotten.{used_in, used_by, forgotten_in, forgotten, HasNoted, IsUndone}
@@ -46,7 +46,7 @@ use Rattle.transactions.specs.Stores.{
 }
 use Rattle.transactions.specs.declared.uses.Used.{Used}
 use Rattle.transactions.proofs.Asking.{control_shows_no_rows}
-use Rattle.transactions.proofs.Noting.{noted_front}
+use Rattle.transactions.proofs.Noting.{noted_prefix}
 use Rattle.transactions.proofs.Replacing.{work_behind}
 use Rattle.transactions.proofs.Padding.{set_twice}
 use Rattle.transactions.proofs.Seen.{set_back, answered_by_step}
@@ -179,7 +179,7 @@ module _ (store : Store) (session : ℕ) (e : Execution) (columns : List ResultC
       let o = counted_step t.own e in
       let u = stepped_in t e o in
       let own : record { own = o.after; version = t.version; used = take (length t.used) u.used; changed = u.changed } ≡ t =
-      ap (λ c. made c (take (length t.used) u.used) u.changed) r.2 ∙ ap (λ us. made t.own us u.changed) (noted_front t.own (tables_of e.bound.statement) t.used)
+      ap (λ c. made c (take (length t.used) u.used) u.changed) r.2 ∙ ap (λ us. made t.own us u.changed) (noted_prefix t.own (tables_of e.bound.statement) t.used)
       ∙ unchanged t o.answer r.0 r.1 in
       ap (λ b. let x : Transacted = if b then refused store fault.InTransaction else record
       { answer = o.answer; after = with_transaction store session (Some u) } in forgotten x.after session (length t.used)) (no_definition e.bound.statement r.0)

@@ -21,9 +21,9 @@ use Rattle.engine.specs.Columns.{result_column}
 use Rattle.engine.specs.Queries.{walked, where_true, found_in}
 use Rattle.engine.specs.Step as step
 use Rattle.engine.specs.Step.{Answer, Done, outcome, columns_of, uniques_of, rows_to_insert, rows_to_update, rows_to_delete, done_by}
-use Rattle.engine.specs.Worlds.{World, place_of, rows_of, with_rows}
+use Rattle.engine.specs.Worlds.{World, table_position_of, rows_of, with_rows}
 use Rattle.engine.proofs.Interface.{inserted_done, updated_done, deleted_done, selected_done}
-use Rattle.sql_tree.specs.Sorts.{is_defining, tables_of, target}
+use Rattle.sql_tree.specs.Kinds.{is_defining, tables_of, target}
 use Rattle.transactions.specs.Counted.{Counted, CountedOutcome, Execution, changed_by, count_of, counts_behind, is_at_last_count, counted, counted_step}
 use Rattle.transactions.specs.Frames.{put, written, AreDoneAlike}
 
@@ -53,7 +53,7 @@ module _ (world : World) (more : List (List (List Atom))) where
   insert_both : (i : BoundInsert) (params : List Atom) → Same i.table → Both world other (Some i.table) (step.insert world i params) (step.insert other i params)
   insert_both i params e =
       let reads : rows_to_insert other i params ≡ rows_to_insert world i params =
-      ap (λ (old : List (List Atom)). new_rows (columns_of world i.table) i.named params (length old) i.rows
+      ap (λ (old : List (List Atom)). new_rows (columns_of world i.table) i.columns params (length old) i.rows
       >>= λ rows. unless_twins (first_twins 1 (uniques_of world i.table) (old ++ rows)) rows) e in
       subst (λ (r : Result (List (List Atom)) SqlFault). Both world other (Some i.table) (step.insert world i params) (r >>= λ rows. Ok (inserted_done other i.table rows))) (sym reads)
       (both_then world other (Some i.table) (rows_to_insert world i params) (λ rows. inserted_done world i.table rows) (λ rows. inserted_done other i.table rows)
@@ -132,7 +132,7 @@ made catalog contents counts = record { world = record { catalog = catalog; cont
 
 -- where a table of a name lies
 abbrev pub lies : Catalog → List ℕ → ℕ
-lies catalog name = place_of (record { catalog = catalog; contents = [] }) name
+lies catalog name = table_position_of (record { catalog = catalog; contents = [] }) name
 
 -- what a statement other than a definition makes of a counted world
 pub record Changes (catalog : Catalog) (contents others : List (List (List Atom))) (counts more : List ℕ) (s : BoundStatement) (left right : CountedOutcome) : Type 0 where

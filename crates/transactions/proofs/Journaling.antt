@@ -10,7 +10,7 @@ use Rattle.sql_tree.specs.Bound.{BoundStatement}
 use Rattle.engine.specs.Step.{Answer, Defined}
 use Rattle.engine.specs.Worlds.{World}
 use Rattle.transactions.proofs.Seen.{slot_of}
-use Rattle.sql_tree.specs.Sorts.{is_definition, is_defining, tables_of, target}
+use Rattle.sql_tree.specs.Kinds.{is_definition, is_defining, tables_of, target}
 use Rattle.transactions.specs.Counted.{Counted, CountedOutcome, Execution, count_of, changed_by, counts_behind, is_at_last_count, counted, step_of, counted_step, raised_at, raised_all, alone}
 use Rattle.transactions.specs.Frames.{put}
 use Rattle.transactions.specs.Journal.{is_lasting, lasting, call_of, calls_in, whole, kept_of, journal, AreAccepted, AreReplayed, after_records}
@@ -48,7 +48,7 @@ use Rattle.transactions.proofs.Replacing.{work_behind}
 use Rattle.transactions.proofs.Since.{IsCounted}
 use Rattle.transactions.proofs.UsedTables.{Seen}
 use Rattle.transactions.proofs.Frame.{made, lies, counted_reads}
-use Rattle.transactions.proofs.Places.{is_there, set_length}
+use Rattle.transactions.proofs.Positions.{is_there, set_length}
 use Rattle.transactions.proofs.Replay.{AreWork, AreThere}
 use Rattle.transactions.proofs.Serializing.{IsBase, IsLoggedFrom, IsSlot, AreLogged, asked_there, base_of, begun_logged, stepped_logged, committed_done, goes, zip_at}
 

@@ -40,14 +40,14 @@ use Rattle.ae_base.specs.declared.faults.SqlFault.{SqlFault}
 use Rattle.ae_base.specs.declared.faults.SqlFault.TheVariants as fault
 use Rattle.ae_base.specs.declared.tables.TableDef.{TableDef}
 use Rattle.sql_tree.specs.Bound.{BoundStatement}
-use Rattle.catalog.specs.Catalogs.{Catalog, table_place}
+use Rattle.catalog.specs.Catalogs.{Catalog, table_position}
 use Rattle.catalog.proofs.Interface.{All-remove, all_renamed}
 use Rattle.engine.specs.Step as step
 use Rattle.engine.specs.Step.{Answer}
 use Rattle.engine.specs.WellTyped.{IsWellTyped, IsTableOf, IsAnswerOf}
 use Rattle.engine.specs.Worlds.{World, HoldsRows, rows_of}
 use Rattle.engine.proofs.Interface.{related_there, step_kept}
-use Rattle.sql_tree.specs.Sorts.{is_definition, is_defining, tables_of, target}
+use Rattle.sql_tree.specs.Kinds.{is_definition, is_defining, tables_of, target}
 use Rattle.transactions.specs.Counted.{Counted, CountedOutcome, Execution, changed_by, count_of, counts_behind, is_at_last_count, counted, counted_step, raised_at, alone}
 use Rattle.transactions.specs.Serial.{Deed}
 use Rattle.transactions.specs.Stores.{
@@ -81,7 +81,7 @@ use Rattle.transactions.specs.WellKept.{IsCountedWell, IsShared, IsOverShared, I
 use Rattle.transactions.proofs.Between.{between_deeds, between_refl, raised_counted, raised_world}
 use Rattle.transactions.proofs.Frame.{counted_reads}
 use Rattle.transactions.proofs.Over.{found_there, merged_long}
-use Rattle.transactions.proofs.Places.{is_there}
+use Rattle.transactions.proofs.Positions.{is_there}
 use Rattle.transactions.proofs.Replacing.{IsReplacing, IsReplaced, at_last, step_cases}
 use Rattle.transactions.proofs.Replay.{AreWork}
 use Rattle.transactions.proofs.Since.{Since, alone_kept}
@@ -247,7 +247,7 @@ module _ (cell : List ℕ → Bool) where
       replaced r (inl is) = stays o.after (ap (λ (x : CountedOutcome). x.after.world.catalog) is)
       replaced r (inr done) =
           let is = done.step in
-          let place = unwrap_or (table_place t.own.world.catalog r.old) 0 in
+          let position = unwrap_or (table_position t.own.world.catalog r.old) 0 in
           let x = k.later in
           let named : is_used used r.old ≡ true =
           All-head (λ name. is_used used name ≡ true) r.old (r.new ∷ [])
@@ -260,8 +260,8 @@ module _ (cell : List ℕ → Bool) where
                   masters = g.masters;
                   keys = g.keys;
                   next_id = g.next_id;
-                  tables = all_renamed (IsShared store.shared.world.catalog used) r.new r.old (remove t.own.world.catalog.tables place) (λ def p u. absurd cc)
-                      (All-remove (IsShared store.shared.world.catalog used) t.own.world.catalog.tables place (more store.shared.world.catalog g));
+                  tables = all_renamed (IsShared store.shared.world.catalog used) r.new r.old (remove t.own.world.catalog.tables position) (λ def p u. absurd cc)
+                      (All-remove (IsShared store.shared.world.catalog used) t.own.world.catalog.tables position (more store.shared.world.catalog g));
                   same = λ w. absurd (omega arith);
                 },
           )

@@ -13,7 +13,7 @@ mod Moved
 mod Noting
 mod Over
 mod Padding
-mod Places
+mod Positions
 mod Renaming
 mod Replacing
 mod Replay

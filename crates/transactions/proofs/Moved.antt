@@ -1,4 +1,4 @@
--- The tables behind REPLACE BY: where they lie, and how often each was changed.
+-- The tables after REPLACE BY: where they lie, and how often each was changed.
 use Rattle.std.proofs.Common.{◌≡◌, ◌≢◌, ℕ, zero, suc, List, [], ◌∷◌, refl, ap, sym, subst, ◌∙◌, Some, unwrap_or, true, false}
 use Rattle.std.specs.Prelude.{IsSome, if◌then◌else◌}
 use Rattle.std.specs.List.{remove, slice_get}
@@ -17,7 +17,7 @@ use Rattle.transactions.proofs.Over.{IsPlacedAt, placed_at, lies_there, found_th
 use Rattle.transactions.proofs.Replacing.{replacement}
 use Rattle.transactions.proofs.Taking.{names_apart}
 
--- where a place is once another one is taken out
+-- where a position is once another one is taken out
 abbrev shifted : ℕ → ℕ → ℕ
 shifted zero zero = zero
 shifted zero (suc p) = p
@@ -50,19 +50,19 @@ module _ (c : Counted) (old new : List ℕ) (w : IsCatalog c.world.catalog) (old
 
   moved : (name target : List ℕ) (p : IsPlacedAt k name) → IsSome (table_named k name) → name ≢ old → (renamed_table new old p.def).name ≡ target → IsMovedTo c after name target
   moved name target p there other named =
-      let place = lies k old in
+      let position = lies k old in
       let o = placed_at k old old_there in
       let def = renamed_table new old p.def in
-      let q = shifted place (lies k name) in
-      let far : lies k name ≢ place = names_apart k old name old_there there (λ e. other (sym e)) in
+      let q = shifted position (lies k name) in
+      let far : lies k name ≢ position = names_apart k old name old_there there (λ e. other (sym e)) in
       let is : slice_get after.world.catalog.tables q ≡ Some def =
-      renamed_at new old (remove k.tables place) q p.def
-      (all_pairs_remove (λ a b. a.name ≢ b.name) k.tables place (slice_get_within k.tables place o.def o.is) w.tables_differ) (shifted_is k.tables place (lies k name) far ∙ p.is) in
+      renamed_at new old (remove k.tables position) q p.def
+      (all_pairs_remove (λ a b. a.name ≢ b.name) k.tables position (slice_get_within k.tables position o.def o.is) w.tables_differ) (shifted_is k.tables position (lies k name) far ∙ p.is) in
       let at : lies after.world.catalog target ≡ q = ap (lies after.world.catalog) (sym named) ∙ lies_there after.world.catalog q def kept.tables_differ is in
       let found : table_named after.world.catalog target ≡ Some def = ap (table_named after.world.catalog) (sym named) ∙ found_there after.world.catalog.tables q def kept.tables_differ is in
       record {
         there = subst IsSome (sym found) refl;
-        count = ap (λ m. unwrap_or (slice_get after.counts m) 0) at ∙ ap (λ o. unwrap_or o 0) (shifted_is c.counts place (lies k name) far);
+        count = ap (λ m. unwrap_or (slice_get after.counts m) 0) at ∙ ap (λ o. unwrap_or o 0) (shifted_is c.counts position (lies k name) far);
       }
 
   -- the new one has the old one's name

@@ -64,25 +64,25 @@ noted_more c (n ∷ names) used = by (is_used used n) (λ b. noted_more c names 
         let m = more false in
         record { more = u ∷ m.more; is = m.is ∙ append_assoc used (u ∷ []) m.more }
 
-take_front : {A : Type 0} (xs ys : List A) → take (length xs) (xs ++ ys) ≡ xs
-take_front [] [] = refl
-take_front [] (y ∷ ys) = refl
-take_front (x ∷ xs) ys = ap (λ zs. x ∷ zs) (take_front xs ys)
+take_prefix : {A : Type 0} (xs ys : List A) → take (length xs) (xs ++ ys) ≡ xs
+take_prefix [] [] = refl
+take_prefix [] (y ∷ ys) = refl
+take_prefix (x ∷ xs) ys = ap (λ zs. x ∷ zs) (take_prefix xs ys)
 
-pub noted_front : (c : Counted) (names : List (List ℕ)) (used : List Used) → take (length used) (with_uses c used names) ≡ used
-noted_front c names used = let m = noted_more c names used in ap (take (length used)) m.is ∙ take_front used m.more
+pub noted_prefix : (c : Counted) (names : List (List ℕ)) (used : List Used) → take (length used) (with_uses c used names) ≡ used
+noted_prefix c names used = let m = noted_more c names used in ap (take (length used)) m.is ∙ take_prefix used m.more
 
-pub front_trans : {A : Type 0} (xs ys zs : List A) → take (length xs) ys ≡ xs → take (length ys) zs ≡ ys → take (length xs) zs ≡ xs
-front_trans [] ys [] e f = refl
-front_trans [] ys (z ∷ zs) e f = refl
-front_trans (x ∷ xs) [] zs e f = absurd cc
-front_trans (x ∷ xs) (y ∷ ys) [] e f = absurd cc
-front_trans (x ∷ xs) (y ∷ ys) (z ∷ zs) e f =
+pub prefix_trans : {A : Type 0} (xs ys zs : List A) → take (length xs) ys ≡ xs → take (length ys) zs ≡ ys → take (length xs) zs ≡ xs
+prefix_trans [] ys [] e f = refl
+prefix_trans [] ys (z ∷ zs) e f = refl
+prefix_trans (x ∷ xs) [] zs e f = absurd cc
+prefix_trans (x ∷ xs) (y ∷ ys) [] e f = absurd cc
+prefix_trans (x ∷ xs) (y ∷ ys) (z ∷ zs) e f =
     let one : y ≡ x = cc in
     let two : z ≡ y = cc in
     let left : take (length xs) ys ≡ xs = cc in
     let right : take (length ys) zs ≡ ys = cc in
-    let rest = front_trans xs ys zs left right in
+    let rest = prefix_trans xs ys zs left right in
     cc
 
 -- ---- changes
@@ -104,7 +104,7 @@ joined_known changed name h = sym (ap (λ b. if b then changed else changed ++ n
 pub joined_new : (changed : List (List ℕ)) (name : List ℕ) → list_any (λ n. bytes_eq n name) changed ≡ false → changed ++ name ∷ [] ≡ with_changed changed (Some name)
 joined_new changed name h = sym (ap (λ b. if b then changed else changed ++ name ∷ []) h)
 
--- ---- names behind REPLACE BY
+-- ---- names after REPLACE BY
 
 pub renamed_all : (P Q : List ℕ → Type 0) (old new : List ℕ) (names : List (List ℕ))
     → ((n : List ℕ) → n ≢ old → P n → Q (renamed_name new old n)) → All P names → All Q (renamed_names (Some (old, new)) names)

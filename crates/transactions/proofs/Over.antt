@@ -47,8 +47,8 @@ use Rattle.ae_base.specs.declared.types.Enc.{Enc}
 use Rattle.sql_tree.specs.Bound.{BoundStatement, Bound}
 use Rattle.sql_tree.specs.Bound as bound
 use Rattle.sql_tree.specs.declared.bound.BoundDefinition.TheVariants as definition
-use Rattle.sql_tree.specs.Sorts.{is_definition, is_defining, tables_of}
-use Rattle.catalog.specs.Catalogs.{Catalog, table_named, table_place, is_at_last_version, renamed_tables}
+use Rattle.sql_tree.specs.Kinds.{is_definition, is_defining, tables_of}
+use Rattle.catalog.specs.Catalogs.{Catalog, table_named, table_position, is_at_last_version, renamed_tables}
 use Rattle.engine.specs.Step as step
 use Rattle.engine.specs.Step.{Answer, outcome, done_by}
 use Rattle.engine.specs.Worlds.{rows_of}
@@ -57,7 +57,7 @@ use Rattle.transactions.specs.Stores.{merged, over}
 use Rattle.transactions.specs.Frames.{put}
 use Rattle.transactions.specs.Over.{IsUsedHere, IsDoneOver}
 use Rattle.transactions.proofs.Frame.{made, lies, counted_reads}
-use Rattle.engine.proofs.Interface.{table_place_there}
+use Rattle.engine.proofs.Interface.{table_position_there}
 
 -- ---- the table of a name, and its place
 
@@ -77,20 +77,20 @@ pub record IsPlacedAt (catalog : Catalog) (name : List ℕ) : Type 0 where
 pub placed_at : (catalog : Catalog) (name : List ℕ) → IsSome (table_named catalog name) → IsPlacedAt catalog name
 placed_at catalog name h = by (table_named catalog name) refl h
   where
-    at_place : lies catalog name ≡ position_or_len (λ (t : TableDef). bytes_eq t.name name) catalog.tables
-    at_place = ap (λ o. unwrap_or o 0) (table_place_there catalog name h)
+    at_position : lies catalog name ≡ position_or_len (λ (t : TableDef). bytes_eq t.name name) catalog.tables
+    at_position = ap (λ o. unwrap_or o 0) (table_position_there catalog name h)
 
     by : (o : Option TableDef) → table_named catalog name ≡ o → IsSome o → IsPlacedAt catalog name
     by None e s = cc
     by (Some def) e s = record {
       def = def;
-      is = ap (slice_get catalog.tables) at_place ∙ sym (find_at (λ (t : TableDef). bytes_eq t.name name) catalog.tables) ∙ e;
+      is = ap (slice_get catalog.tables) at_position ∙ sym (find_at (λ (t : TableDef). bytes_eq t.name name) catalog.tables) ∙ e;
       name_is = (bytes_eq-Decides def.name name).0 (find_passes (λ (t : TableDef). bytes_eq t.name name) catalog.tables def e);
     }
 
 pub named_at : (catalog : Catalog) (name : List ℕ) (def : TableDef) → table_named catalog name ≡ Some def → slice_get catalog.tables (lies catalog name) ≡ Some def
 named_at catalog name def e =
-    ap (λ o. slice_get catalog.tables (unwrap_or o 0)) (table_place_there catalog name (subst IsSome (sym e) refl)) ∙ sym (find_at (λ (t : TableDef). bytes_eq t.name name) catalog.tables) ∙ e
+    ap (λ o. slice_get catalog.tables (unwrap_or o 0)) (table_position_there catalog name (subst IsSome (sym e) refl)) ∙ sym (find_at (λ (t : TableDef). bytes_eq t.name name) catalog.tables) ∙ e
 
 pub unlike : (a b : List ℕ) → a ≢ b → bytes_eq a b ≡ false
 unlike a b other = decide (bytes_eq a b) refl
@@ -115,7 +115,7 @@ found_there tables p def h e = find_at (λ (t : TableDef). bytes_eq t.name def.n
 
 pub lies_there : (catalog : Catalog) (p : ℕ) (def : TableDef) → AllPairs (λ a b. a.name ≢ b.name) catalog.tables → slice_get catalog.tables p ≡ Some def → lies catalog def.name ≡ p
 lies_there catalog p def h e =
-    ap (λ o. unwrap_or o 0) (table_place_there catalog def.name (subst IsSome (sym (found_there catalog.tables p def h e)) refl)) ∙ first_there catalog.tables p def h e
+    ap (λ o. unwrap_or o 0) (table_position_there catalog def.name (subst IsSome (sym (found_there catalog.tables p def h e)) refl)) ∙ first_there catalog.tables p def h e
 
 -- ---- merged lists
 
@@ -256,11 +256,11 @@ module _ (U : List ℕ → Bool) (shared : Counted) where
       s : BoundStatement
       s = bound.Definition (definition.ReplaceTable old new)
 
-      place : ℕ
-      place = unwrap_or (table_place catalog old) 0
+      position : ℕ
+      position = unwrap_or (table_position catalog old) 0
 
       after : Catalog
-      after = record catalog { tables = renamed_tables new old (remove catalog.tables place); version = catalog.version + 1 }
+      after = record catalog { tables = renamed_tables new old (remove catalog.tables position); version = catalog.version + 1 }
 
       left : Counted
       left = made catalog contents counts
@@ -272,20 +272,20 @@ module _ (U : List ℕ → Bool) (shared : Counted) where
       r b = if b then Err fault.Full else Ok after
 
       x : Bool → step.Outcome
-      x b = outcome left.world (r b >>= λ c. Ok (record { answer = step.Defined; world = record { catalog = c; contents = remove contents place } }))
+      x b = outcome left.world (r b >>= λ c. Ok (record { answer = step.Defined; world = record { catalog = c; contents = remove contents position } }))
 
       y : Bool → step.Outcome
-      y b = outcome right.world (r b >>= λ c. Ok (record { answer = step.Defined; world = record { catalog = c; contents = remove right.world.contents place } }))
+      y b = outcome right.world (r b >>= λ c. Ok (record { answer = step.Defined; world = record { catalog = c; contents = remove right.world.contents position } }))
 
-      gone : {A : Type 0} (theirs : List ℕ → A) (items : List A) → remove (merged U theirs catalog.tables items) place ≡ merged U theirs after.tables (remove items place)
-      gone theirs items = merged_remove U theirs catalog.tables items place ∙ sym (merged_renamed U theirs new old un uo (remove catalog.tables place) (remove items place))
+      gone : {A : Type 0} (theirs : List ℕ → A) (items : List A) → remove (merged U theirs catalog.tables items) position ≡ merged U theirs after.tables (remove items position)
+      gone theirs items = merged_remove U theirs catalog.tables items position ∙ sym (merged_renamed U theirs new old un uo (remove catalog.tables position) (remove items position))
 
       by : (b : Bool) → IsDoneOver (counted left s (x b).answer (x b).world) (counted right s (y b).answer (y b).world) U shared
       by true = record { answer = refl; after = refl }
       by false = record {
         answer = refl;
-        after = ap (λ xs. made after xs (remove right.counts place)) (gone (rows_of shared.world) contents) ∙
-            ap (made after (merged U (rows_of shared.world) after.tables (remove contents place))) (gone (count_of shared) counts);
+        after = ap (λ xs. made after xs (remove right.counts position)) (gone (rows_of shared.world) contents) ∙
+            ap (made after (merged U (rows_of shared.world) after.tables (remove contents position))) (gone (count_of shared) counts);
       }
 
   step_by_statement : (c : Counted) (b : Bound) (encs : List Enc) (params : List Atom) (s : BoundStatement) → b.statement ≡ s

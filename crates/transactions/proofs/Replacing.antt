@@ -10,9 +10,9 @@ use Rattle.ae_base.specs.declared.types.Enc.{Enc}
 use Rattle.sql_tree.specs.Bound.{BoundStatement, Bound}
 use Rattle.sql_tree.specs.Bound as bound
 use Rattle.sql_tree.specs.declared.bound.BoundDefinition.TheVariants as definition
-use Rattle.sql_tree.specs.Sorts.{is_definition, is_defining}
+use Rattle.sql_tree.specs.Kinds.{is_definition, is_defining}
 use Rattle.catalog.specs.Definitions.{defined_by}
-use Rattle.catalog.specs.Catalogs.{Catalog, table_place, is_at_last_version, renamed_tables}
+use Rattle.catalog.specs.Catalogs.{Catalog, table_position, is_at_last_version, renamed_tables}
 use Rattle.engine.specs.Step as step
 use Rattle.engine.specs.Step.{Answer, outcome, done_by}
 use Rattle.transactions.specs.Counted.{Counted, CountedOutcome, Execution, changed_by, replaced_by, counted, counted_step}
@@ -21,9 +21,9 @@ use Rattle.transactions.proofs.Frame.{made}
 
 abbrev pub replacement : Counted → (old new : List ℕ) → Counted
 replacement c old new =
-    let place = unwrap_or (table_place c.world.catalog old) 0 in
-    made (record c.world.catalog { tables = renamed_tables new old (remove c.world.catalog.tables place); version = c.world.catalog.version + 1 })
-    (remove c.world.contents place) (remove c.counts place)
+    let position = unwrap_or (table_position c.world.catalog old) 0 in
+    made (record c.world.catalog { tables = renamed_tables new old (remove c.world.catalog.tables position); version = c.world.catalog.version + 1 })
+    (remove c.world.contents position) (remove c.counts position)
 
 abbrev pub at_last : Counted → CountedOutcome
 at_last c = record { answer = Err fault.Full; after = c }
@@ -46,17 +46,17 @@ replace_done : (c : Counted) (b : Bound) (encs : List Enc) (params : List Atom) 
     → let e : Execution = record { bound = b; encs = encs; params = params } in (counted_step c e ≡ at_last c) ⊎ IsReplaced c e old new
 replace_done c b encs params old new s is so = by (is_at_last_version c.world.catalog) refl
   where
-    place : ℕ
-    place = unwrap_or (table_place c.world.catalog old) 0
+    position : ℕ
+    position = unwrap_or (table_position c.world.catalog old) 0
 
     d : BoundStatement
     d = bound.Definition (definition.ReplaceTable old new)
 
     after : Catalog
-    after = record c.world.catalog { tables = renamed_tables new old (remove c.world.catalog.tables place); version = c.world.catalog.version + 1 }
+    after = record c.world.catalog { tables = renamed_tables new old (remove c.world.catalog.tables position); version = c.world.catalog.version + 1 }
 
     x : Bool → step.Outcome
-    x t = outcome c.world ((if t then Err fault.Full else Ok after) >>= λ k. Ok (record { answer = step.Defined; world = record { catalog = k; contents = remove c.world.contents place } }))
+    x t = outcome c.world ((if t then Err fault.Full else Ok after) >>= λ k. Ok (record { answer = step.Defined; world = record { catalog = k; contents = remove c.world.contents position } }))
 
     whole : counted_step c (record { bound = b; encs = encs; params = params }) ≡ counted c d (x (is_at_last_version c.world.catalog)).answer (x (is_at_last_version c.world.catalog)).world
     whole = ap (λ (z : BoundStatement). let y = outcome c.world (done_by c.world b encs z params) in counted c z y.answer y.world) (is ∙ so)

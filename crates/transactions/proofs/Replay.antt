@@ -5,38 +5,38 @@ use Rattle.std.specs.List.{All, slice_get}
 use Rattle.std.proofs.lemmas.List.Elements.{All-head, All-tail}
 use Rattle.ae_base.specs.Atoms.{Atom}
 use Rattle.catalog.specs.Catalogs.{Catalog, table_named}
-use Rattle.sql_tree.specs.Sorts.{is_definition, tables_of}
+use Rattle.sql_tree.specs.Kinds.{is_definition, tables_of}
 use Rattle.transactions.specs.Counted.{Counted, counted_step, raised_all}
 use Rattle.transactions.specs.Stores.{with_changed, over}
 use Rattle.transactions.specs.Serial.{Deed, after_deeds, AreAnswered}
 use Rattle.transactions.specs.Frames.{put}
 use Rattle.transactions.proofs.Frame.{made, lies}
 use Rattle.transactions.proofs.Over.{step_over}
-use Rattle.transactions.proofs.Places.{covers, joined_there, joined_elsewhere, not_there, is_there, set_other, set_same, set_from, set_length, same_places}
+use Rattle.transactions.proofs.Positions.{covers, joined_there, joined_elsewhere, not_there, is_there, set_other, set_same, set_from, set_length, same_positions}
 use Rattle.transactions.proofs.Since.{at, with_tables}
 
 abbrev pub Contents : Type 0
 Contents = List (List (List Atom))
 
-pub put_length : (place : List ℕ → ℕ) (name : Option (List ℕ)) (rows : List (List Atom)) (xs : Contents) → length (put place name rows xs) ≡ length xs
-put_length place None rows xs = refl
-put_length place (Some name) rows xs = set_length xs (place name) rows
+pub put_length : (position : List ℕ → ℕ) (name : Option (List ℕ)) (rows : List (List Atom)) (xs : Contents) → length (put position name rows xs) ≡ length xs
+put_length position None rows xs = refl
+put_length position (Some name) rows xs = set_length xs (position name) rows
 
-pub put_mixed : (place : List ℕ → ℕ) (changed : List (List ℕ)) (name : Option (List ℕ)) (rows : List (List Atom)) (start xs ys : Contents) (p : ℕ) → length ys ≡ length xs
-    → slice_get ys p ≡ (if covers place changed p then slice_get xs p else slice_get start p)
-    → slice_get (put place name rows ys) p ≡ (if covers place (with_changed changed name) p then slice_get (put place name rows xs) p else slice_get start p)
-put_mixed place changed None rows start xs ys p n e = e
-put_mixed place changed (Some name) rows start xs ys p n e = by (place name == p) refl
+pub put_mixed : (position : List ℕ → ℕ) (changed : List (List ℕ)) (name : Option (List ℕ)) (rows : List (List Atom)) (start xs ys : Contents) (p : ℕ) → length ys ≡ length xs
+    → slice_get ys p ≡ (if covers position changed p then slice_get xs p else slice_get start p)
+    → slice_get (put position name rows ys) p ≡ (if covers position (with_changed changed name) p then slice_get (put position name rows xs) p else slice_get start p)
+put_mixed position changed None rows start xs ys p n e = e
+put_mixed position changed (Some name) rows start xs ys p n e = by (position name == p) refl
   where
-    by : (b : Bool) → (place name == p) ≡ b
-        → slice_get (slice_set ys (place name) rows) p ≡ (if covers place (with_changed changed (Some name)) p then slice_get (slice_set xs (place name) rows) p else slice_get start p)
+    by : (b : Bool) → (position name == p) ≡ b
+        → slice_get (slice_set ys (position name) rows) p ≡ (if covers position (with_changed changed (Some name)) p then slice_get (slice_set xs (position name) rows) p else slice_get start p)
     by true t =
-        subst (λ k. slice_get (slice_set ys (place name) rows) k ≡ slice_get (slice_set xs (place name) rows) k) (is_there (place name) p t) (set_same ys xs (place name) rows n)
-        ∙ ap (λ b. if b then slice_get (slice_set xs (place name) rows) p else slice_get start p) (sym (joined_there place changed name p t))
+        subst (λ k. slice_get (slice_set ys (position name) rows) k ≡ slice_get (slice_set xs (position name) rows) k) (is_there (position name) p t) (set_same ys xs (position name) rows n)
+        ∙ ap (λ b. if b then slice_get (slice_set xs (position name) rows) p else slice_get start p) (sym (joined_there position changed name p t))
     by false t =
-        set_other ys (place name) p rows (not_there (place name) p t) ∙ e
-        ∙ ap (λ x. if covers place changed p then x else slice_get start p) (sym (set_other xs (place name) p rows (not_there (place name) p t)))
-        ∙ ap (λ b. if b then slice_get (slice_set xs (place name) rows) p else slice_get start p) (sym (joined_elsewhere place changed name p t))
+        set_other ys (position name) p rows (not_there (position name) p t) ∙ e
+        ∙ ap (λ x. if covers position changed p then x else slice_get start p) (sym (set_other xs (position name) p rows (not_there (position name) p t)))
+        ∙ ap (λ b. if b then slice_get (slice_set xs (position name) rows) p else slice_get start p) (sym (joined_elsewhere position changed name p t))
 
 abbrev pub AreWork : List Deed → Type 0
 AreWork deeds = All (λ (d : Deed). is_definition d.execution.bound.statement ≡ false) deeds
@@ -81,23 +81,23 @@ or_true : (b : Bool) → (b || true) ≡ true
 or_true true = refl
 or_true false = refl
 
-placed_one : (place : List ℕ → ℕ) (name : List ℕ) (names : List (List ℕ)) (start own again : Contents) (p : ℕ) → length own ≡ length start
-    → slice_get again p ≡ (if covers place (name ∷ names) p then slice_get own p else slice_get start p)
-    → slice_get again p ≡ (if covers place names p then slice_get own p else slice_get (slice_set start (place name) (unwrap_or (slice_get own (place name)) [])) p)
-placed_one place name names start own again p n e = by (place name == p) refl (covers place names p) e
+placed_one : (position : List ℕ → ℕ) (name : List ℕ) (names : List (List ℕ)) (start own again : Contents) (p : ℕ) → length own ≡ length start
+    → slice_get again p ≡ (if covers position (name ∷ names) p then slice_get own p else slice_get start p)
+    → slice_get again p ≡ (if covers position names p then slice_get own p else slice_get (slice_set start (position name) (unwrap_or (slice_get own (position name)) [])) p)
+placed_one position name names start own again p n e = by (position name == p) refl (covers position names p) e
   where
-    by : (b : Bool) → (place name == p) ≡ b → (c : Bool) → slice_get again p ≡ (if b || c then slice_get own p else slice_get start p)
-        → slice_get again p ≡ (if c then slice_get own p else slice_get (slice_set start (place name) (unwrap_or (slice_get own (place name)) [])) p)
+    by : (b : Bool) → (position name == p) ≡ b → (c : Bool) → slice_get again p ≡ (if b || c then slice_get own p else slice_get start p)
+        → slice_get again p ≡ (if c then slice_get own p else slice_get (slice_set start (position name) (unwrap_or (slice_get own (position name)) [])) p)
     by true t true h = h
-    by true t false h = h ∙ subst (λ k. slice_get own k ≡ slice_get (slice_set start (place name) (unwrap_or (slice_get own (place name)) [])) k)
-        (is_there (place name) p t) (sym (set_from start own (place name) [] (sym n)))
+    by true t false h = h ∙ subst (λ k. slice_get own k ≡ slice_get (slice_set start (position name) (unwrap_or (slice_get own (position name)) [])) k)
+        (is_there (position name) p t) (sym (set_from start own (position name) [] (sym n)))
     by false t true h = h
-    by false t false h = h ∙ sym (set_other start (place name) p (unwrap_or (slice_get own (place name)) []) (not_there (place name) p t))
+    by false t false h = h ∙ sym (set_other start (position name) p (unwrap_or (slice_get own (position name)) []) (not_there (position name) p t))
 
 pub placed_is : (catalog : Catalog) (own again : Contents) (counts : List ℕ) (names : List (List ℕ)) (start : Contents) (more : List ℕ) → length own ≡ length start
     → ((p : ℕ) → slice_get again p ≡ (if covers (lies catalog) names p then slice_get own p else slice_get start p))
     → with_tables (made catalog start more) (made catalog own counts) names ≡ raised_all (made catalog again more) names
-placed_is catalog own again counts [] start more n h = ap (λ xs. made catalog xs more) (sym (same_places again start h))
+placed_is catalog own again counts [] start more n h = ap (λ xs. made catalog xs more) (sym (same_positions again start h))
 placed_is catalog own again counts (name ∷ names) start more n h =
     let k = lies catalog name in
     let rows = unwrap_or (slice_get own k) [] in

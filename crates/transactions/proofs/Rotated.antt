@@ -53,7 +53,7 @@ use Rattle.sql_tree.specs.Bound.{BoundStatement, Bound, BoundInsert}
 use Rattle.sql_tree.specs.Bound as bound
 use Rattle.sql_tree.specs.Operands as operands
 use Rattle.sql_tree.specs.OnTables.{columns_in, columns_among}
-use Rattle.sql_tree.specs.Sorts.{is_definition, is_defining, tables_of}
+use Rattle.sql_tree.specs.Kinds.{is_definition, is_defining, tables_of}
 use Rattle.sql_tree.specs.declared.bound.BoundDefinition.{BoundDefinition}
 use Rattle.sql_tree.specs.declared.bound.BoundDefinition.TheVariants as definition
 use Rattle.catalog.specs.Catalogs.{Catalog, table_named, renamed_table, with_replacement}
@@ -77,7 +77,7 @@ use Rattle.transactions.specs.Serial.{Deed, after_deeds, changed_in, after_unit,
 use Rattle.transactions.proofs.Between.{raised_world}
 use Rattle.transactions.proofs.Frame.{made, lies}
 use Rattle.transactions.proofs.Over.{IsPlacedAt, placed_at, lies_there, found_there, unlike}
-use Rattle.transactions.proofs.Places.{set_other, set_length}
+use Rattle.transactions.proofs.Positions.{set_other, set_length}
 use Rattle.transactions.proofs.Replacing.{IsReplacing, IsReplaced, at_last, replacement, step_cases}
 use Rattle.transactions.proofs.Replay.{AreThere}
 use Rattle.transactions.proofs.Rotating.{row_is, select_left}
@@ -103,7 +103,7 @@ untwinned (Some n) x y e = absurd cc
 
 put_left : (c : Counted) (b : Bound) (encs : List Enc) (params : List Atom) (s : BoundStatement) (table : List ℕ)
     (named : List ℕ) (values : List (operands.Operand ℕ ℕ)) (at : ℕ) (answer : Answer) → b.statement ≡ s
-    → s ≡ bound.Insert (record { table = table; named = named; rows = record { at = at; values = values } ∷ [] })
+    → s ≡ bound.Insert (record { table = table; columns = named; rows = record { at = at; values = values } ∷ [] })
     → length named ≡ length params → length (columns_among c.world.catalog.tables table) ≡ length params → ArePut 0 named values
     → (counted_step c (record { bound = b; encs = encs; params = params })).answer ≡ Ok answer
     → (counted_step c (record { bound = b; encs = encs; params = params })).after ≡ made c.world.catalog
@@ -112,7 +112,7 @@ put_left c b encs params s table named values at answer is so n m h ok =
     ap (λ (o : CountedOutcome). o.after) whole ∙ by (rows_to_insert c.world i params) refl (ap (λ (o : CountedOutcome). o.answer) (sym whole) ∙ ok)
   where
     i : BoundInsert
-    i = record { table = table; named = named; rows = record { at = at; values = values } ∷ [] }
+    i = record { table = table; columns = named; rows = record { at = at; values = values } ∷ [] }
 
     wanted : Counted
     wanted = made c.world.catalog (slice_set c.world.contents (lies c.world.catalog table) (rows_of c.world table ++ params ∷ [])) c.counts
@@ -199,7 +199,7 @@ module _ (before : Counted) (new : List ℕ) (width : ℕ) (there : IsSome (tabl
             ∙ ap (λ c. unwrap_or (slice_get xs (lies c name)) []) (sym h.catalog) ∙ h.others name here apart;
       })
 
-  -- what is put, and what comes behind it
+  -- what is put, and what comes after it
   pub record ArePutSo (now : Counted) (rows : List (List Atom)) (puts more : List Deed) : Type 0 where
     pub so_far : IsSoFar before (after_deeds now puts) new (rows ++ sent_by puts)
     pub answered : AreAnswered (after_deeds now puts) more
@@ -268,19 +268,19 @@ module _ (c : Counted) (old new : List ℕ) (w : IsCatalog c.world.catalog) (old
   moved : (name target : List ℕ) (p : IsPlacedAt k name) → IsSome (table_named k name) → name ≢ old
       → (renamed_table new old p.def).name ≡ target → (renamed_table new old p.def).columns ≡ p.def.columns → IsMoved name target
   moved name target p there other named same =
-      let place = lies k old in
+      let ordinal = lies k old in
       let o = placed_at k old old_there in
-      let old_within = slice_get_within k.tables place o.def o.is in
-      let q = shifted place (lies k name) in
+      let old_within = slice_get_within k.tables ordinal o.def o.is in
+      let q = shifted ordinal (lies k name) in
       let far = lie_apart k name old there old_there other in
       let is : slice_get after.world.catalog.tables q ≡ Some (renamed_table new old p.def) = renamed_at new old
-      (remove k.tables place) q p.def (all_pairs_remove (λ a b. a.name ≢ b.name) k.tables place old_within w.tables_differ) (shifted_is k.tables place (lies k name) far ∙ p.is) in
+      (remove k.tables ordinal) q p.def (all_pairs_remove (λ a b. a.name ≢ b.name) k.tables ordinal old_within w.tables_differ) (shifted_is k.tables ordinal (lies k name) far ∙ p.is) in
       let at : lies after.world.catalog target ≡ q = ap (lies after.world.catalog) (sym named) ∙ lies_there after.world.catalog q (renamed_table new old p.def) kept.tables_differ is in
       let found : table_named after.world.catalog target ≡ Some (renamed_table new old p.def) =
       ap (table_named after.world.catalog) (sym named) ∙ found_there after.world.catalog.tables q (renamed_table new old p.def) kept.tables_differ is in
       let before : table_named k name ≡ Some p.def = ap (table_named k) (sym p.name_is) ∙ found_there k.tables (lies k name) p.def w.tables_differ p.is in
       record {
-        rows = ap (λ m. unwrap_or (slice_get (remove c.world.contents place) m) []) at ∙ ap (λ o. unwrap_or o []) (shifted_is c.world.contents place (lies k name) far);
+        rows = ap (λ m. unwrap_or (slice_get (remove c.world.contents ordinal) m) []) at ∙ ap (λ o. unwrap_or o []) (shifted_is c.world.contents ordinal (lies k name) far);
         columns = ap columns_in found ∙ same ∙ sym (ap columns_in before);
       }
 

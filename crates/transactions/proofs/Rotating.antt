@@ -33,30 +33,30 @@ use Rattle.transactions.specs.Rotating.{AreColumns, ArePut, whole_query}
 
 -- ---- SELECT *
 
-atom_there : (front : List Atom) (a : Atom) (rest : List Atom) → atom_at (front ++ a ∷ rest) (length front) ≡ a
+atom_there : (prefix : List Atom) (a : Atom) (rest : List Atom) → atom_at (prefix ++ a ∷ rest) (length prefix) ≡ a
 atom_there [] a rest = refl
-atom_there (x ∷ front) a rest = atom_there front a rest
+atom_there (x ∷ prefix) a rest = atom_there prefix a rest
 
-one_more : (front : List Atom) (a : Atom) (rest : List Atom) → (front ++ a ∷ []) ++ rest ≡ front ++ a ∷ rest
+one_more : (prefix : List Atom) (a : Atom) (rest : List Atom) → (prefix ++ a ∷ []) ++ rest ≡ prefix ++ a ∷ rest
 one_more [] a rest = refl
-one_more (x ∷ front) a rest = ap (λ ys. x ∷ ys) (one_more front a rest)
+one_more (x ∷ prefix) a rest = ap (λ ys. x ∷ ys) (one_more prefix a rest)
 
-long_more : (front : List Atom) (a : Atom) → length (front ++ a ∷ []) ≡ length front + 1
+long_more : (prefix : List Atom) (a : Atom) → length (prefix ++ a ∷ []) ≡ length prefix + 1
 long_more [] a = refl
-long_more (x ∷ front) a = let h = long_more front a in omega arith
+long_more (x ∷ prefix) a = let h = long_more prefix a in omega arith
 
--- the columns of a row from a place on
-items_are : (params : List Atom) (items : List BoundItem) (front rest : List Atom) (k : ℕ) → k ≡ length front
-    → length rest ≡ length items → AreColumns k items → items_of params 0 (front ++ rest) items ≡ Ok rest
-items_are params [] front [] k e n h = refl
-items_are params [] front (a ∷ rest) k e n h = absurd (omega arith)
-items_are params (item ∷ items) front [] k e n h = absurd (omega arith)
-items_are params (item ∷ items) front (a ∷ rest) k e n h =
-    let more = items_are params items (front ++ a ∷ []) rest (k + 1) (ap (λ m. m + 1) e ∙ sym (long_more front a)) (omega arith) h.1 in
-    let whole : items_of params 0 (front ++ a ∷ rest) items ≡ Ok rest = ap (λ row. items_of params 0 row items) (sym (one_more front a rest)) ∙ more in
-    let here : atom_at (front ++ a ∷ rest) k ≡ a = ap (atom_at (front ++ a ∷ rest)) e ∙ atom_there front a rest in
-    ap (λ v. Rattle.query_results.specs.Results.item_of params 0 (front ++ a ∷ rest) v >>= λ atom. items_of params 0 (front ++ a ∷ rest) items >>= λ others. Ok (atom ∷ others)) h.0.1
-    ∙ ap (λ x. items_of params 0 (front ++ a ∷ rest) items >>= λ others. Ok (x ∷ others)) here
+-- the columns of a row from a position on
+items_are : (params : List Atom) (items : List BoundItem) (prefix rest : List Atom) (k : ℕ) → k ≡ length prefix
+    → length rest ≡ length items → AreColumns k items → items_of params 0 (prefix ++ rest) items ≡ Ok rest
+items_are params [] prefix [] k e n h = refl
+items_are params [] prefix (a ∷ rest) k e n h = absurd (omega arith)
+items_are params (item ∷ items) prefix [] k e n h = absurd (omega arith)
+items_are params (item ∷ items) prefix (a ∷ rest) k e n h =
+    let more = items_are params items (prefix ++ a ∷ []) rest (k + 1) (ap (λ m. m + 1) e ∙ sym (long_more prefix a)) (omega arith) h.1 in
+    let whole : items_of params 0 (prefix ++ a ∷ rest) items ≡ Ok rest = ap (λ row. items_of params 0 row items) (sym (one_more prefix a rest)) ∙ more in
+    let here : atom_at (prefix ++ a ∷ rest) k ≡ a = ap (atom_at (prefix ++ a ∷ rest)) e ∙ atom_there prefix a rest in
+    ap (λ v. Rattle.query_results.specs.Results.item_of params 0 (prefix ++ a ∷ rest) v >>= λ atom. items_of params 0 (prefix ++ a ∷ rest) items >>= λ others. Ok (atom ∷ others)) h.0.1
+    ∙ ap (λ x. items_of params 0 (prefix ++ a ∷ rest) items >>= λ others. Ok (x ∷ others)) here
     ∙ ap (λ r. r >>= λ others. Ok (a ∷ others)) whole
 
 not_counted : (items : List BoundItem) (k : ℕ) → AreColumns k items → list_any (λ (item : BoundItem). is_count item.value) items ≡ false
@@ -113,24 +113,24 @@ admitted_same column (Plain datum) kept e = by (is_within datum column.ty) e
     by false e = absurd cc
 admitted_same column (Sealed cell) kept e = cc
 
-values_are : (columns : List ColumnDef) (named : List ℕ) (values : List (operands.Operand ℕ ℕ)) (front rest : List Atom) (k : ℕ) (given : List (ℕ × Atom))
-    → k ≡ length front → length named ≡ length rest → ArePut k named values
-    → values_into columns [] (front ++ rest) named values ≡ Ok given → given ≡ pairs k rest
-values_are columns [] [] front [] k given e n h is = cc
-values_are columns [] [] front (a ∷ rest) k given e n h is = absurd (omega arith)
-values_are columns [] (v ∷ values) front rest k given e n h is = absurd h
-values_are columns (p ∷ named) [] front rest k given e n h is = absurd h
-values_are columns (p ∷ named) (v ∷ values) front [] k given e n h is = absurd (omega arith)
-values_are columns (p ∷ named) (v ∷ values) front (a ∷ rest) k given e n h is =
-    by (admitted (column_at columns k) a) refl (values_into columns [] (front ++ a ∷ rest) named values) refl (shape ∙ is)
-    (λ more g. values_are columns named values (front ++ a ∷ []) rest (k + 1) more (ap (λ m. m + 1) e ∙ sym (long_more front a)) (omega arith) h.2
-    (ap (λ params. values_into columns [] params named values) (one_more front a rest) ∙ g))
+values_are : (columns : List ColumnDef) (named : List ℕ) (values : List (operands.Operand ℕ ℕ)) (prefix rest : List Atom) (k : ℕ) (given : List (ℕ × Atom))
+    → k ≡ length prefix → length named ≡ length rest → ArePut k named values
+    → values_into columns [] (prefix ++ rest) named values ≡ Ok given → given ≡ pairs k rest
+values_are columns [] [] prefix [] k given e n h is = cc
+values_are columns [] [] prefix (a ∷ rest) k given e n h is = absurd (omega arith)
+values_are columns [] (v ∷ values) prefix rest k given e n h is = absurd h
+values_are columns (p ∷ named) [] prefix rest k given e n h is = absurd h
+values_are columns (p ∷ named) (v ∷ values) prefix [] k given e n h is = absurd (omega arith)
+values_are columns (p ∷ named) (v ∷ values) prefix (a ∷ rest) k given e n h is =
+    by (admitted (column_at columns k) a) refl (values_into columns [] (prefix ++ a ∷ rest) named values) refl (shape ∙ is)
+    (λ more g. values_are columns named values (prefix ++ a ∷ []) rest (k + 1) more (ap (λ m. m + 1) e ∙ sym (long_more prefix a)) (omega arith) h.2
+    (ap (λ params. values_into columns [] params named values) (one_more prefix a rest) ∙ g))
   where
     params : List Atom
-    params = front ++ a ∷ rest
+    params = prefix ++ a ∷ rest
 
     here : atom_at params k ≡ a
-    here = ap (atom_at params) e ∙ atom_there front a rest
+    here = ap (atom_at params) e ∙ atom_there prefix a rest
 
     shape : ((admitted (column_at columns k) a >>= λ kept. Ok (k, kept)) >>= λ given. values_into columns [] params named values >>= λ more. Ok (given ∷ more))
         ≡ values_into columns [] params (p ∷ named) (v ∷ values)
@@ -150,28 +150,28 @@ values_are columns (p ∷ named) (v ∷ values) front (a ∷ rest) k given e n h
         let whole : (k, kept) ∷ more ≡ given = cc in
         sym whole ∙ ap (λ x. (k, x) ∷ more) same ∙ ap (λ xs. (k, a) ∷ xs) tail
 
--- the value that was given for a place
-pair_there : (front : List Atom) (a : Atom) (rest : List Atom) (j k : ℕ) → k ≡ j + length front → value_at (pairs j (front ++ a ∷ rest)) k ≡ Some a
+-- the value that was given for a position
+pair_there : (prefix : List Atom) (a : Atom) (rest : List Atom) (j k : ℕ) → k ≡ j + length prefix → value_at (pairs j (prefix ++ a ∷ rest)) k ≡ Some a
 pair_there [] a rest j k e = ap
     (λ b. Rattle.std.specs.Option.option_map (λ (v : ℕ × Atom). v.1) (if b then Some (j, a) else find (λ (v : ℕ × Atom). v.0 == k) (pairs (j + 1) rest))) ((Decides-eqb j k).1 (omega arith))
-pair_there (x ∷ front) a rest j k e =
-    ap (λ b. Rattle.std.specs.Option.option_map (λ (v : ℕ × Atom). v.1) (if b then Some (j, x) else find (λ (v : ℕ × Atom). v.0 == k) (pairs (j + 1) (front ++ a ∷ rest)))) (other (j == k) refl)
-    ∙ pair_there front a rest (j + 1) k (omega arith)
+pair_there (x ∷ prefix) a rest j k e =
+    ap (λ b. Rattle.std.specs.Option.option_map (λ (v : ℕ × Atom). v.1) (if b then Some (j, x) else find (λ (v : ℕ × Atom). v.0 == k) (pairs (j + 1) (prefix ++ a ∷ rest)))) (other (j == k) refl)
+    ∙ pair_there prefix a rest (j + 1) k (omega arith)
   where
     other : (b : Bool) → (j == k) ≡ b → (j == k) ≡ false
     other true t = let same = (Decides-eqb j k).0 t in absurd (omega arith)
     other false t = t
 
-completed_are : (columns : List ColumnDef) (front rest : List Atom) (k : ℕ) → k ≡ length front → length columns ≡ length rest → completed k (pairs 0 (front ++ rest)) columns ≡ Ok rest
-completed_are [] front [] k e n = refl
-completed_are [] front (a ∷ rest) k e n = absurd (omega arith)
-completed_are (c ∷ columns) front [] k e n = absurd (omega arith)
-completed_are (c ∷ columns) front (a ∷ rest) k e n =
-    let given = pairs 0 (front ++ a ∷ rest) in
+completed_are : (columns : List ColumnDef) (prefix rest : List Atom) (k : ℕ) → k ≡ length prefix → length columns ≡ length rest → completed k (pairs 0 (prefix ++ rest)) columns ≡ Ok rest
+completed_are [] prefix [] k e n = refl
+completed_are [] prefix (a ∷ rest) k e n = absurd (omega arith)
+completed_are (c ∷ columns) prefix [] k e n = absurd (omega arith)
+completed_are (c ∷ columns) prefix (a ∷ rest) k e n =
+    let given = pairs 0 (prefix ++ a ∷ rest) in
     let later : completed (k + 1) given columns ≡ Ok rest =
-    ap (λ params. completed (k + 1) (pairs 0 params) columns) (sym (one_more front a rest)) ∙ completed_are
-    columns (front ++ a ∷ []) rest (k + 1) (ap (λ m. m + 1) e ∙ sym (long_more front a)) (omega arith) in
-    ap (λ o. Rattle.row_changes.specs.Rows.value_or_null c o >>= λ atom. completed (k + 1) given columns >>= λ more. Ok (atom ∷ more)) (pair_there front a rest 0 k (omega arith))
+    ap (λ params. completed (k + 1) (pairs 0 params) columns) (sym (one_more prefix a rest)) ∙ completed_are
+    columns (prefix ++ a ∷ []) rest (k + 1) (ap (λ m. m + 1) e ∙ sym (long_more prefix a)) (omega arith) in
+    ap (λ o. Rattle.row_changes.specs.Rows.value_or_null c o >>= λ atom. completed (k + 1) given columns >>= λ more. Ok (atom ∷ more)) (pair_there prefix a rest 0 k (omega arith))
     ∙ ap (λ r. r >>= λ more. Ok (a ∷ more)) later
 
 -- the new row is that of the parameters

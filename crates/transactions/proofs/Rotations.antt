@@ -6,7 +6,7 @@ use Rattle.ae_base.specs.declared.faults.SqlFault.{SqlFault}
 use Rattle.ae_base.specs.declared.faults.SqlFault.TheVariants as fault
 use Rattle.engine.specs.Step.{Defined}
 use Rattle.sql_tree.specs.OnTables.{columns_among}
-use Rattle.sql_tree.specs.Sorts.{is_definition}
+use Rattle.sql_tree.specs.Kinds.{is_definition}
 use Rattle.transactions.specs.Alone.{others_of, LeavesShared}
 use Rattle.transactions.specs.Counted.{Execution, counted_step}
 use Rattle.transactions.specs.Rotating.{HasRotated, IsRotated, IsQuiet, AreQuiet, logs_behind, sent_by}
@@ -34,7 +34,7 @@ use Rattle.transactions.specs.WellKept.{IsStore, AreAllowed, HasNoTransactions}
 use Rattle.transactions.proofs.Apart as apart
 use Rattle.transactions.proofs.Journaling.{nothing_logged}
 use Rattle.transactions.proofs.Keeping.{transact_keeps}
-use Rattle.transactions.proofs.Places.{is_there}
+use Rattle.transactions.proofs.Positions.{is_there}
 use Rattle.transactions.proofs.Rotated.{rotated}
 use Rattle.transactions.proofs.Serializing.{AreLogged, IsSlot, IsLogged, asked_there, base_of, committed_done, goes, zip_at}
 

@@ -12,7 +12,7 @@ use Rattle.catalog.specs.Definitions.{defined_by}
 use Rattle.scalar.specs.Classes.{Pairing}
 use Rattle.engine.specs.Step.{Answer, Defined}
 use Rattle.engine.specs.Worlds.{World}
-use Rattle.sql_tree.specs.Sorts.{is_definition, is_defining, tables_of, target}
+use Rattle.sql_tree.specs.Kinds.{is_definition, is_defining, tables_of, target}
 use Rattle.transactions.specs.Counted.{Counted, CountedOutcome, Execution, counts_behind, is_at_last_count, counted, step_of, counted_step}
 use Rattle.transactions.specs.Correspond.{CountedCorrespond, SessionsCorrespond, StoresCorrespond}
 use Rattle.transactions.specs.Stores.{
@@ -150,7 +150,7 @@ next_catalog c e d = by (step_cases c e d)
     by (inl w) = same_next c.world.catalog _ (work_catalog c e w)
     by (inr r) = replaced r r.done
 
--- the catalog behind a statement that was answered so
+-- the catalog after a statement that was answered so
 abbrev pub catalog_behind : Catalog → BoundStatement → Result Answer SqlFault → Catalog
 catalog_behind catalog (bound.Definition d) (Ok answer) = result_unwrap_or (defined_by catalog d) catalog
 catalog_behind catalog s answer = catalog

@@ -47,11 +47,11 @@ use Rattle.sql_tree.specs.OnTables.{IsStatementOn, sources_of}
 use Rattle.sql_tree.specs.declared.bound.BoundDefinition.TheVariants as definition
 use Rattle.sql_tree.specs.declared.bound.BoundSource.{BoundSource}
 use Rattle.sql_tree.specs.declared.bound.ColumnSite.{ColumnSite}
-use Rattle.catalog.specs.Catalogs.{Catalog, table_named, table_place, renamed_tables}
+use Rattle.catalog.specs.Catalogs.{Catalog, table_named, table_position, renamed_tables}
 use Rattle.catalog.specs.Definitions.{MayDefine}
 use Rattle.engine.specs.Step.{Answer, Defined}
 use Rattle.engine.specs.WellTyped.{IsTableOf}
-use Rattle.sql_tree.specs.Sorts.{is_definition, is_defining, tables_of}
+use Rattle.sql_tree.specs.Kinds.{is_definition, is_defining, tables_of}
 use Rattle.transactions.specs.Counted.{Counted, CountedOutcome, Execution, count_of, changed_by, replaced_by, counted_step, raised_at, raised_all, alone}
 use Rattle.transactions.specs.Stores.{
   Transaction,
@@ -107,7 +107,7 @@ use Rattle.transactions.proofs.Keeping.{transact_keeps}
 use Rattle.transactions.proofs.Over.{AreLevel, lies_there, over_level, placed_at}
 use Rattle.transactions.proofs.UsedTables.{Seen, noted_keeps, noted_all, noted_seen}
 use Rattle.transactions.proofs.Since.{at, IsCounted, Since, since_refl, since_trans, alone_kept}
-use Rattle.transactions.proofs.Places.{is_there}
+use Rattle.transactions.proofs.Positions.{is_there}
 use Rattle.transactions.proofs.Replacing.{IsReplacing, IsReplaced, at_last, step_cases}
 use Rattle.transactions.proofs.Replay.{AreWork, AreAbout, AreThere, replayed}
 
@@ -257,16 +257,16 @@ begun_logged shared h = record {
   there = tt;
   seen = All-nil (Seen shared);
   changed = refl;
-  fresh = zip_places (IsFresh shared []) shared.world.catalog.tables shared.counts (sym h.counts)
+  fresh = zip_positions (IsFresh shared []) shared.world.catalog.tables shared.counts (sym h.counts)
       (λ p def n is at e. ap (λ o. unwrap_or o 0) (sym at) ∙ ap (λ q. unwrap_or (slice_get shared.counts q) 0) (sym (lies_there shared.world.catalog p def h.differ is)));
 }
   where
-    zip_places : {A B : Type 0} (R : A → B → Type 0) (xs : List A) (ys : List B) → length xs ≡ length ys
+    zip_positions : {A B : Type 0} (R : A → B → Type 0) (xs : List A) (ys : List B) → length xs ≡ length ys
         → ((p : ℕ) (x : A) (y : B) → slice_get xs p ≡ Some x → slice_get ys p ≡ Some y → R x y) → AllZip R xs ys
-    zip_places R [] [] n r = tt
-    zip_places R [] (y ∷ ys) n r = absurd (omega arith)
-    zip_places R (x ∷ xs) [] n r = absurd (omega arith)
-    zip_places R (x ∷ xs) (y ∷ ys) n r = (r 0 x y refl refl, zip_places R xs ys (omega arith) (λ p a b e f. r (suc p) a b e f))
+    zip_positions R [] [] n r = tt
+    zip_positions R [] (y ∷ ys) n r = absurd (omega arith)
+    zip_positions R (x ∷ xs) [] n r = absurd (omega arith)
+    zip_positions R (x ∷ xs) (y ∷ ys) n r = (r 0 x y refl refl, zip_positions R xs ys (omega arith) (λ p a b e f. r (suc p) a b e f))
 
 -- ---- a statement in a transaction
 
@@ -359,13 +359,13 @@ stepped_logged base shared t log e d here h =
     replaced r (inl is) = subst (λ (o : CountedOutcome). AllZip (IsFresh base used) o.after.world.catalog.tables o.after.counts) (sym is) more
     replaced r (inr done) =
         let is = done.step in
-        let place = unwrap_or (table_place t.own.world.catalog r.old) 0 in
+        let position = unwrap_or (table_position t.own.world.catalog r.old) 0 in
         let named : is_used used r.old ≡ true =
         All-head (λ name. is_used used name ≡ true) r.old (r.new ∷ [])
         (subst (λ s. All (λ name. is_used used name ≡ true) (tables_of s)) r.is (noted_all t.own (tables_of e.bound.statement) t.used)) in
         subst (λ (o : CountedOutcome). AllZip (IsFresh base used) o.after.world.catalog.tables o.after.counts) (sym is)
-        (fresh_renamed base used r.new r.old named (remove t.own.world.catalog.tables place) (remove t.own.counts place)
-        (zip_gone (IsFresh base used) t.own.world.catalog.tables t.own.counts place more))
+        (fresh_renamed base used r.new r.old named (remove t.own.world.catalog.tables position) (remove t.own.counts position)
+        (zip_gone (IsFresh base used) t.own.world.catalog.tables t.own.counts position more))
 
     fresh_after : (is_defining e.bound.statement ≡ false) ⊎ IsReplacing t.own e → AllZip (IsFresh base used) (counted_step t.own e).after.world.catalog.tables (counted_step t.own e).after.counts
     fresh_after (inl w) =

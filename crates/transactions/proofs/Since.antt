@@ -19,12 +19,12 @@ use Rattle.catalog.specs.declared.effects.Effect.TheVariants.{Stays, Adds, Remov
 use Rattle.catalog.proofs.Interface.{defined_by-followed, tables_follow}
 use Rattle.engine.specs.Step as step
 use Rattle.engine.specs.Step.{Outcome, outcome, done_by}
-use Rattle.engine.specs.Worlds.{place_of, rows_of, with_rows}
-use Rattle.sql_tree.specs.Sorts.{is_defining, tables_of}
+use Rattle.engine.specs.Worlds.{table_position_of, rows_of, with_rows}
+use Rattle.sql_tree.specs.Kinds.{is_defining, tables_of}
 use Rattle.transactions.specs.Counted.{Counted, Execution, changed_by, counted, counted_step, raised, raised_at, alone}
 use Rattle.transactions.specs.Frames.{put}
 use Rattle.transactions.proofs.Frame.{made, lies, counted_reads}
-use Rattle.transactions.proofs.Places.{set_length, remove_length}
+use Rattle.transactions.proofs.Positions.{set_length, remove_length}
 
 abbrev pub at : List ℕ → ℕ → ℕ
 at counts p = unwrap_or (slice_get counts p) 0
@@ -96,7 +96,7 @@ given c name rows = raised (record c { world = with_rows c.world name rows }) na
 
 given_kept : (c : Counted) (name : List ℕ) (rows : List (List Atom)) → IsCounted c → Kept c (given c name rows)
 given_kept c name rows h =
-    let k = place_of c.world name in
+    let k = table_position_of c.world name in
     record {
       counted = record { long = set_length c.counts k (at c.counts k + 1) ∙ h.long ∙ sym (set_length c.world.contents k rows) };
       since = record {
@@ -173,7 +173,7 @@ module _ (c : Counted) (h : IsCounted c) where
   long_behind : {A B : Type 0} (a : A) (b : B) (e : Effect) (xs : List A) (ys : List B) → length xs ≡ length ys → length (followed a e xs) ≡ length (followed b e ys)
   long_behind a b Stays xs ys n = n
   long_behind a b Adds xs ys n = length-append xs (a ∷ []) ∙ ap (λ n. n + 1) n ∙ sym (length-append ys (b ∷ []))
-  long_behind a b (Removes place) xs ys n = remove_length xs ys place n
+  long_behind a b (Removes position) xs ys n = remove_length xs ys position n
 
   defined_kept : (d : BoundDefinition) (r : Result Catalog SqlFault) → defined_by c.world.catalog d ≡ r
       → Kept c (left_by (bound.Definition d) (outcome c.world (r >>= λ new. Ok (record { answer = step.Defined; world = (defined_as d new).world }))))

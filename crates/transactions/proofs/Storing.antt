@@ -8,7 +8,7 @@ use Rattle.ae_base.specs.declared.refusals.Refusal.TheVariants.{Fault, OutOfMemo
 use Rattle.engine.specs.Answers.{answer_of}
 use Rattle.engine.specs.declared.answers.Answer as code
 use Rattle.engine.specs.Step.{Defined}
-use Rattle.sql_tree.specs.Sorts.{is_definition}
+use Rattle.sql_tree.specs.Kinds.{is_definition}
 use Rattle.transactions.specs.Answers.{GivesCounted, StepsIn, StepsWhere, Transacts}
 use Rattle.transactions.specs.Counted.{Counted, CountedOutcome, Execution, counted_step, alone}
 use Rattle.transactions.specs.Forgotten.{forgotten_in, forgotten}

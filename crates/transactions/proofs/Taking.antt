@@ -39,14 +39,14 @@ use Rattle.sql_tree.specs.OnTables.{table_among}
 use Rattle.catalog.specs.Catalogs.{Catalog, table_named}
 use Rattle.engine.specs.Worlds.{rows_at, rows_of}
 use Rattle.transactions.specs.Counted.{Counted, count_of, is_at_last_count, raised, raised_all}
-use Rattle.transactions.specs.Effects.{count_at, given, place_unused, with_rows_at}
+use Rattle.transactions.specs.Effects.{count_at, given, position_unused, with_rows_at}
 use Rattle.transactions.specs.Noted.{AreApart, MayLieOver}
 use Rattle.transactions.specs.Stores.{is_used, merged}
 use Rattle.transactions.specs.WellKept.{IsShared}
 use Rattle.transactions.specs.declared.uses.Used.{Used}
 use Rattle.transactions.proofs.Frame.{lies}
 use Rattle.transactions.proofs.Over.{named_at, placed_at}
-use Rattle.transactions.proofs.Places.{set_length, set_other}
+use Rattle.transactions.proofs.Positions.{set_length, set_other}
 
 -- ---- tables of different names lie apart
 
@@ -67,7 +67,7 @@ apart_first catalog name names there apart =
     λ i d lt. names_apart catalog name (get_or names i d) (All-head (λ n. IsSome (table_named catalog n)) name names there)
     (All-tail (λ n. IsSome (table_named catalog n)) name names there i d lt) (apart i d lt)
 
--- what holds of each table holds of the one at a place
+-- what holds of each table holds of the one at a position
 pub table_at : (P : TableDef → Type 0) (tables : List TableDef) (i : ℕ) (def : TableDef) → All P tables → slice_get tables i ≡ Some def → P def
 table_at P tables i def h e = subst P (get_or_from_slice_get tables i def def e) (h i def (slice_get_within tables i def e))
 
@@ -146,7 +146,7 @@ pub record IsTaking (U : List ℕ → Bool) (start first shared own : Counted) (
   pub rows : so_far U i (rows_of shared.world) first.world.catalog.tables own.world.contents ≡ merged U (rows_of start.world) first.world.catalog.tables first.world.contents
   pub counts : so_far U i (count_of start) first.world.catalog.tables own.counts ≡ merged U (count_of start) first.world.catalog.tables first.counts
 
--- the table at a place that was not used is taken from its place in the shared world
+-- the table at a position that was not used is taken from its place in the shared world
 pub record IsFrom (U : List ℕ → Bool) (shared own : Counted) (i from : ℕ) : Type 0 where
   pub def : TableDef
   pub is : slice_get own.world.catalog.tables i ≡ Some def
@@ -170,7 +170,7 @@ module _ (start first : Counted) (used : List Used) (m : MayLieOver start first 
 
     -- ---- where it is taken from
 
-    pub from_there : (from : ℕ) → Some from ≡ place_unused U shared (slice_get own.world.catalog.tables i) → IsFrom U shared own i from
+    pub from_there : (from : ℕ) → Some from ≡ position_unused U shared (slice_get own.world.catalog.tables i) → IsFrom U shared own i from
     from_there from e = by there
       where
         same : (a b : ℕ) → Some a ≡ Some b → a ≡ b
@@ -184,7 +184,7 @@ module _ (start first : Counted) (used : List Used) (m : MayLieOver start first 
         by : IsThere own.world.catalog.tables i → IsFrom U shared own i from
         by t =
             let def = t.item in
-            let k = choose def (U def.name) refl (e ∙ ap (place_unused U shared) t.is) in
+            let k = choose def (U def.name) refl (e ∙ ap (position_unused U shared) t.is) in
             let first_is : slice_get tables i ≡ Some def = ap (λ (c : Catalog). slice_get c.tables i) (sym h.catalog) ∙ t.is in
             let named : table_named start.world.catalog def.name ≡ Some def = table_at (IsShared start.world.catalog used) tables i def m.tables first_is k.0 in
             record {
@@ -207,7 +207,7 @@ module _ (start first : Counted) (used : List Used) (m : MayLieOver start first 
 
     -- ---- one turn
 
-    pub not_taken : None ≡ place_unused U shared (slice_get own.world.catalog.tables i) → IsTaking U start first shared own (i + 1)
+    pub not_taken : None ≡ position_unused U shared (slice_get own.world.catalog.tables i) → IsTaking U start first shared own (i + 1)
     not_taken e = by there
       where
         used_there : (def : TableDef) (b : Bool) → U def.name ≡ b → None ≡ (if b then None else Some (lies shared.world.catalog def.name)) → U def.name ≡ true
@@ -217,7 +217,7 @@ module _ (start first : Counted) (used : List Used) (m : MayLieOver start first 
         by : IsThere own.world.catalog.tables i → IsTaking U start first shared own (i + 1)
         by t =
             let def = t.item in
-            let u = used_there def (U def.name) refl (e ∙ ap (place_unused U shared) t.is) in
+            let u = used_there def (U def.name) refl (e ∙ ap (position_unused U shared) t.is) in
             let first_is : slice_get tables i ≡ Some def = ap (λ (c : Catalog). slice_get c.tables i) (sym h.catalog) ∙ t.is in
             record {
               catalog = h.catalog;
@@ -301,12 +301,13 @@ module _ (start : Counted) (names : List (List ℕ)) (now : Counted) (i : ℕ) (
 
   pub raised_next : (after : Counted) → after ≡ raised now name → IsRaising start names rest after
   raised_next after a =
-      let places = apart_first now.world.catalog name rest raising.there raising.apart.0 in
+      let positions = apart_first now.world.catalog name rest raising.there raising.apart.0 in
       subst (λ (c : Counted). IsRaising start names rest c) (sym a) (record {
         whole = raising.whole;
         there = All-tail (λ n. IsSome (table_among now.world.catalog.tables n)) name rest raising.there;
         further = λ j d within.
-            ap (λ o. unwrap_or o 0 == 18446744073709551615) (set_other now.counts (lies now.world.catalog name) (lies now.world.catalog (get_or rest j d)) (count_of now name + 1) (places j d within))
+            ap (λ o. unwrap_or o 0 == 18446744073709551615) (set_other now.counts (lies now.world.catalog name) (lies now.world.catalog (get_or rest j d)) (count_of now name + 1)
+            (positions j d within))
             ∙ All-tail (λ n. is_at_last_count now (Some n) ≡ false) name rest raising.further j d within;
         apart = raising.apart.1;
       })

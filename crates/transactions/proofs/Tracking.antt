@@ -50,13 +50,13 @@ use Rattle.sql_tree.specs.declared.bound.ColumnSite.{ColumnSite}
 use Rattle.sql_tree.specs.Bound.{BoundStatement}
 use Rattle.sql_tree.specs.Bound as bound
 use Rattle.sql_tree.specs.OnTables.{table_among, IsStatementOn}
-use Rattle.sql_tree.specs.Sorts.{is_definition, is_defining, tables_of, target}
+use Rattle.sql_tree.specs.Kinds.{is_definition, is_defining, tables_of, target}
 use Rattle.catalog.specs.Catalogs.{Catalog, nothing_defined, renamed_tables, table_named}
 use Rattle.catalog.specs.Definitions.{IsDefinable, MayDefine}
 use Rattle.catalog.specs.WellFormed.{IsCatalog}
 use Rattle.catalog.proofs.Interface.{All-remove, all_renamed, defined_by-kept}
 use Rattle.engine.specs.Step.{Answer}
-use Rattle.engine.specs.Worlds.{World, place_of, rows_of}
+use Rattle.engine.specs.Worlds.{World, table_position_of, rows_of}
 use Rattle.transactions.specs.Counted.{Counted, CountedOutcome, Execution, count_of, changed_by, is_at_last_count, counted_step, nothing_counted, raised, raised_all, alone}
 use Rattle.transactions.specs.Noted.{AreApart, IsInShape, IsUnused, IsUnreplaced, IsChanged, IsNoted, IsNotedIn, IsHeld, MayLieOver}
 use Rattle.transactions.specs.Stores.{
@@ -101,7 +101,7 @@ use Rattle.transactions.proofs.Keeping.{all_at, all_set}
 use Rattle.transactions.proofs.Moved.{IsMovedTo, new_moved, other_moved}
 use Rattle.transactions.proofs.Noting.{differ, renamed_all, renamed_apart}
 use Rattle.transactions.proofs.Over.{placed_at, lies_there, found_there, merged_long, merged_own, same_item}
-use Rattle.transactions.proofs.Places.{is_there, remove_length, set_length}
+use Rattle.transactions.proofs.Positions.{is_there, remove_length, set_length}
 use Rattle.transactions.proofs.Replacing.{IsReplacing, IsReplaced, at_last, replacement, step_cases, work_behind, refused_behind}
 use Rattle.transactions.proofs.Serializing.{statement_there, unconflicted}
 use Rattle.transactions.proofs.Since.{Since, alone_kept, at, risen}
@@ -205,8 +205,8 @@ accepted_by s (Err f) name e = absurd cc
 
 count_same : (c after : Counted) → IsSame c after → (name : List ℕ) → count_of after name ≡ count_of c name
 count_same c after s name =
-    ap (λ ns. unwrap_or (slice_get ns (place_of after.world name)) 0) s.counts
-    ∙ ap (λ (k : Catalog). unwrap_or (slice_get c.counts (place_of (record { catalog = k; contents = [] }) name)) 0) s.catalog
+    ap (λ ns. unwrap_or (slice_get ns (table_position_of after.world name)) 0) s.counts
+    ∙ ap (λ (k : Catalog). unwrap_or (slice_get c.counts (table_position_of (record { catalog = k; contents = [] }) name)) 0) s.catalog
 
 -- a name more or less makes no difference
 renamed_long : (from to : List ℕ) (xs : List TableDef) → length (renamed_tables from to xs) ≡ length xs

@@ -1,4 +1,4 @@
--- States that correspond: equal but for protected atoms, which a pairing pairs class by class.
+-- States that correspond: equal up to protected atoms, which a pairing pairs class by class.
 use Rattle.std.specs.Prelude.{◌≡◌, Option, Some, None}
 use Rattle.std.specs.List.{AllZip}
 use Rattle.ae_base.specs.Atoms.{Atom}
@@ -13,7 +13,7 @@ pub record CountedCorrespond (R : Class → Atom → Atom → Type 0) (c other :
   pub worlds : WorldsCorrespond R c.world other.world
   pub counts : other.counts ≡ c.counts
 
--- equal but for their own worlds
+-- equal except for their own worlds
 pub record TransactionsCorrespond (R : Class → Atom → Atom → Type 0) (t other : Transaction) : Type 0 where
   pub own : CountedCorrespond R t.own other.own
   pub version : other.version ≡ t.version

@@ -19,7 +19,7 @@ forgotten_in used (Some t) = Some (record t { used = take used t.used })
 abbrev pub forgotten : Store → ℕ → ℕ → Store
 forgotten store session used = with_transaction store session (forgotten_in used (transaction_at store session))
 
--- the session has noted uses and done nothing else: without the uses behind the old ones the state is the old one
+-- the session has noted uses and done nothing else: without the uses after the old ones the state is the old one
 pub record HasNoted (old : Store) (session : ℕ) (new : Store) : Type 0 where
   pub undone : forgotten new session (used_by old session) ≡ old
   pub catalog : (world_of new session).world.catalog ≡ (world_of old session).world.catalog

@@ -41,10 +41,10 @@ abbrev pub TransactionsKeepStores : Type 0
 TransactionsKeepStores = (cell : List ℕ → Bool) (store : Store) (session : ℕ) (ask : Ask) → IsStore cell store → MayAsk cell (world_of store session).world ask
     → IsStore cell (transact store session ask).after × IsAnswerOf cell (transact store session ask).answer
 
--- a statement with its parameters at other places does what it did, over their values there
+-- a statement with its parameters at other ordinals does what it did, over their values there
 abbrev pub TransactionsRenamed : Type 0
 TransactionsRenamed = (store : Store) (session : ℕ) (b : Bound) (f : ℕ → ℕ) (tys : List Ty) (encs others : List Enc) (params moved : List Atom)
-    → AreMoved (λ place. uses place b) f params moved → AreTypesMoved b f encs tys others
+    → AreMoved (λ ordinal. uses ordinal b) f params moved → AreTypesMoved b f encs tys others
     → transact store session (Executes (execution (renamed f tys b) others moved)) ≡ transact store session (Executes (execution b encs params))
 
 -- from a state that can stand and has no transactions, the records of some calls lead to the shared world that the calls lead to

@@ -1,4 +1,4 @@
--- A rotation: a transaction that reads a table, puts its rows into another one, each sealed anew, and has this one replace it.
+-- A rotation: a transaction that reads a table, inserts its rows into another one, each sealed anew, and has this one replace it.
 use Rattle.std.specs.Prelude.{◌≡◌, ◌≢◌, ℕ, ◌+◌, List, [], ◌∷◌, ◌++◌, length, map, None, Ok, Bool, true, IsSome, IsErr}
 use Rattle.std.specs.List.{All}
 use Rattle.ae_base.specs.Atoms.{Atom}
@@ -20,10 +20,10 @@ use Rattle.transactions.specs.WellKept.{IsStore, AreAllowed, HasNoTransactions}
 
 -- ---- the statements of a rotation
 
--- the columns from a place on
+-- the columns from an ordinal on
 abbrev pub AreColumns : ℕ → List BoundItem → Type 0
-AreColumns place [] = Unit {0}
-AreColumns place (item ∷ items) = ((at : ℕ) × (item.value ≡ bound.Value (operands.Column at place))) × AreColumns (place + 1) items
+AreColumns ordinal [] = Unit {0}
+AreColumns ordinal (item ∷ items) = ((at : ℕ) × (item.value ≡ bound.Value (operands.Column at ordinal))) × AreColumns (ordinal + 1) items
 
 abbrev pub whole_query : List BoundItem → BoundSource → BoundQuery
 whole_query items from = record { distinct = None; top = None; items = items; from = from; joins = []; filter = None; group_by = []; order_by = [] }
@@ -37,19 +37,19 @@ pub record IsWholeQuery (table : List ℕ) (width : ℕ) (q : BoundQuery) : Type
   pub wide : length items ≡ width
   pub of_table : from.table ≡ table
 
--- parameters from a place on, for the columns from there on
+-- parameters from an ordinal on, for the columns from there on
 abbrev pub ArePut : ℕ → List ℕ → List (operands.Operand ℕ ℕ) → Type 0
-ArePut place [] [] = Unit {0}
-ArePut place [] (v ∷ values) = ⊥
-ArePut place (p ∷ places) [] = ⊥
-ArePut place (p ∷ places) (v ∷ values) = (p ≡ place) × ((at : ℕ) × (v ≡ operands.Param at place)) × ArePut (place + 1) places values
+ArePut ordinal [] [] = Unit {0}
+ArePut ordinal [] (v ∷ values) = ⊥
+ArePut ordinal (p ∷ ordinals) [] = ⊥
+ArePut ordinal (p ∷ ordinals) (v ∷ values) = (p ≡ ordinal) × ((at : ℕ) × (v ≡ operands.Param at ordinal)) × ArePut (ordinal + 1) ordinals values
 
 -- INSERT INTO a table one row of parameters, one for each of so many columns
 pub record IsRowInsert (table : List ℕ) (width : ℕ) (i : BoundInsert) : Type 0 where
   pub named : List ℕ
   pub values : List (operands.Operand ℕ ℕ)
   pub at : ℕ
-  pub is : i ≡ record { table = table; named = named; rows = record { at = at; values = values } ∷ [] }
+  pub is : i ≡ record { table = table; columns = named; rows = record { at = at; values = values } ∷ [] }
   pub wide : length named ≡ width
   pub put : ArePut 0 named values
 
@@ -100,7 +100,7 @@ pub record IsRotated (before after : Counted) (old new : List ℕ) (read sent : 
   pub catalog : with_replacement before.world.catalog old new ≡ Ok after.world.catalog
   pub others : (name : List ℕ) → IsSome (table_named before.world.catalog name) → name ≢ old → name ≢ new → rows_of after.world name ≡ rows_of before.world name
 
--- what each session's transaction has done behind some calls
+-- what each session's transaction has done after some calls
 abbrev pub logs_behind : Store → List (List Deed) → List Call → List (List Deed)
 logs_behind store logs [] = logs
 logs_behind store logs (call ∷ calls) = logs_behind (transact store call.session call.ask).after (with_log logs call.session (record_of store call logs).log) calls

@@ -1,4 +1,4 @@
--- Which states can stand.
+-- Which states can occur.
 use Rattle.std.specs.Prelude.{◌≡◌, ◌≤◌, ℕ, List, [], ◌∷◌, length, Option, Some, None, Bool, false, replicate}
 use Rattle.std.specs.List.{All}
 use Rattle.engine.specs.BoundOn.{IsBoundOn}
@@ -22,7 +22,7 @@ abbrev pub IsShared : Catalog → List Used → TableDef → Type 0
 IsShared shared used def = is_used used def.name ≡ false → table_named shared def.name ≡ Some def
 
 -- a transaction's catalog, while no definition was accepted in the shared world since its BEGIN: it has the shared keys, and the
--- shared tables but for the used ones; and it is the shared one where its version is that of BEGIN
+-- shared tables except for the used ones; and it is the shared one where its version is that of BEGIN
 pub record IsOverShared (shared : Catalog) (t : Transaction) : Type 0 where
   pub masters : t.own.world.catalog.masters ≡ shared.masters
   pub keys : t.own.world.catalog.keys ≡ shared.keys

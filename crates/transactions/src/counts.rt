@@ -5,7 +5,7 @@ ghost use Rattle.std.specs.List.{All, slice_get};
 ghost use Rattle.std.specs.Option.{option_map};
 ghost use Rattle.sql_tree.specs.Bound.{bound_of, statement_of};
 ghost use Rattle.sql_tree.specs.OnTables.{table_among};
-ghost use Rattle.sql_tree.specs.Sorts.{target};
+ghost use Rattle.sql_tree.specs.Kinds.{target};
 ghost use Rattle.engine.specs.BoundOn.{IsBoundOn};
 ghost use Rattle.engine.specs.Worlds as worlds;
 ghost use Rattle.transactions.specs.Answers.{GivesCounted};
@@ -87,18 +87,18 @@ impl<K: Same> Counted<K> {
         &self.world
     }
 
-    /// The place of a table; 0 for one that isn't there.
-    pub(crate) fn place_of(&self, name: &Name) -> usize
-        ensures { result ≡ worlds.place_of self.now.world name.now }
+    /// The position of a table; 0 for one that doesn't exist.
+    pub(crate) fn table_position_of(&self, name: &Name) -> usize
+        ensures { result ≡ worlds.table_position_of self.now.world name.now }
     {
-        self.catalog().table_place(name).unwrap_or(0)
+        self.catalog().table_position(name).unwrap_or(0)
     }
 
     /// How often a table was changed.
     pub(crate) fn count_of(&self, name: &Name) -> u64
         ensures { result ≡ spec.count_of self.now name.now }
     {
-        match self.counts.get(self.place_of(name)) {
+        match self.counts.get(self.table_position_of(name)) {
             Some(count) => *count,
             None => 0,
         }
@@ -199,32 +199,34 @@ impl<K: Same> Counted<K> {
         ensures { GivesCounted result self.old self.new
             (spec.alone self.old (spec.execution (bound_of bound) encs.now params.now)) }
     {
-        let changed = self.target_place(&bound.statement);
+        let changed = self.target_position(&bound.statement);
         let answer = self.execute(alloc, bound, encs, params)?;
-        if let Some(place) = changed {
-            self.raise(place);
+        if let Some(position) = changed {
+            self.raise(position);
         }
         Ok(answer)
     }
 
-    /// The place of the table whose rows a statement changes.
-    fn target_place(&self, statement: &BoundStatement) -> Option<usize>
+    /// The position of the table whose rows a statement changes.
+    fn target_position(&self, statement: &BoundStatement) -> Option<usize>
         ensures { result
-            ≡ option_map (worlds.place_of self.now.world) (target (statement_of statement.now)) }
+            ≡ option_map (worlds.table_position_of self.now.world)
+            (target (statement_of statement.now)) }
     {
         match statement.target() {
-            Some(name) => Some(self.place_of(name)),
+            Some(name) => Some(self.table_position_of(name)),
             None => None,
         }
     }
 
-    /// Raises the count of the table at a place.
-    fn raise(&mut self, place: usize)
-        requires { (unwrap_or (slice_get self.old.counts place) 0 == 18446744073709551615) ≡ false }
-        ensures { self.new ≡ effects.raised_place self.old place }
+    /// Raises the count of the table at a position.
+    fn raise(&mut self, position: usize)
+        requires { (unwrap_or (slice_get self.old.counts position) 0 == 18446744073709551615)
+            ≡ false }
+        ensures { self.new ≡ effects.raised_position self.old position }
     {
-        if place < self.counts.len() {
-            self.counts[place] += 1;
+        if position < self.counts.len() {
+            self.counts[position] += 1;
         }
     }
 
@@ -233,8 +235,8 @@ impl<K: Same> Counted<K> {
         requires { spec.is_at_last_count self.old (Some name.now) ≡ false }
         ensures { self.new ≡ spec.raised self.old name.now }
     {
-        let place = self.place_of(name);
-        self.raise(place);
+        let position = self.table_position_of(name);
+        self.raise(position);
     }
 
     /// Raises the counts of these tables.
@@ -251,20 +253,20 @@ impl<K: Same> Counted<K> {
         }
     }
 
-    /// Has the table at a place take the rows and the count of another world's table, which is
+    /// Has the table at a position take the rows and the count of another world's table, which is
     /// defined alike and takes the rows of this one. It takes no memory.
-    pub(crate) fn take_table(&mut self, place: usize, other: &mut Counted<K>, from: usize)
-        requires place { place < length self.old.world.contents }
+    pub(crate) fn take_table(&mut self, position: usize, other: &mut Counted<K>, from: usize)
+        requires position { position < length self.old.world.contents }
         requires from { from < length other.old.world.contents }
         requires alike { slice_get other.old.world.catalog.tables from
-            ≡ slice_get self.old.world.catalog.tables place }
-        ensures here { self.new ≡ effects.given self.old place
+            ≡ slice_get self.old.world.catalog.tables position }
+        ensures here { self.new ≡ effects.given self.old position
             (worlds.rows_at other.old.world from) (effects.count_at other.old from) }
         ensures other { other.new
-            ≡ effects.with_rows_at other.old from (worlds.rows_at self.old.world place) }
+            ≡ effects.with_rows_at other.old from (worlds.rows_at self.old.world position) }
     {
-        self.world.swap_tables(place, &mut other.world, from);
-        self.counts[place] = other.counts[from];
+        self.world.swap_tables(position, &mut other.world, from);
+        self.counts[position] = other.counts[from];
     }
 }
 

@@ -50,11 +50,11 @@ impl<K: Same> Slots<K> {
     pub(crate) fn get(&self, session: SessionId) -> Option<&Transaction<K>>
         ensures { option_copied result ≡ slice_index_or self.now.transactions (session - 1) None }
     {
-        let place = place_of(session);
-        if place >= self.held.len() {
+        let slot_index = slot_index_of(session);
+        if slot_index >= self.held.len() {
             return None;
         }
-        self.held[place].as_ref()
+        self.held[slot_index].as_ref()
     }
 
     /// Whether no session has a transaction.
@@ -75,11 +75,11 @@ impl<K: Same> Slots<K> {
         ensures after { self.new.transactions ≡ slice_set self.old.transactions (session - 1) None }
         ensures there { IsSome result → session - 1 < self.new.reached }
     {
-        let place = place_of(session);
-        if place >= self.held.len() {
+        let slot_index = slot_index_of(session);
+        if slot_index >= self.held.len() {
             return None;
         }
-        self.held[place].take()
+        self.held[slot_index].take()
     }
 
     /// Has memory for the transaction of a session.
@@ -87,7 +87,7 @@ impl<K: Same> Slots<K> {
         ensures same { self.new.transactions ≡ self.old.transactions }
         ensures there { OnOk result (session - 1 < self.new.reached) }
     {
-        extend(&mut self.held, place_of(session))
+        extend(&mut self.held, slot_index_of(session))
     }
 
     /// Puts a transaction of a session, for which there is memory.
@@ -96,27 +96,30 @@ impl<K: Same> Slots<K> {
         ensures { self.new.transactions ≡ slice_set self.old.transactions (session - 1)
             (Some transaction) }
     {
-        self.held[place_of(session)] = Some(transaction);
+        self.held[slot_index_of(session)] = Some(transaction);
     }
 }
 
-fn place_of(session: SessionId) -> usize
+fn slot_index_of(session: SessionId) -> usize
     ensures value { result ≡ session - 1 }
     ensures within { result < 64 }
 {
     session.number() as usize - 1
 }
 
-/// Has all slots up to a place. What they hold stays.
+/// Has all slots up to a position. What they hold stays.
 #[tactic(auto, using(crate::proofs::Padding::padded_more))]
-fn extend<K: Same>(held: &mut Vec<Option<Transaction<K>>>, place: usize) -> Result<(), AllocError>
-    requires place { place < 64 }
+fn extend<K: Same>(
+    held: &mut Vec<Option<Transaction<K>>>,
+    slot_index: usize,
+) -> Result<(), AllocError>
+    requires slot_index { slot_index < 64 }
     requires few { length held.old.items ≤ 64 }
     ensures same { slots_of held.new.items ≡ slots_of held.old.items }
-    ensures there { OnOk result (place < length held.new.items) }
+    ensures there { OnOk result (slot_index < length held.new.items) }
     ensures few { length held.new.items ≤ 64 }
 {
-    for _ in held.len()..place + 1 {
+    for _ in held.len()..slot_index + 1 {
         held.push(None)?;
     }
     Ok(())

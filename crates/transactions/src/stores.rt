@@ -2,7 +2,7 @@
 
 ghost use Rattle.std.specs.Prelude.{◌≡◌, ◌↔◌, IfOk, IsTrue, None, is_some, replicate};
 ghost use Rattle.sql_tree.specs.Bound.{bound_of, statement_of};
-ghost use Rattle.sql_tree.specs.Sorts.{is_definition};
+ghost use Rattle.sql_tree.specs.Kinds.{is_definition};
 ghost use Rattle.engine.specs.Answers.{answer_of};
 ghost use Rattle.engine.specs.BoundOn.{IsBoundOn};
 ghost use Rattle.transactions.specs.Answers.{StepsWhere, Transacts};
@@ -230,8 +230,8 @@ impl<K: Same> Store<K> {
         }
     }
 
-    /// How many tables the transaction of a session has used. With it, what was noted behind these
-    /// can be forgotten.
+    /// How many tables the transaction of a session has used. With it, the notes after these can be
+    /// forgotten.
     pub fn used(&self, session: SessionId) -> usize
         ensures count { result ≡ used_by self.now session }
         ensures held { IsHeld self.now }
@@ -242,8 +242,8 @@ impl<K: Same> Store<K> {
         }
     }
 
-    /// Has the transaction of a session forget the tables that it has used behind the first so
-    /// many.
+    /// Keeps the first `used` entries of the list of tables that the transaction of a session has
+    /// used.
     pub fn forget(&mut self, session: SessionId, used: usize)
         requires { IsHeld (forgotten self.old session used) }
         ensures { self.new ≡ forgotten self.old session used }
@@ -270,7 +270,7 @@ fn step_in<K: Same>(
     ensures { StepsWhere (is_definition (statement_of bound.statement)) result transaction.old
         transaction.new (execution (bound_of bound) encs.now params.now) }
 {
-    if bound.statement.sort().defines() {
+    if bound.statement.kind().defines() {
         drop(bound);
         return Err(Refusal::Fault(SqlFault::InTransaction));
     }

@@ -5,7 +5,7 @@ ghost use Rattle.std.specs.List.{All, list_any, position, slice_get};
 ghost use Rattle.std.specs.Str.{bytes_eq};
 ghost use Rattle.sql_tree.specs.Bound.{bound_of, statement_of};
 ghost use Rattle.engine.specs.BoundOn.{IsBoundOn};
-ghost use Rattle.sql_tree.specs.Sorts.{replaced_in, tables_of};
+ghost use Rattle.sql_tree.specs.Kinds.{replaced_in, tables_of};
 ghost use Rattle.transactions.specs.Answers.{StepsIn};
 ghost use Rattle.transactions.specs.Counted.{count_of, execution};
 ghost use Rattle.transactions.specs.Effects as effects;
@@ -178,29 +178,29 @@ fn take_over<K: Same>(own: &mut Counted<K>, shared: &mut Counted<K>, used: &[Use
     requires { MayLieOver shared.old own.old used.now }
     ensures { own.new ≡ over (is_used used.now) shared.old own.old }
 {
-    for place in 0..own.catalog().tables().len() {
-        if let Some(from) = place_unused(own, place, shared, used) {
-            own.take_table(place, shared, from);
+    for index in 0..own.catalog().tables().len() {
+        if let Some(from) = position_unused(own, index, shared, used) {
+            own.take_table(index, shared, from);
         }
     }
 }
 
-/// Where the shared world has the table at a place, unless it was used.
-fn place_unused<K: Same>(
+/// Where the shared world has the table at a position, unless it was used.
+fn position_unused<K: Same>(
     own: &Counted<K>,
-    place: usize,
+    index: usize,
     shared: &Counted<K>,
     used: &[Used],
 ) -> Option<usize>
-    requires { place < length own.now.world.catalog.tables }
-    ensures { result ≡ effects.place_unused (is_used used.now) shared.now
-        (slice_get own.now.world.catalog.tables place) }
+    requires { index < length own.now.world.catalog.tables }
+    ensures { result ≡ effects.position_unused (is_used used.now) shared.now
+        (slice_get own.now.world.catalog.tables index) }
 {
-    let name = &own.catalog().tables()[place].name;
+    let name = &own.catalog().tables()[index].name;
     if is_used(used, name) {
         return None;
     }
-    Some(shared.place_of(name))
+    Some(shared.table_position_of(name))
 }
 
 /// The first used table that was changed since it was first used.
@@ -240,7 +240,7 @@ fn prepare<K: Same>(
         (used.new.items
         ≡ with_uses own.now used.old.items (tables_of (statement_of statement.now))) }
     ensures unused { OnErr result (used.new.items ≡ used.old.items) }
-    ensures front { take (length used.old.items) used.new.items ≡ used.old.items }
+    ensures prefix { take (length used.old.items) used.new.items ≡ used.old.items }
     ensures changed { changed.new.items ≡ changed.old.items }
     ensures note { IfOk result
         (λ note. noted note changed.old.items
@@ -275,7 +275,7 @@ fn note_of(changed: &mut Vec<Name>, statement: &BoundStatement) -> Result<Note, 
     }
 }
 
-/// What becomes of the changed tables behind a definition.
+/// What becomes of the changed tables after a definition.
 fn note_of_definition(definition: &BoundDefinition) -> Result<Note, AllocError>
     ensures { IfOk result (λ note. (names : List (List ℕ))
         → noted note names ≡ renamed_names (replaced_in definition.now) names) }
@@ -322,14 +322,14 @@ fn carry_out(names: &mut Vec<Name>, note: Note)
     }
 }
 
-/// Behind REPLACE BY the old table isn't among the names, and the new one has its name.
+/// After REPLACE BY the old table isn't among the names, and the new one has its name.
 fn rename(names: &mut Vec<Name>, old: Name, new: &Name)
     requires { AreApart names.old.items }
     ensures { names.new.items ≡ renamed_names (Some (old, new.now)) names.old.items }
 {
     leave_out(names, &old);
-    if let Some(place) = place_among(names, new) {
-        names[place] = old;
+    if let Some(index) = position_among(names, new) {
+        names[index] = old;
     }
 }
 
@@ -339,7 +339,7 @@ fn leave_out(names: &mut Vec<Name>, name: &Name)
     names.retain(|n| *n != *name);
 }
 
-fn place_among(names: &[Name], name: &Name) -> Option<usize>
+fn position_among(names: &[Name], name: &Name) -> Option<usize>
     ensures { result ≡ position (λ n. bytes_eq n name.now) names.now }
 {
     names.iter().position(|n| *n == *name)

@@ -2,7 +2,7 @@
 
 ghost use Rattle.std.specs.Prelude.{◌≡◌, ◌∷◌, [], IfOk, OnErr, OnOk, length, map, take};
 ghost use Rattle.sql_tree.specs.Bound.{join_of, statement_of};
-ghost use Rattle.sql_tree.specs.Sorts.{tables_of};
+ghost use Rattle.sql_tree.specs.Kinds.{tables_of};
 ghost use Rattle.transactions.specs.Stores.{is_used, with_uses};
 
 use crate::counts::Counted;
@@ -39,7 +39,7 @@ fn note<K: Same>(used: &mut Vec<Used>, own: &Counted<K>, name: &Name) -> Result<
     Ok(())
 }
 
-/// Notes the tables that a query joins, or without memory some of them.
+/// Notes the tables that a query joins, or out of memory some of them.
 fn note_joins<K: Same>(
     used: &mut Vec<Used>,
     own: &Counted<K>,
@@ -49,7 +49,7 @@ fn note_joins<K: Same>(
         (used.new.items
         ≡ with_uses own.now used.old.items
         (map (λ source. source.table) (map (λ join. join.source) (map join_of joins.now)))) }
-    ensures front { take (length used.old.items) used.new.items ≡ used.old.items }
+    ensures prefix { take (length used.old.items) used.new.items ≡ used.old.items }
 {
     for further in joins {
         note(used, own, &further.source.table)?;
@@ -58,7 +58,7 @@ fn note_joins<K: Same>(
 }
 
 /// Notes the tables that a statement reads or changes, or that REPLACE BY names, in the order of
-/// its text, or without memory some of them.
+/// its text, or out of memory some of them.
 fn note_some<K: Same>(
     used: &mut Vec<Used>,
     own: &Counted<K>,
@@ -67,7 +67,7 @@ fn note_some<K: Same>(
     ensures ok { OnOk result
         (used.new.items
         ≡ with_uses own.now used.old.items (tables_of (statement_of statement.now))) }
-    ensures front { take (length used.old.items) used.new.items ≡ used.old.items }
+    ensures prefix { take (length used.old.items) used.new.items ≡ used.old.items }
 {
     match statement {
         BoundStatement::Definition(BoundDefinition::ReplaceTable { old, new }) => {
@@ -96,7 +96,7 @@ pub(crate) fn note_tables<K: Same>(
         (used.new.items
         ≡ with_uses own.now used.old.items (tables_of (statement_of statement.now))) }
     ensures err { OnErr result (used.new.items ≡ used.old.items) }
-    ensures front { take (length used.old.items) used.new.items ≡ used.old.items }
+    ensures prefix { take (length used.old.items) used.new.items ≡ used.old.items }
 {
     let before = used.len();
     let noted = note_some(used, own, statement);

@@ -26,9 +26,9 @@ use Rattle.conversation.specs.Sessions.{first_open}
 use Rattle.conversation.specs.Pending.{Pending, Use, uses_in}
 use Rattle.scalar.specs.Classes.{Class, Det, Rnd, Pairing, Entry, Listing, NullOr, Correspond}
 use Rattle.script_lang.specs.Limits.{HasParams, IsProperParam}
-use Rattle.statement_analysis.specs.Describing.{understood}
+use Rattle.statement_analysis.specs.Describing.{analyzed}
 use Rattle.plaintext_laws.proofs.Interface.{IsSendableParam, DescribedAs, Each, IsFit, with_value, OpenAs}
-use Rattle.twin_laws.specs.Twins.{IsOf, AreTwinValues, AreTwinLiterals, class_told, TwinParams, AllTwinParams}
+use Rattle.twin_laws.specs.Twins.{IsOf, AreTwinValues, AreTwinLiterals, class_known, TwinParams, AllTwinParams}
 use Rattle.twin_laws.proofs.Going.{TwinUses, no_twins, one_twin, plain_one}
 
 -- ---- parameters
@@ -100,7 +100,7 @@ module _ (literals : List Entry) (twins : AreTwinLiterals literals) where
     paired c v (value.Is e) f (inl h) = let z = h.1 in absurd cc
     paired c v (value.Is e) f (inr h) = is_so e (right_is t (plain_atom v) e (f (plain_atom v) (atom.Plain e) h))
 
-    twin_is : (o : Option Enc) (v u : Value) → P v → Correspond (Listing literals) (class_told t o) (plain_atom v) (plain_atom u) → P u
+    twin_is : (o : Option Enc) (v u : Value) → P v → Correspond (Listing literals) (class_known t o) (plain_atom v) (plain_atom u) → P u
     twin_is None v u p h = subst P (sym (plain_one v u h.0)) p
     twin_is (Some enc.Plain) v u p h = subst P (sym (plain_one v u h.0)) p
     twin_is (Some (enc.Det key)) v u p h = paired (Det key t) v u (λ a b l. twins.values (Det key t) a b l) h
@@ -143,14 +143,14 @@ other_fits batch other t h f =
 
 -- ---- sessions
 
--- one batch but for its values
+-- one batch except for its values
 abbrev pub twin_of : Pending → List Param → Pending
 twin_of p qs = record { batch = record { text = p.batch.text; params = qs; forced = p.batch.forced }; version = p.version; keys = p.keys; encs = p.encs }
 
 -- the keys that were told with it open to those of their numbers
 pub record AreTwinPending (keys : KeyMap) (key_for : ℕ → List ℕ) (literals : List Entry) (p q : Pending) : Type 0 where
   pub is : q ≡ twin_of p q.batch.params
-  pub told : OpenAs keys key_for p.keys
+  pub known : OpenAs keys key_for p.keys
   pub params : AllTwinParams (Listing literals) p.encs p.batch.params q.batch.params
   pub sendable : Each IsSendableParam q.batch.params
 
@@ -169,8 +169,8 @@ none_twins keys key_for literals (suc n) = (tt, none_twins keys key_for literals
 -- the description of the one is that of the other
 abbrev pub twin_described : (R : Pairing) (catalog : Catalog) (p : Pending) (qs : List Param) → AllTwinParams R p.encs p.batch.params qs → DescribedAs catalog p → DescribedAs catalog (twin_of p qs)
 twin_described R catalog p qs h d = record {
-  meant = d.meant;
-  understood = ap (understood catalog p.batch.text) (declarations_same R p.encs p.batch.params qs h) ∙ d.understood;
+  analysis = d.analysis;
+  analyzed = ap (analyzed catalog p.batch.text) (declarations_same R p.encs p.batch.params qs h) ∙ d.analyzed;
   long = d.long ∙ sym (twins_long R p.encs p.batch.params qs h);
   encs = d.encs;
   metas = d.metas;

@@ -47,7 +47,7 @@ use Rattle.plaintext_laws.specs.Below.{LawsBelow}
 use Rattle.plaintext_laws.specs.Batches as plain
 use Rattle.plaintext_laws.proofs.Interface.{
   whole_count,
-  told_here,
+  known_here,
   rows_opened,
   rows_skipped,
   AnswersOf,
@@ -128,8 +128,8 @@ module _ (laws : LawsBelow) (keys : KeyMap) (key_for : ℕ → List ℕ) (litera
     opens trusted meta f g h = at (trusted_meta trusted meta) refl
       where
         at : (t : Result KeyMeta DriverFault) → trusted_meta trusted meta ≡ t
-            → AreFollowed columns w v queue others (on_result (λ told. Opens told f) (λ e. f (Err e)) t) (on_result (λ told. Opens told g) (λ e. g (Err e)) t)
-        at (Ok told) e = h (open_key keys told) (ap (λ t. t >>= open_key keys) e)
+            → AreFollowed columns w v queue others (on_result (λ known. Opens known f) (λ e. f (Err e)) t) (on_result (λ known. Opens known g) (λ e. g (Err e)) t)
+        at (Ok known) e = h (open_key keys known) (ap (λ t. t >>= open_key keys) e)
         at (Err fault) e = h (Err fault) (ap (λ t. t >>= open_key keys) e)
 
     pub draws : (f g : List ℕ → Talk) → ((iv vi : List ℕ) → IsBlock iv → IsBlock vi → AreFollowed columns w v queue others (f iv) (g vi)) → AreFollowed columns w v queue others (Draws f) (Draws g)
@@ -169,7 +169,7 @@ module _ (laws : LawsBelow) (keys : KeyMap) (key_for : ℕ → List ℕ) (litera
         → AreFollowed (columns ∷ more) now next (rows_of rows) (rows_of others) (reading true trusted (header here columns) (after_all k)) (reading true trusted (header here columns) (after_all j))
     rows_goes columns rows others typed types pairs =
         let metas = keys_of here (plain.encs_shown columns) in
-        let told = told_here laws keys key_for here fits (plain.encs_shown columns) in
+        let known = known_here laws keys key_for here fits (plain.encs_shown columns) in
         let titles = titles_of (header here columns) in
         let stand = rows_stand key_for literals twins (map class_of_result columns) rows others pairs in
         let listing : List (List Atom) → Outcome = λ rows. outcome.Rows (record { titles = titles; rows = map (map plain.value_of) rows }) in
@@ -180,8 +180,8 @@ module _ (laws : LawsBelow) (keys : KeyMap) (key_for : ℕ → List ℕ) (litera
         (λ os opened_all opened.
         hears (columns ∷ more) now next (rows_of rows) (rows_of others) (session.Reading (types_shown columns) os 0)
         none none (rows_on true (λ comes. k)) (rows_on true (λ comes. j)) (Said (Some (listing stand.from)) session.Idle) (Said (Some (listing stand.to)) session.Idle)
-        (λ n. rows_opened keys trusted is_short key_for metas told columns os opened rows stand.from typed stand.left broken titles [] 0 (length rows) n (whole_count rows))
-        (λ m. rows_opened keys trusted is_short key_for metas told columns os opened others stand.to types stand.right broken titles [] 0 (length others) m (whole_count others))
+        (λ n. rows_opened keys trusted is_short key_for metas known columns os opened rows stand.from typed stand.left broken titles [] 0 (length rows) n (whole_count rows))
+        (λ m. rows_opened keys trusted is_short key_for metas known columns os opened others stand.to types stand.right broken titles [] 0 (length others) m (whole_count others))
         (says more now next [] [] columns (listing stand.from) (listing stand.to) (k session.Idle) (j session.Idle) (refl, stand.twins) go))
         (λ f some.
         says more now next (rows_of rows) (rows_of others) columns (outcome.Failed f) (outcome.Failed f) (skips k) (skips j) refl

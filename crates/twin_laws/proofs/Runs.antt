@@ -46,8 +46,8 @@ use Rattle.script_lang.specs.declared.steps.Act.TheVariants as acts
 use Rattle.script_lang.specs.Limits.{OfBatch, IsWithinLimits, HasParams, HasProperParams, IsProperStep}
 use Rattle.script_lang.specs.declared.steps.Step.{Step}
 use Rattle.script_lang.specs.declared.steps.Step.TheVariants as steps_of
-use Rattle.statement_analysis.specs.Describing.{Meant, understood, describe, description, keys_of}
-use Rattle.statement_analysis.specs.Params.{declaration_of, suited}
+use Rattle.statement_analysis.specs.Describing.{Analysis, analyzed, describe, description, keys_of}
+use Rattle.statement_analysis.specs.Params.{declaration_of, checked_params}
 use Rattle.server_core.proofs.Interface as served
 use Rattle.server_core.specs.Correspond.{ParamsCorrespond, ExchangeCorresponds}
 use Rattle.server_core.specs.Serve.{State, catalog_of, answered, described, executed, serve}
@@ -56,7 +56,7 @@ use Rattle.wire_messages.specs.Exchanges.{Exchange, Served}
 use Rattle.wire_messages.specs.declared.params.SentParam.{SentParam}
 use Rattle.wire_messages.specs.declared.requests.Request.TheVariants as request
 use Rattle.plaintext_laws.specs.Alike.{Fits, FitThroughout}
-use Rattle.plaintext_laws.specs.Batches.{Came, came, declarations_of}
+use Rattle.plaintext_laws.specs.Batches.{BatchEnd, batch_end, declarations_of}
 use Rattle.plaintext_laws.specs.Reference.{means, held_at, with_held}
 use Rattle.plaintext_laws.specs.Batches as plain
 use Rattle.script_talk.specs.Steps.{turn, talk}
@@ -67,7 +67,7 @@ use Rattle.plaintext_laws.proofs.Interface.{
   execution_alone,
   is_ready,
   is_held,
-  keys_told,
+  keys_known,
   stands_on,
   StandsFor,
   IsSendableParam,
@@ -79,14 +79,14 @@ use Rattle.plaintext_laws.proofs.Interface.{
   stays_so,
   seen_fits,
   all_go,
-  hold_place,
+  hold_position,
   resting,
   all_resting,
   at_resting,
   set_resting,
   Standing,
   Each,
-  told_among,
+  known_among,
   all_fit,
   AnswersOf,
   AreSealed,
@@ -185,14 +185,14 @@ module _ (laws : LawsBelow) (keys : KeyMap) (key_for : ℕ → List ℕ) (litera
     nothing : Held None
     nothing = tt
 
-    abbrev RestOf : Came → Type 0
+    abbrev RestOf : BatchEnd → Type 0
     RestOf c = (own ≡ c.columns) × Rest c.held c.state
 
     abbrev Follow : Talk → Talk → Type 0
     Follow t u = AreFollowed laws keys key_for literals twins (own ∷ more) w v [] [] t u
 
     prints : (comes second : outcomes.Outcome) → TwinOutcomes (Listing literals) own comes second
-        → (after later : Option Pending) → Held after → AreTwinHeld keys key_for literals after later → RestOf (came comes after walk)
+        → (after later : Option Pending) → Held after → AreTwinHeld keys key_for literals after later → RestOf (batch_end comes after walk)
         → Follow (Prints comes (k (resting after))) (Prints second (j (resting later)))
     prints comes second o after later held same rest =
         says laws keys key_for literals twins more w v [] [] own comes second (k (resting after)) (j (resting later)) o (go after later w v walk st (stays_so Always w number after held) same rest.1)
@@ -205,8 +205,8 @@ module _ (laws : LawsBelow) (keys : KeyMap) (key_for : ℕ → List ℕ) (litera
     abbrev found_by : State → Catalog → Pending → List SentParam → Bool → Served State
     found_by state catalog p sent b =
         executed state number
-        (cond b (understood catalog p.batch.text (map declaration_of sent))
-        (Err (Moved (record { seen = p.version; now = catalog.version }))) >>= λ meant. suited meant.encs sent >>= λ atoms. Ok (meant, atoms))
+        (cond b (analyzed catalog p.batch.text (map declaration_of sent))
+        (Err (Moved (record { seen = p.version; now = catalog.version }))) >>= λ analysis. checked_params analysis.encs sent >>= λ atoms. Ok (analysis, atoms))
 
     abbrev exchange_of : Pending → List SentParam → Served State → Exchange
     exchange_of p sent s = record { request = request.Execute number p.version p.batch.text sent; replies = s.replies }
@@ -222,23 +222,23 @@ module _ (laws : LawsBelow) (keys : KeyMap) (key_for : ℕ → List ℕ) (litera
           (passing (exchange_of q second t) (over serve keys (awaiting j) m right t.after t.replies))
 
       runs_goes : DescribedAs here p
-          → RestOf (plain.stepped keys trusted walk number p.batch (understood (catalog_of walk number) p.batch.text (declarations_of p.batch)))
+          → RestOf (plain.stepped keys trusted walk number p.batch (analyzed (catalog_of walk number) p.batch.text (declarations_of p.batch)))
           → After (found_by w here p sent true) (found_by v (catalog_of v number) q second true)
       runs_goes d rest =
-          let meant = d.meant in
-          let c = alone meant.bound in
-          let es = encs_alone meant in
+          let analysis = d.analysis in
+          let c = alone analysis.bound in
+          let es = encs_alone analysis in
           let twin = twin_described (Listing literals) here p qs params d in
           let e : DescribedAs (catalog_of v number) q = record {
-            meant = d.meant;
-            understood = ap (λ (x : Catalog). understood x p.batch.text (declarations_of q.batch)) there_is ∙ twin.understood;
+            analysis = d.analysis;
+            analyzed = ap (λ (x : Catalog). analyzed x p.batch.text (declarations_of q.batch)) there_is ∙ twin.analyzed;
             long = twin.long;
             encs = twin.encs;
-            metas = twin.metas ∙ ap (λ (x : Catalog). keys_of x (used_among (is_used d.meant.bound) 0 d.meant.encs)) (sym there_is);
+            metas = twin.metas ∙ ap (λ (x : Catalog). keys_of x (used_among (is_used d.analysis.bound) 0 d.analysis.encs)) (sym there_is);
           } in
           let one = is_ready laws keys trusted key_for w number fits p (held.sendable tt) d sent sealed in
           let two = is_ready laws keys trusted key_for v number (subst (Fits keys key_for) (sym there_is) fits) q sendable e second resealed in
-          let alike = sent_twins trusted p.keys (keys_told laws keys key_for here fits p d) (uses_of p)
+          let alike = sent_twins trusted p.keys (keys_known laws keys key_for here fits p d) (uses_of p)
           (uses_in qs p.encs) sent second (uses_twins (Listing literals) p.encs p.batch.params qs params) (uses_sendable p.batch.params p.encs (held.sendable tt))
           (uses_sendable qs p.encs sendable) sealed resealed in
           let pairs : RowsCorrespond R (param_classes c.params es) (atoms_in sent) (atoms_in second) =
@@ -247,38 +247,39 @@ module _ (laws : LawsBelow) (keys : KeyMap) (key_for : ℕ → List ℕ) (litera
           let cells = twinning_cells key_for literals twins in
           let single = twinning_one_to_one key_for literals twins in
           let within = served.cells_within R cells in
-          let x1 = execution_alone meant sent in
+          let x1 = execution_alone analysis sent in
           let x2 : Execution = record { bound = c; encs = es; params = atoms_in second } in
           let did = transact w number (ask_of x1) in
           let next = transact v number (ask_of x2) in
           let alike_asked = asks_alike R c.statement x1 x2 (record { bound = refl; encs = refl; params = pairs }) in
           let sim = transact_alike R single within is_short w v number (ask_of x1) (ask_of x2) st.stands.state st.stores alike_asked one.may in
           let kept2 = laws.keeps_stores is_short v number (ask_of x2) st.right two.may in
-          let plain_after = stands_on laws keys trusted key_for w walk number fits st.stands meant sent p one in
-          let meaning = transact walk number (ask_of (execution meant.bound meant.encs (plain_atoms_of p.batch))) in
-          let same = transact_alone walk number meant.bound meant.encs (plain_atoms_of p.batch) in
+          let plain_after = stands_on laws keys trusted key_for w walk number fits st.stands analysis sent p one in
+          let meaning = transact walk number (ask_of (execution analysis.bound analysis.encs (plain_atoms_of p.batch))) in
+          let same = transact_alone walk number analysis.bound analysis.encs (plain_atoms_of p.batch) in
           let after : TwinStates did.after next.after meaning.after = record
           { stands = subst (λ (x : Transacted). StandsFor keys key_for did.after x.after) same plain_after.stands; right = kept2.0; stores = sim.stores } in
-          let u : understood (catalog_of walk number) p.batch.text (declarations_of p.batch) ≡ Ok meant = ap
-          (λ (x : Catalog). understood x p.batch.text (declarations_of p.batch)) walk_is ∙ d.understood in
+          let u : analyzed (catalog_of walk number) p.batch.text (declarations_of p.batch) ≡ Ok analysis = ap
+          (λ (x : Catalog). analyzed x p.batch.text (declarations_of p.batch)) walk_is ∙ d.analyzed in
           let rest2 : (own ≡ plain.columns_of meaning.answer) × Rest None meaning.after = rw u at rest in
           let own_is : own ≡ plain.columns_of did.answer = rest2.0 ∙ sym (ap (λ (x : Transacted). plain.columns_of x.answer) same) ∙ columns_same (Standing key_for) did.answer _ plain_after.answers in
           let next_goes : AreFollowed laws keys key_for literals twins more did.after next.after [] [] (k session.Idle) (j session.Idle) =
           go None None did.after next.after meaning.after after plain_after.goes tt rest2.1 in
-          let replies = served.answers_told R here did.after next.after [] did.answer next.answer sim.answers in
-          let told = answer_goes laws keys key_for literals twins trusted here fits did.after next.after k j more next_goes did.answer next.answer sim.answers plain_after.typed kept2.1 in
+          let replies = served.answers_described R here did.after next.after [] did.answer next.answer sim.answers in
+          let known = answer_goes laws keys key_for literals twins trusted here fits did.after next.after k j more next_goes did.answer next.answer sim.answers plain_after.typed kept2.1 in
           let s = answered here did.answer did.after in
           let t = answered here next.answer next.after in
           let goes : AreFollowed laws keys key_for literals twins (own ∷ more) s.after t.after s.replies t.replies (awaiting k) (awaiting j) =
-          subst (λ (cs : List ResultColumn). AreFollowed laws keys key_for literals twins (cs ∷ more) s.after t.after s.replies t.replies (awaiting k) (awaiting j)) (sym own_is) told in
+          subst (λ (cs : List ResultColumn). AreFollowed laws keys key_for literals twins (cs ∷ more) s.after t.after s.replies t.replies (awaiting k) (awaiting j)) (sym own_is) known in
           let x = one.served in
           let y : executed v number
-          (understood (catalog_of v number) p.batch.text (map declaration_of second) >>= λ meant. suited meant.encs second >>= λ atoms. Ok (meant, atoms)) ≡ answered here next.answer next.after =
+          (analyzed (catalog_of v number) p.batch.text (map declaration_of second) >>= λ analysis. checked_params analysis.encs second >>= λ atoms. Ok (analysis, atoms))
+          ≡ answered here next.answer next.after =
           two.served ∙ ap (λ (x : Catalog). answered x next.answer next.after) there_is in
           λ n m left right a b. rw (x, y)
           (asks_goes laws keys key_for literals twins (own ∷ more) _ _ _ _ ((refl, refl, refl, alike.params), replies) (goes n m left right a b))
 
-      moved_goes : RestOf (came (outcome.Refused (Moved (record { seen = p.version; now = here.version }))) None walk)
+      moved_goes : RestOf (batch_end (outcome.Refused (Moved (record { seen = p.version; now = here.version }))) None walk)
           → ExchangeCorresponds R (exchange_of p sent (found_by w here p sent false)) (exchange_of q second (found_by v here q second false))
           → After (found_by w here p sent false) (found_by v here q second false)
       moved_goes rest c =
@@ -287,19 +288,19 @@ module _ (laws : LawsBelow) (keys : KeyMap) (key_for : ℕ → List ℕ) (litera
           (prints (outcome.Refused moved) (outcome.Refused moved) refl None None nothing tt rest (suc n) (suc m) left right a b)
 
       asked_goes : (t : Bool) → (p.version == here.version) ≡ t
-          → RestOf (cond t (plain.stepped keys trusted walk number p.batch (understood here p.batch.text (declarations_of p.batch)))
-          (came (outcome.Refused (Moved (record { seen = p.version; now = here.version }))) None walk))
+          → RestOf (cond t (plain.stepped keys trusted walk number p.batch (analyzed here p.batch.text (declarations_of p.batch)))
+          (batch_end (outcome.Refused (Moved (record { seen = p.version; now = here.version }))) None walk))
           → AllZip (ParamsCorrespond R) sent second → After (found_by w here p sent t) (found_by v here q second t)
       asked_goes true e rest c =
           subst (λ (x : Catalog). After (found_by w here p sent true) (found_by v x q second true)) there_is
           (runs_goes (held.same (eqb-true p.version here.version e))
-          (subst (λ (x : Catalog). RestOf (plain.stepped keys trusted walk number p.batch (understood x p.batch.text (declarations_of p.batch)))) (sym walk_is) rest))
+          (subst (λ (x : Catalog). RestOf (plain.stepped keys trusted walk number p.batch (analyzed x p.batch.text (declarations_of p.batch)))) (sym walk_is) rest))
       asked_goes false e rest c = moved_goes rest ((refl, refl, refl, c), (refl, tt))
 
     executing_goes : (p : Pending) → HoldsBatch Always here p → OpenAs keys key_for p.keys → (qs : List Param) → AllTwinParams (Listing literals) p.encs p.batch.params qs → Each IsSendableParam qs
         → RestOf (plain.execution_of keys trusted walk number p)
         → Follow (executing true trusted number (session.Pending p) (after_all k)) (executing true trusted number (session.Pending (twin_of p qs)) (after_all j))
-    executing_goes p held told qs params sendable rest =
+    executing_goes p held known qs params sendable rest =
         let q = twin_of p qs in
         let onward : (Session → Talk) → Session → Talk = λ k after. Hears after nothing_shown (answered_on true trusted (after_all k)) in
         let sends : (Session → Talk) → List SentParam → Talk = λ k params. asked true (onward k) (after_all k) (Ok (request.Execute number p.version p.batch.text params)) session.Sent in
@@ -312,7 +313,7 @@ module _ (laws : LawsBelow) (keys : KeyMap) (key_for : ℕ → List ℕ) (litera
         let none = unopened_is keys trusted p.keys (encs_in (uses_of p)) None opened in
         let rest0 : RestOf (plain.executed_with keys trusted walk number p None) = rw none at rest in
         let rest1 : RestOf (at_catalog p here) = subst (λ (c : Catalog). RestOf (at_catalog p c)) walk_is rest0 in
-        let alike = sent_twins trusted p.keys told (uses_of p) (uses_in qs p.encs) sent second uses (uses_sendable p.batch.params p.encs (held.sendable tt)) (uses_sendable qs p.encs sendable) s t in
+        let alike = sent_twins trusted p.keys known (uses_of p) (uses_in qs p.encs) sent second uses (uses_sendable p.batch.params p.encs (held.sendable tt)) (uses_sendable qs p.encs sendable) s t in
         let goes = asked_goes p held qs params sendable sent second s t (p.version == here.version) refl rest1 alike.params in
         λ n m l r x y. subst (λ (c : Catalog). let sc = found_by v c q second (p.version == c.version) in
         Goes key_for literals (own ∷ more)
@@ -324,16 +325,16 @@ module _ (laws : LawsBelow) (keys : KeyMap) (key_for : ℕ → List ℕ) (litera
         let rest1 : RestOf (plain.executed_with keys trusted walk number p (Some f)) = rw some at rest in
         prints (outcome.Failed f) (outcome.Failed f) refl None None nothing tt rest1)
       where
-        at_catalog : Pending → Catalog → Came
-        at_catalog p c = cond (p.version == c.version) (plain.stepped keys trusted walk number p.batch (understood c p.batch.text (declarations_of p.batch)))
-            (came (outcome.Refused (Moved (record { seen = p.version; now = c.version }))) None walk)
+        at_catalog : Pending → Catalog → BatchEnd
+        at_catalog p c = cond (p.version == c.version) (plain.stepped keys trusted walk number p.batch (analyzed c p.batch.text (declarations_of p.batch)))
+            (batch_end (outcome.Refused (Moved (record { seen = p.version; now = c.version }))) None walk)
 
     -- ---- a batch is described
 
     module _ (text : List ℕ) (forced : List (List ℕ)) (ps qs : List Param)
         (few : HasParams (record { text = text; params = ps; forced = forced })) (many : HasParams (record { text = text; params = qs; forced = forced }))
         (proper : HasProperParams (record { text = text; params = ps; forced = forced }))
-        (right_proper : HasProperParams (record { text = text; params = qs; forced = forced })) (ready again : Pending → Talk) (readied : Pending → Came)
+        (right_proper : HasProperParams (record { text = text; params = qs; forced = forced })) (ready again : Pending → Talk) (readied : Pending → BatchEnd)
         (ready_goes : (p : Pending) (qs : List Param) → HoldsBatch Always here p → p.version ≡ here.version
         → OpenAs keys key_for p.keys → AllTwinParams (Listing literals) p.encs p.batch.params qs → Each IsSendableParam qs → RestOf (readied p)
         → Follow (ready p) (again (twin_of p qs))) where
@@ -372,9 +373,9 @@ module _ (laws : LawsBelow) (keys : KeyMap) (key_for : ℕ → List ℕ) (litera
       readied_goes d encs None e h rest = h (rw e at rest)
       readied_goes d encs (Some name) e h rest = prints (outcome.Failed (NotEncrypted name)) (outcome.Failed (NotEncrypted name)) refl None None nothing tt (rw e at rest)
 
-      described_goes : why_unfit one_batch ≡ None → why_unfit two_batch ≡ None → (r : Result Meant SqlFault)
-          → understood here text (declarations_of one_batch) ≡ r → declarations_of two_batch ≡ declarations_of one_batch
-          → let d = r >>= λ meant. Ok (description here (declarations_of one_batch) meant) in
+      described_goes : why_unfit one_batch ≡ None → why_unfit two_batch ≡ None → (r : Result Analysis SqlFault)
+          → analyzed here text (declarations_of one_batch) ≡ r → declarations_of two_batch ≡ declarations_of one_batch
+          → let d = r >>= λ analysis. Ok (description here (declarations_of one_batch) analysis) in
           AllTwinParams (Listing literals) (encs_of_description one_batch d) ps qs → RestOf (plain.described walk one_batch (plain.readied walk readied) d)
           → (n m : ℕ) (left right : List ℕ) → AreBytes left → AreBytes right →
           let s = described w d in
@@ -383,26 +384,26 @@ module _ (laws : LawsBelow) (keys : KeyMap) (key_for : ℕ → List ℕ) (litera
           (passing (record { request = request.Describe number text (declarations_of one_batch); replies = s.replies })
           (over serve keys (described_talk one_batch ready k) n left s.after s.replies))
           (passing (record { request = request.Describe number text (declarations_of one_batch); replies = t.replies }) (over serve keys (described_talk two_batch again j) m right t.after t.replies))
-      described_goes fit refit (Ok meant) e same params rest =
-          let x = is_held laws Always here one_batch few (λ is. proper) fit meant e in
-          let y = is_held laws Always here two_batch many (λ is. right_proper) refit meant (ap (understood here text) same ∙ e) in
+      described_goes fit refit (Ok analysis) e same params rest =
+          let x = is_held laws Always here one_batch few (λ is. proper) fit analysis e in
+          let y = is_held laws Always here two_batch many (λ is. right_proper) refit analysis (ap (analyzed here text) same ∙ e) in
           let found = x.0 in
-          let refound : encs_of qs (description here (declarations_of one_batch) meant).params ≡ Some (told_among (is_used meant.bound) 0 meant.encs) =
-          ap (λ ds. encs_of qs (description here ds meant).params) (sym same) ∙ y.0 in
+          let refound : encs_of qs (description here (declarations_of one_batch) analysis).params ≡ Some (known_among (is_used analysis.bound) 0 analysis.encs) =
+          ap (λ ds. encs_of qs (description here ds analysis).params) (sym same) ∙ y.0 in
           let p : Pending = record
-          { batch = one_batch; version = here.version; keys = (description here (declarations_of one_batch) meant).keys; encs = told_among (is_used meant.bound) 0 meant.encs } in
-          let params2 : AllTwinParams (Listing literals) (told_among (is_used meant.bound) 0 meant.encs) ps qs = rw found at params in
+          { batch = one_batch; version = here.version; keys = (description here (declarations_of one_batch) analysis).keys; encs = known_among (is_used analysis.bound) 0 analysis.encs } in
+          let params2 : AllTwinParams (Listing literals) (known_among (is_used analysis.bound) 0 analysis.encs) ps qs = rw found at params in
           let rest2 : RestOf (plain.readied walk readied p) = rw found at rest in
-          let told = keys_told laws keys key_for here fits p (x.1.same refl) in
+          let known = keys_known laws keys key_for here fits p (x.1.same refl) in
           λ n m left right a b. asks_goes laws keys key_for literals twins (own ∷ more) _ _ _ _ (refl, (refl, tt))
           (rw (
             found,
             refound,
-            open_twins (Listing literals) (told_among (is_used meant.bound) 0 meant.encs)
-                ps qs params2 forced (told_among (is_used meant.bound) 0 meant.encs),
+            open_twins (Listing literals) (known_among (is_used analysis.bound) 0 analysis.encs)
+                ps qs params2 forced (known_among (is_used analysis.bound) 0 analysis.encs),
           )
-          (readied_goes (description here (declarations_of one_batch) meant) p.encs
-          (first_open forced ps p.encs) refl (λ rest. ready_goes p qs x.1 refl told params2 (y.1.sendable tt) rest) rest2 (suc n) (suc m) left right a b))
+          (readied_goes (description here (declarations_of one_batch) analysis) p.encs
+          (first_open forced ps p.encs) refl (λ rest. ready_goes p qs x.1 refl known params2 (y.1.sendable tt) rest) rest2 (suc n) (suc m) left right a b))
       described_goes fit refit (Err f) e same params rest =
           λ n m left right a b. asks_goes laws keys key_for literals twins (own ∷ more) _ _ _ _ (refl, (refl, tt))
           (prints (outcome.Refused f) (outcome.Refused f) refl None None nothing tt rest (suc n) (suc m) left right a b)
@@ -425,7 +426,7 @@ module _ (laws : LawsBelow) (keys : KeyMap) (key_for : ℕ → List ℕ) (litera
           λ n m left right a b. rw fit
           (subst Describes (sym same)
           (there_too
-          (described_goes e fit (understood here text (declarations_of one_batch)) refl same params
+          (described_goes e fit (analyzed here text (declarations_of one_batch)) refl same params
           (subst (λ (c : Catalog). RestOf (plain.described walk one_batch (plain.readied walk readied) (describe c text (declarations_of one_batch))))
           walk_is rest))) n m left right a b)
 
@@ -448,7 +449,7 @@ module _ (laws : LawsBelow) (keys : KeyMap) (key_for : ℕ → List ℕ) (litera
     executes_goes None None h z rest = prints (outcome.Failed NothingPending) (outcome.Failed NothingPending) refl None None nothing tt rest
     executes_goes (Some p) (Some q) h z rest =
         subst (λ x. Follow (executing true trusted number (session.Pending p) (after_all k)) (executing true trusted number x (after_all j)))
-        (sym (pending_same p q z)) (executing_goes p h z.told q.batch.params z.params z.sendable rest)
+        (sym (pending_same p q z)) (executing_goes p h z.known q.batch.params z.params z.sendable rest)
     executes_goes before other h z rest = absurd z
 
   same_batch : (batch other : Batch) → other.text ≡ batch.text → other.forced ≡ batch.forced → record { text = batch.text; params = other.params; forced = batch.forced } ≡ other
@@ -475,21 +476,21 @@ module _ (laws : LawsBelow) (keys : KeyMap) (key_for : ℕ → List ℕ) (litera
       other.params within (twin_few (Listing literals) encs batch.text batch.forced batch.params other.params t.2 within) proper
       (twins_proper literals twins encs batch.params other.params proper t.2)
       (λ p. executing true trusted number (session.Pending p) (after_all k)) (λ p. executing true trusted number (session.Pending p) (after_all j)) (plain.execution_of keys trusted walk number)
-      (λ p qs held same told params sendable rest. executing_goes trusted w v walk number fits st k j own more Rest go p held told qs params sendable rest) before later h z t.2 rest)
+      (λ p qs held same known params sendable rest. executing_goes trusted w v walk number fits st k j own more Rest go p held known qs params sendable rest) before later h z t.2 rest)
   turn_goes trusted number (acts.Half batch) (acts.Half other) w v walk fits st k j own more Rest go within proper before later h z t rest =
       let encs = encs_described (catalog_of walk number) batch before in
       let at : Batch
       → Type 0 = λ c. AreFollowed laws keys key_for literals twins (own ∷ more) w v [] []
       (turn trusted number (acts.Half batch) (resting before) k) (turn trusted number (acts.Half c) (resting later) j) in
-      let told_of : Pending → outcomes.Outcome = λ p. outcome.Described (described_params p.keys (uses_of p)) in
+      let driver_outcome : Pending → outcomes.Outcome = λ p. outcome.Described (described_params p.keys (uses_of p)) in
       subst at (same_batch batch other t.0 t.1)
       (begins_goes trusted w v walk number fits st k j own more Rest go batch.text batch.forced batch.params
       other.params within (twin_few (Listing literals) encs batch.text batch.forced batch.params other.params t.2 within) proper
-      (twins_proper literals twins encs batch.params other.params proper t.2) (λ p. Prints (told_of p) (k (session.Pending p))) (λ p. Prints (told_of p) (j (session.Pending p))) (plain.waits walk)
-      (λ p qs held same told params sendable rest.
+      (twins_proper literals twins encs batch.params other.params proper t.2) (λ p. Prints (driver_outcome p) (k (session.Pending p))) (λ p. Prints (driver_outcome p) (j (session.Pending p)))
+      (plain.waits walk) (λ p qs held same known params sendable rest.
       let described = ap outcome.Described (described_same (Listing literals) p.keys (uses_of p) (uses_in qs p.encs) (uses_twins (Listing literals) p.encs p.batch.params qs params)) in
-      prints trusted w v walk number fits st k j own more Rest go (told_of p) (told_of (twin_of p qs)) described
-      (Some p) (Some (twin_of p qs)) held (record { is = refl; told = told; params = params; sendable = sendable }) rest)
+      prints trusted w v walk number fits st k j own more Rest go (driver_outcome p) (driver_outcome (twin_of p qs)) described
+      (Some p) (Some (twin_of p qs)) held (record { is = refl; known = known; params = params; sendable = sendable }) rest)
       before later h z t.2 rest)
   turn_goes trusted number acts.Execute acts.Execute w v walk fits st k j own more Rest go within proper before later h z t rest =
       executes_goes trusted w v walk number fits st k j own more Rest go before later h z rest
@@ -524,7 +525,7 @@ module _ (laws : LawsBelow) (keys : KeyMap) (key_for : ℕ → List ℕ) (litera
       (subst (λ y. next_to (all_resting (with_held holds number after)) y) (sym (set_resting laters (number - 1) later))
       (subst with_more (sym rest.1) (next trusted (with_held holds number after) (with_held laters number later) now others_now walk st (all_go Always w now number holds after goes held)
       (zip_set (AreTwinHeld keys key_for literals) holds laters (number - 1) after later z same) rest.2 rest.0))))
-      within proper (held_at holds number) (held_at laters number) (hold_place Always w number holds held)
+      within proper (held_at holds number) (held_at laters number) (hold_position Always w number holds held)
       (zip_at (AreTwinHeld keys key_for literals) holds laters (number - 1) None None z tt) t.1 (refl, (t.2, refl, f.1))))
 
   step_goes : (step other : Step) (steps others : List Step) → IsWithinLimits step → IsProperStep step → Next steps others → Next (step ∷ steps) (other ∷ others)

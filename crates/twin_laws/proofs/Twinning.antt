@@ -94,7 +94,7 @@ same_size : (ks others : Keys) (t : Ty) (d e : Datum) (x y : List ℕ) → IsSea
 same_size ks others t d e x y h g l = (g.long ∙ ap (λ n. 49 + (n / 16 + 1) * 16) l ∙ sym h.long, g.byte ∙ sym h.byte)
 
 module _ (seals : SealLaws) (keys : KeyMap) (key_for : ℕ → List ℕ) (literals : List Entry) (twins : AreTwinLiterals literals)
-    (trusted : List (List ℕ)) (metas : List KeyMeta) (told : OpenAs keys key_for metas) (t : Ty) where
+    (trusted : List (List ℕ)) (metas : List KeyMeta) (known : OpenAs keys key_for metas) (t : Ty) where
   abbrev Twin : Pairing
   Twin = Twinning key_for literals
 
@@ -119,12 +119,12 @@ module _ (seals : SealLaws) (keys : KeyMap) (key_for : ℕ → List ℕ) (litera
   sealed_twins (enc.Det id) v u a b p q x y h =
       let xa = det_cellular seals keys trusted metas t x.0 id v x.1 p in
       let yb = det_cellular seals keys trusted metas t y.0 id u y.1 q in
-      twin_at (Det id t) x.0 y.0 v u a b (subst (Cellular x.0 t v) (sym x.2) xa) (subst (Cellular y.0 t u) (sym y.2) yb) (sealed_stands seals keys trusted metas t key_for (enc.Det id) v a told p x)
-      (sealed_stands seals keys trusted metas t key_for (enc.Det id) u b told q y) (λ d e l. (twins.values (Det id t) (Plain d) (Plain e) l).2) h
+      twin_at (Det id t) x.0 y.0 v u a b (subst (Cellular x.0 t v) (sym x.2) xa) (subst (Cellular y.0 t u) (sym y.2) yb) (sealed_stands seals keys trusted metas t key_for (enc.Det id) v a known p x)
+      (sealed_stands seals keys trusted metas t key_for (enc.Det id) u b known q y) (λ d e l. (twins.values (Det id t) (Plain d) (Plain e) l).2) h
   sealed_twins (enc.Rnd id) v u a b p q x y h =
       twin_at (Rnd id t) x.0 y.0 v u a b (rnd_cellular seals keys trusted metas t x.0 id v a x.1 p x.2)
-      (rnd_cellular seals keys trusted metas t y.0 id u b y.1 q y.2) (sealed_stands seals keys trusted metas t key_for (enc.Rnd id) v a told p x)
-      (sealed_stands seals keys trusted metas t key_for (enc.Rnd id) u b told q y) (λ d e l. (twins.values (Rnd id t) (Plain d) (Plain e) l).2) h
+      (rnd_cellular seals keys trusted metas t y.0 id u b y.1 q y.2) (sealed_stands seals keys trusted metas t key_for (enc.Rnd id) v a known p x)
+      (sealed_stands seals keys trusted metas t key_for (enc.Rnd id) u b known q y) (λ d e l. (twins.values (Rnd id t) (Plain d) (Plain e) l).2) h
 
 -- ---- rows of twins stand for rows that are paired
 

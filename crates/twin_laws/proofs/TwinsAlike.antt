@@ -1,4 +1,4 @@
--- What passes of twin scripts is the same but for a renaming: the pairs of cells at like places.
+-- What passes of twin scripts is the same except for a renaming: the pairs of cells at like places.
 use Rattle.std.proofs.Common.{ℕ, List, [], ◌∷◌, refl}
 use Rattle.std.specs.List.{AllZip}
 use Rattle.ae_base.specs.declared.frames.FrameVersion.{FrameVersion}

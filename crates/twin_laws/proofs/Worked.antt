@@ -19,7 +19,7 @@ use Rattle.plaintext_laws.specs.Reference.{nothing_held}
 use Rattle.resolve.specs.Bind.{bind}
 use Rattle.scalar.specs.Classes.{Det, Entry, Listing}
 use Rattle.script_lang.specs.declared.steps.Step.{Step}
-use Rattle.statement_analysis.specs.Describing.{understood}
+use Rattle.statement_analysis.specs.Describing.{analyzed}
 use Rattle.sql_grammar.specs.Parse.{operand_in, inner_in}
 use Rattle.sql_grammar.specs.Texts.{tree_of, statement_in}
 use Rattle.twin_laws.specs.Laws.{AllTwinOutcomes, columns_met}
@@ -33,7 +33,7 @@ inserting n = half 2 (codes "INSERT INTO t (a, b) VALUES (@p, 7)") (number (code
 
 -- the parameter is described as encrypted, so the list has its values
 pub one_value : (wrapped : List ℕ) → AreTwins (Listing (pair 5 6 ∷ [])) [] (inserting 5) (inserting 6) [] nothing_held (keyed wrapped)
-unfolding understood statement_in tree_of operand_in inner_in bind check_of inferred_encs least has_typing clash_behind rules encode
+unfolding analyzed statement_in tree_of operand_in inner_in bind check_of inferred_encs least has_typing clash_behind rules encode
 one_value wrapped = (refl, (refl, refl, ((refl, inr (0, omega arith, refl)), tt)), tt)
 
 -- beside a 6 that stays a 6 it is none: the two would become the same
@@ -53,7 +53,7 @@ one_row title n = Rows (record { titles = title ∷ []; rows = (value.Is (Num (p
 pub columns_of_steps : (wrapped : List ℕ) →
     columns_met [] (whole 1 (codes "SELECT a, b FROM t") [] ∷ whole 1 (codes "CREATE TABLE u (c INT)") [] ∷ []) [] nothing_held (keyed wrapped)
     ≡ (column (codes "a") (enc.Det 1) ∷ column (codes "b") enc.Plain ∷ []) ∷ [] ∷ []
-unfolding understood statement_in tree_of operand_in inner_in bind check_of inferred_encs least has_typing clash_behind rules encode
+unfolding analyzed statement_in tree_of operand_in inner_in bind check_of inferred_encs least has_typing clash_behind rules encode
 columns_of_steps wrapped = refl
 
 -- values that are paired may stand for each other in a column of their class

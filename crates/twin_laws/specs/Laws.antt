@@ -32,7 +32,7 @@ use Rattle.wire_encoding.specs.Packing.{payloads_of}
 abbrev pub TwinRows : Pairing → List Class → List Value → List Value → Type 0
 TwinRows R classes values others = RowsCorrespond R classes (map plain_atom values) (map plain_atom others)
 
--- equal but for the values of rows, which are paired place by place, at the classes of their columns
+-- equal except for the values of rows, which are paired place by place, at the classes of their columns
 abbrev pub TwinOutcomes : Pairing → List ResultColumn → Outcome → Outcome → Type 0
 TwinOutcomes R columns (Rows listing) (Rows other) = (other.titles ≡ listing.titles) × AllZip (TwinRows R (map class_of_result columns)) listing.rows other.rows
 TwinOutcomes R columns outcome other = other ≡ outcome
@@ -47,8 +47,8 @@ AllTwinOutcomes R columns outcomes others = ⊥
 abbrev pub columns_met : KeyMap → List Step → List (List ℕ) → List (Option Pending) → State → List (List ResultColumn)
 columns_met keys [] trusted holds state = []
 columns_met keys (Turn number act ∷ steps) trusted holds state =
-    let came = means keys trusted number act (held_at holds number) state in
-    came.columns ∷ columns_met keys steps trusted (with_held holds number came.held) came.state
+    let batch_end = means keys trusted number act (held_at holds number) state in
+    batch_end.columns ∷ columns_met keys steps trusted (with_held holds number batch_end.held) batch_end.state
 columns_met keys (Trust path ∷ steps) trusted holds state = columns_met keys steps (trusted ++ path ∷ []) holds state
 
 -- random bytes were there for each draw
@@ -61,12 +61,12 @@ IsNotDry (BadReply taken) = Unit {0}
 abbrev pub passed_over : KeyMap → List Step → List ℕ → Passed State
 passed_over keys steps entropy = over serve keys (talk steps [] nobody) 0 entropy empty_state []
 
--- in a version, the replies of two exchanges are carried by as many frames, which correspond one by one; before the first no columns are told
+-- in a version, the replies of two exchanges are carried by as many frames, which correspond one by one; before the first no columns are described
 abbrev pub AreCarriedAlike : Pairing → FrameVersion → Exchange → Exchange → Type 0
 AreCarriedAlike R version e f = PayloadsCorrespond R [] (payloads_of version e.replies) (payloads_of version f.replies)
 
--- what passes for the one passes for the other, but for a renaming: message by message and, in either version, frame by frame; what is printed for
--- the one is printed for the other, but for values that are paired, each at the class of its column
+-- what passes for the one passes for the other, except for a renaming: message by message and, in either version, frame by frame; what is printed for
+-- the one is printed for the other, except for values that are paired, each at the class of its column
 pub record AreAlike (literals : List Entry) (columns : List (List ResultColumn)) (p q : Passed State) : Type 0 where
   pub renaming : IsRenaming (pairs_in p.exchanges q.exchanges)
   pub exchanges : ExchangesCorrespond (Listing (pairs_in p.exchanges q.exchanges)) p.exchanges q.exchanges

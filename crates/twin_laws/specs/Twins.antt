@@ -50,13 +50,13 @@ pub record AreTwinLiterals (entries : List Entry) : Type 0 where
 -- ---- batches
 
 -- the class of a parameter; it is open where nothing is told of its encryption
-abbrev pub class_told : Ty → Option Enc → Class
-class_told ty None = Open
-class_told ty (Some enc) = class_of ty enc
+abbrev pub class_known : Ty → Option Enc → Class
+class_known ty None = Open
+class_known ty (Some enc) = class_of ty enc
 
 -- one name and type; at an open class the values are equal, at another both are NULL or they are paired
 abbrev pub TwinParams : Pairing → Option Enc → Param → Param → Type 0
-TwinParams R enc p q = (q.declaration ≡ p.declaration) × Correspond R (class_told p.declaration.ty enc) (plain_atom p.value) (plain_atom q.value)
+TwinParams R enc p q = (q.declaration ≡ p.declaration) × Correspond R (class_known p.declaration.ty enc) (plain_atom p.value) (plain_atom q.value)
 
 abbrev pub AllTwinParams : Pairing → List (Option Enc) → List Param → List Param → Type 0
 AllTwinParams R encs [] [] = Unit {0}
@@ -82,7 +82,7 @@ abbrev pub encs_described : Catalog → Batch → Option Pending → List (Optio
 encs_described catalog batch None = encs_where_fit (why_unfit batch) (encs_of_description batch (describe catalog batch.text (declarations_of batch)))
 encs_described catalog batch (Some p) = []
 
--- Equal but for values of parameters that are described as encrypted. A rotation has no twin, not even itself: it may move values of a
+-- Equal except for values of parameters that are described as encrypted. A rotation has no twin, not even itself: it may move values of a
 -- randomized class to a deterministic one, where it shows which of them are equal.
 abbrev pub TwinActs : Pairing → State → ℕ → Option Pending → Act → Act → Type 0
 TwinActs R state number before (Whole batch) (Whole other) = TwinBatches R (encs_described (catalog_of state number) batch before) batch other
@@ -97,7 +97,7 @@ abbrev pub AreTwins : Pairing → KeyMap → List Step → List Step → List (L
 AreTwins R keys [] [] trusted holds state = Unit {0}
 AreTwins R keys (Turn number act ∷ steps) (Turn n other ∷ others) trusted holds state =
     let before = held_at holds number in
-    let came = means keys trusted number act before state in
-    (n ≡ number) × TwinActs R state number before act other × AreTwins R keys steps others trusted (with_held holds number came.held) came.state
+    let batch_end = means keys trusted number act before state in
+    (n ≡ number) × TwinActs R state number before act other × AreTwins R keys steps others trusted (with_held holds number batch_end.held) batch_end.state
 AreTwins R keys (Trust path ∷ steps) (Trust other ∷ others) trusted holds state = (other ≡ path) × AreTwins R keys steps others (trusted ++ path ∷ []) holds state
 AreTwins R keys steps others trusted holds state = ⊥

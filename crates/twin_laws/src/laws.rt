@@ -9,7 +9,7 @@ use plaintext_laws::laws::laws_below;
 /// ever has open to one key, each run over a fresh server with random bytes that suffice: the pairs
 /// of cells at like places of what passes are a renaming, under which what passes for the one is
 /// what passes for the other, message by message and, in either version, frame by frame; and the
-/// outcomes are equal but for values of rows, which are paired as the scripts' are, each at the
+/// outcomes are equal except for values of rows, which are paired as the scripts' are, each at the
 /// class of its column. So what a server is sent, class by class and up to such a renaming, depends
 /// on protected values through NULL, their length and their sameness within a deterministic class
 /// alone. Nothing is said of a script with `:rotate`, which has no twins: a rotation may move

@@ -12,7 +12,7 @@ use ae_base::values::{Datum, Value};
 use sql_tree::bound::{
     Bound, BoundAssignment, BoundCondition, BoundDefinition, BoundDelete, BoundInsert, BoundItem,
     BoundItemValue, BoundJoin, BoundOperand, BoundOrderKey, BoundQuery, BoundRow, BoundSource,
-    BoundStatement, BoundTable, BoundUpdate, ColumnSite, PlaceAt,
+    BoundStatement, BoundTable, BoundUpdate, ColumnSite, OrdinalAt,
 };
 use sql_tree::conditions::Condition;
 use sql_tree::operands::{Operand, Term};
@@ -45,7 +45,7 @@ fn sum(alloc: Global, at: u32, x: Side, y: Side) -> Result<BoundOperand, AllocEr
     Ok(Operand::Sum { first, terms })
 }
 
-// Puts the condition of a part at the end, if it is one of a condition.
+// Appends the condition of a part, if it is one of a condition.
 fn push_condition(
     alloc: Global,
     part: &Part,
@@ -92,11 +92,14 @@ fn conditions(alloc: Global, parts: &[Part]) -> Result<Vec<BoundCondition>, Allo
     Ok(conditions)
 }
 
-fn keys(alloc: Global, parts: &[Part]) -> Result<Seq<PlaceAt>, AllocError> {
+fn keys(alloc: Global, parts: &[Part]) -> Result<Seq<OrdinalAt>, AllocError> {
     let mut keys = Seq::new(alloc);
     for part in parts {
-        if let Ask::Key(place) = part.1 {
-            keys.push(PlaceAt { at: part.0, place })?;
+        if let Ask::Key(ordinal) = part.1 {
+            keys.push(OrdinalAt {
+                at: part.0,
+                ordinal,
+            })?;
         }
     }
     Ok(keys)
@@ -105,10 +108,10 @@ fn keys(alloc: Global, parts: &[Part]) -> Result<Seq<PlaceAt>, AllocError> {
 fn order(alloc: Global, parts: &[Part]) -> Result<Seq<BoundOrderKey>, AllocError> {
     let mut keys = Seq::new(alloc);
     for part in parts {
-        if let Ask::Order(place) = part.1 {
+        if let Ask::Order(ordinal) = part.1 {
             keys.push(BoundOrderKey {
                 at: part.0,
-                place,
+                ordinal,
                 descending: false,
             })?;
         }
@@ -180,14 +183,14 @@ fn query(alloc: Global, parts: &[Part]) -> Option<BoundQuery> {
     })
 }
 
-fn named(alloc: Global, parts: &[Part]) -> Result<Seq<usize>, AllocError> {
-    let mut named = Seq::new(alloc);
+fn insert_columns(alloc: Global, parts: &[Part]) -> Result<Seq<usize>, AllocError> {
+    let mut columns = Seq::new(alloc);
     for part in parts {
-        if let Ask::Put(place, _) = part.1 {
-            named.push(place)?;
+        if let Ask::Put(ordinal, _) = part.1 {
+            columns.push(ordinal)?;
         }
     }
-    Ok(named)
+    Ok(columns)
 }
 
 // A row of the values of some parts.
@@ -202,20 +205,24 @@ fn row(alloc: Global, parts: &[Part]) -> Result<BoundRow, AllocError> {
 }
 
 fn insert(alloc: Global, parts: &[Part]) -> Option<BoundInsert> {
-    let named = named(alloc, parts).ok()?;
+    let columns = insert_columns(alloc, parts).ok()?;
     let table = name(alloc)?;
     let row = row(alloc, parts).ok()?;
     let rows = Seq::from_vec(vec![in alloc; row].ok()?);
-    Some(BoundInsert { table, named, rows })
+    Some(BoundInsert {
+        table,
+        columns,
+        rows,
+    })
 }
 
 fn assignments(alloc: Global, parts: &[Part]) -> Result<Seq<BoundAssignment>, AllocError> {
     let mut assignments = Seq::new(alloc);
     for part in parts {
-        if let Ask::Set(place, value) = part.1 {
+        if let Ask::Set(ordinal, value) = part.1 {
             assignments.push(BoundAssignment {
                 at: part.0,
-                place,
+                ordinal,
                 value: operand(part.0.saturating_add(1), value),
             })?;
         }
@@ -276,7 +283,7 @@ fn enc(kind: Kind) -> Option<Enc> {
     }
 }
 
-fn columns(alloc: Global) -> Option<Seq<ColumnSite>> {
+fn column_sites(alloc: Global) -> Option<Seq<ColumnSite>> {
     let mut columns = Seq::new(alloc);
     for (ty, kind) in &COLUMNS {
         columns
@@ -291,7 +298,7 @@ fn columns(alloc: Global) -> Option<Seq<ColumnSite>> {
 
 pub(crate) fn bound(alloc: Global, form: Form, parts: &[Part]) -> Option<Bound> {
     let params = Seq::from_vec(PARAMS.to_vec(alloc).ok()?);
-    let columns = columns(alloc)?;
+    let columns = column_sites(alloc)?;
     let statement = statement(alloc, form, parts)?;
     Some(Bound {
         params,

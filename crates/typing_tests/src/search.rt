@@ -38,8 +38,8 @@ impl Typing {
 
     fn of(&self, side: Side) -> Kind {
         match side {
-            Side::Column(place) => COLUMNS[place % 5].1,
-            Side::Param(place) => self.kinds[place % 3],
+            Side::Column(ordinal) => COLUMNS[ordinal % 5].1,
+            Side::Param(ordinal) => self.kinds[ordinal % 3],
             Side::Null => self.kinds[3],
             Side::One => Kind::Plain,
         }
@@ -79,7 +79,7 @@ impl Typing {
     }
 
     // How many of the parts in front hold, up to one that doesn't.
-    fn front(&self, parts: &[Part]) -> usize {
+    fn prefix_len(&self, parts: &[Part]) -> usize {
         for i in 0..parts.len() {
             if !self.meets(parts[i].1) {
                 return i;
@@ -102,8 +102,8 @@ impl Typing {
 
 fn type_of(side: Side) -> Option<Ty> {
     match side {
-        Side::Column(place) => Some(COLUMNS[place % 5].0),
-        Side::Param(place) => Some(PARAMS[place % 3]),
+        Side::Column(ordinal) => Some(COLUMNS[ordinal % 5].0),
+        Side::Param(ordinal) => Some(PARAMS[ordinal % 3]),
         Side::Null | Side::One => None,
     }
 }
@@ -122,8 +122,8 @@ pub(crate) fn searched(parts: &[Part]) -> Option<Answer> {
     let mut least = None;
     for choice in 0..CHOICES {
         let typing = Typing::of_choice(choice);
-        longest = typing.front(parts).max(longest);
-        if typing.front(parts) == parts.len() {
+        longest = typing.prefix_len(parts).max(longest);
+        if typing.prefix_len(parts) == parts.len() {
             least = Some(match least {
                 Some(known) => typing.common(&known),
                 None => typing,
@@ -131,7 +131,7 @@ pub(crate) fn searched(parts: &[Part]) -> Option<Answer> {
         }
     }
     match least {
-        Some(typing) if typing.front(parts) == parts.len() => {
+        Some(typing) if typing.prefix_len(parts) == parts.len() => {
             let [p, q, s, _] = typing.kinds;
             Some(Answer::Typed([p, q, s]))
         }

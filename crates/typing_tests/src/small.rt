@@ -60,7 +60,7 @@ pub(crate) enum Ask {
     Order(usize),
     // A column of GROUP BY or of a unique key.
     Key(usize),
-    // A value for a column, in VALUES and behind SET.
+    // A value for a column, in VALUES and after SET.
     Put(usize, Side),
     Set(usize, Side),
 }
@@ -71,7 +71,7 @@ pub(crate) type Part = (u32, Ask);
 // Whose parts they are.
 #[derive(Clone, Copy)]
 pub(crate) enum Form {
-    // A query. Its first part, if it is a condition, stands behind ON, the others behind WHERE.
+    // A query. Its first part, if it is a condition, stands after ON, the others after WHERE.
     Query,
     Insert,
     Update,

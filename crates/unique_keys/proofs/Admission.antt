@@ -70,14 +70,14 @@ all_read P [] i x h lt e = absurd (omega arith)
 all_read P (y ∷ xs) zero x h lt e = subst P (sym e) (All-head P y xs h)
 all_read P (y ∷ xs) (suc i) x h lt e = all_read P xs i x (All-tail P y xs h) (omega (arith, lt)) e
 
-keys_set : (indexes : List Indexed) (i : ℕ) (index new : Indexed) → index ≡ get_or indexes i index → new.places ≡ index.places → keys_of (slice_set indexes i new) ≡ keys_of indexes
+keys_set : (indexes : List Indexed) (i : ℕ) (index new : Indexed) → index ≡ get_or indexes i index → new.ordinals ≡ index.ordinals → keys_of (slice_set indexes i new) ≡ keys_of indexes
 keys_set [] i index new e p = refl
-keys_set (x ∷ indexes) zero index new e p = ap (λ k. k ∷ keys_of indexes) (p ∙ ap (λ (y : Indexed). y.places) e)
-keys_set (x ∷ indexes) (suc i) index new e p = ap (λ ks. x.places ∷ ks) (keys_set indexes i index new e p)
+keys_set (x ∷ indexes) zero index new e p = ap (λ k. k ∷ keys_of indexes) (p ∙ ap (λ (y : Indexed). y.ordinals) e)
+keys_set (x ∷ indexes) (suc i) index new e p = ap (λ ks. x.ordinals ∷ ks) (keys_set indexes i index new e p)
 
-key_read : (indexes : List Indexed) (i : ℕ) (index : Indexed) → i < length indexes → index ≡ get_or indexes i index → index.places ≡ get_or (keys_of indexes) i index.places
+key_read : (indexes : List Indexed) (i : ℕ) (index : Indexed) → i < length indexes → index ≡ get_or indexes i index → index.ordinals ≡ get_or (keys_of indexes) i index.ordinals
 key_read [] i index lt e = absurd (omega arith)
-key_read (x ∷ indexes) zero index lt e = ap (λ (y : Indexed). y.places) e
+key_read (x ∷ indexes) zero index lt e = ap (λ (y : Indexed). y.ordinals) e
 key_read (x ∷ indexes) (suc i) index lt e = key_read indexes i index (omega (arith, lt)) e
 
 -- ---- one index after another
@@ -87,7 +87,7 @@ abbrev pub NoneRefuses : (indexes : List Indexed) (rows : List (List Atom)) (i :
 NoneRefuses indexes rows i = first_twins 1 (keys_of indexes) rows ≡ first_twins (i + 1) (drop i (keys_of indexes)) rows
 
 keys_long : (indexes : List Indexed) → length (keys_of indexes) ≡ length indexes
-keys_long indexes = length-map indexes (λ (x : Indexed). x.places)
+keys_long indexes = length-map indexes (λ (x : Indexed). x.ordinals)
 
 get_or-drop : {A : Type 0} (xs : List A) (i : ℕ) (x : A) → get_or (drop i xs) 0 x ≡ get_or xs i x
 get_or-drop xs zero x = refl
@@ -103,7 +103,7 @@ drop_one [] (suc i) = sym (drop_all (suc i + 1) [] (omega arith))
 drop_one (x ∷ xs) (suc i) = let one : suc i + 1 ≡ suc (i + 1) = omega arith in drop_one xs i ∙ ap (λ n. drop n (x ∷ xs)) (sym one)
 
 module _ (numbers : List ℕ) (there rows : List (List Atom)) (indexes : List Indexed) (i : ℕ) (index : Indexed) (lt : i < length indexes) (is : index ≡ get_or indexes i index) where
-  key_is : index.places ≡ get_or (keys_of indexes) i index.places
+  key_is : index.ordinals ≡ get_or (keys_of indexes) i index.ordinals
   key_is = key_read indexes i index lt is
 
   key_within : i < length (keys_of indexes)
@@ -112,21 +112,21 @@ module _ (numbers : List ℕ) (there rows : List (List Atom)) (indexes : List In
   pub one_indexed : All (IndexesRows numbers there) indexes → IndexesRows numbers there index
   one_indexed h = all_read (IndexesRows numbers there) indexes i index h lt is
 
-  pub one_distinct : AreDistinct (keys_of indexes) there → has_twins index.places there ≡ false
-  one_distinct d = all_read (λ key. has_twins key there ≡ false) (keys_of indexes) i index.places d key_within key_is
+  pub one_distinct : AreDistinct (keys_of indexes) there → has_twins index.ordinals there ≡ false
+  one_distinct d = all_read (λ key. has_twins key there ≡ false) (keys_of indexes) i index.ordinals d key_within key_is
 
-  pub one_refuses : NoneRefuses indexes rows i → has_twins index.places rows ≡ true → first_twins 1 (keys_of indexes) rows ≡ Some (i + 1)
-  one_refuses s t = first_found rows (keys_of indexes) i index.places key_within key_is (first_twins 1 (keys_of indexes) rows) s t
+  pub one_refuses : NoneRefuses indexes rows i → has_twins index.ordinals rows ≡ true → first_twins 1 (keys_of indexes) rows ≡ Some (i + 1)
+  one_refuses s t = first_found rows (keys_of indexes) i index.ordinals key_within key_is (first_twins 1 (keys_of indexes) rows) s t
 
-  pub none_more : NoneRefuses indexes rows i → has_twins index.places rows ≡ false → NoneRefuses indexes rows (i + 1)
-  none_more s t = first_next rows (keys_of indexes) i index.places key_within key_is (first_twins 1 (keys_of indexes) rows) s t
+  pub none_more : NoneRefuses indexes rows i → has_twins index.ordinals rows ≡ false → NoneRefuses indexes rows (i + 1)
+  none_more s t = first_next rows (keys_of indexes) i index.ordinals key_within key_is (first_twins 1 (keys_of indexes) rows) s t
 
   pub keys_more : (all : List (List (List Atom))) (new keys : List (List Atom)) → all ≡ keys_for (take i (keys_of indexes)) new
-      → keys ≡ map (key_of index.places) new → all ++ keys ∷ [] ≡ keys_for (take (i + 1) (keys_of indexes)) new
+      → keys ≡ map (key_of index.ordinals) new → all ++ keys ∷ [] ≡ keys_for (take (i + 1) (keys_of indexes)) new
   keys_more all new keys a e =
       let ks = keys_of indexes in
-      ap (λ l. l ++ keys ∷ []) a ∙ ap (λ k. keys_for (take i ks) new ++ k ∷ []) e ∙ sym (map-append (λ key. map (key_of key) new) (take i ks) (index.places ∷ []))
-      ∙ ap (λ ps. keys_for ps new) (sym (take_more ks i index.places key_within ∙ ap (λ p. take i ks ++ p ∷ []) (sym key_is)))
+      ap (λ l. l ++ keys ∷ []) a ∙ ap (λ k. keys_for (take i ks) new ++ k ∷ []) e ∙ sym (map-append (λ key. map (key_of key) new) (take i ks) (index.ordinals ∷ []))
+      ∙ ap (λ ps. keys_for ps new) (sym (take_more ks i index.ordinals key_within ∙ ap (λ p. take i ks ++ p ∷ []) (sym key_is)))
 
 -- ---- indexes that stay of the rows that they were of
 
@@ -137,7 +137,7 @@ pub record AreKept (before now : List Indexed) : Type 0 where
 pub kept_start : (before : List Indexed) → AreKept before before
 kept_start before = record { keys = refl; same = λ numbers there h. h }
 
-pub kept_more : (before now : List Indexed) (i : ℕ) (index after : Indexed) → i < length now → index ≡ get_or now i index → AreKept before now → after.places ≡ index.places
+pub kept_more : (before now : List Indexed) (i : ℕ) (index after : Indexed) → i < length now → index ≡ get_or now i index → AreKept before now → after.ordinals ≡ index.ordinals
     → ((numbers : List ℕ) (there : List (List Atom)) → IndexesRows numbers there index → IndexesRows numbers there after) → AreKept before (slice_set now i after)
 kept_more before now i index after lt is s p r = record {
   keys = keys_set now i index after is p ∙ s.keys;
@@ -208,13 +208,13 @@ module _ (all left : List (List (List Atom))) (i : ℕ) (before now : List Index
     within_keys : i < length (keys_of before)
     within_keys = omega (arith, before_within, keys_long before)
 
-    its_key : index.places ≡ get_or (keys_of before) i index.places
+    its_key : index.ordinals ≡ get_or (keys_of before) i index.ordinals
     its_key = key_read before i index before_within same_index
 
-    pub its_keys : (rows : List (List Atom)) → all ≡ keys_for (keys_of before) rows → keys ≡ map (key_of index.places) rows
+    pub its_keys : (rows : List (List Atom)) → all ≡ keys_for (keys_of before) rows → keys ≡ map (key_of index.ordinals) rows
     its_keys rows e =
         let of_key : List ℕ → List (List Atom) = λ key. map (key_of key) rows in
-        let there = drop_there (keys_of before) i index.places within_keys its_key in
+        let there = drop_there (keys_of before) i index.ordinals within_keys its_key in
         ap (λ l. get_or l 0 keys) (first ∙ ap (drop i) e ∙ drop-map of_key i (keys_of before) ∙ ap (map of_key) there)
 
     pub its_room : (count : ℕ) → All (λ (x : Indexed). count ≤ x.keyed.spare) before → count ≤ index.keyed.spare
@@ -223,10 +223,10 @@ module _ (all left : List (List (List Atom))) (i : ℕ) (before now : List Index
     pub its_rows : (known : List ℕ) (there : List (List Atom)) → All (IndexesRows known there) before → IndexesRows known there index
     its_rows known there h = all_read (IndexesRows known there) before i index h before_within same_index
 
-    pub its_distinct : (rows : List (List Atom)) → AreDistinct (keys_of before) rows → has_twins index.places rows ≡ false
-    its_distinct rows d = all_read (λ key. has_twins key rows ≡ false) (keys_of before) i index.places d within_keys its_key
+    pub its_distinct : (rows : List (List Atom)) → AreDistinct (keys_of before) rows → has_twins index.ordinals rows ≡ false
+    its_distinct rows d = all_read (λ key. has_twins key rows ≡ false) (keys_of before) i index.ordinals d within_keys its_key
 
-    pub visited_more : (after : Indexed) → after.places ≡ index.places → AreVisited (i + 1) before (slice_set now i after)
+    pub visited_more : (after : Indexed) → after.ordinals ≡ index.ordinals → AreVisited (i + 1) before (slice_set now i after)
     visited_more after p = record {
       keys = keys_set now i index after is p ∙ s.keys;
       rest = drop-set-lt (i + 1) now i after (omega arith) ∙ sym (drop_one now i) ∙ ap (drop 1) s.rest ∙ drop_one before i;
@@ -260,9 +260,9 @@ taken_start keys before = record {
 }
 
 pub taken_more : (all left : List (List (List Atom))) (i : ℕ) (before now : List Indexed) (keys : List (List Atom)) → length all ≡ length before → keys ∷ left ≡ drop i all → AreTaken all i before now
-    → (index after : Indexed) → index ≡ get_or now i index → after.places ≡ index.places
-    → ((known : List ℕ) (there : List (List Atom)) (hits : List Bool) → length known ≡ length there → IndexesRows known there index → has_twins index.places there ≡ false
-    → keys ≡ map (key_of index.places) (hit there hits) → IndexesRows (unhit known hits) (unhit there hits) after)
+    → (index after : Indexed) → index ≡ get_or now i index → after.ordinals ≡ index.ordinals
+    → ((known : List ℕ) (there : List (List Atom)) (hits : List Bool) → length known ≡ length there → IndexesRows known there index → has_twins index.ordinals there ≡ false
+    → keys ≡ map (key_of index.ordinals) (hit there hits) → IndexesRows (unhit known hits) (unhit there hits) after)
     → index.keyed.spare ≤ after.keyed.spare + length keys → AreTaken all (i + 1) before (slice_set now i after)
 taken_more all left i before now keys long first s index after is p r m =
     let v = s.visited in
@@ -280,7 +280,7 @@ taken_more all left i before now keys long first s index after is p r m =
           all_taken (λ (index : Indexed). more ≤ index.keyed.spare) now i after lt (s.room count more e h) (omega (arith, had, each, m));
     }
 
--- what is known of the rows behind which others come
+-- what is known of the rows after which others come
 pub record AreComing (known : List ℕ) (there rows : List (List Atom)) (keys : List (List (List Atom))) (before : List Indexed) : Type 0 where
   pub long : length known ≡ length there
   pub indexed : All (IndexesRows known there) before
@@ -297,9 +297,9 @@ put_start numbers keys before = record { visited = visited_start before; rows = 
 
 pub put_more : (numbers : List ℕ) (all left : List (List (List Atom))) (i : ℕ) (before now : List Indexed) (keys : List (List Atom))
     → length all ≡ length before → keys ∷ left ≡ drop i all → ArePut numbers all i before now
-    → (index after : Indexed) → index ≡ get_or now i index → after.places ≡ index.places
-    → ((known : List ℕ) (there rows : List (List Atom)) → length known ≡ length there → IndexesRows known there index → keys ≡ map (key_of index.places) rows
-    → has_twins index.places (there ++ rows) ≡ false → IndexesRows (known ++ numbers) (there ++ rows) after)
+    → (index after : Indexed) → index ≡ get_or now i index → after.ordinals ≡ index.ordinals
+    → ((known : List ℕ) (there rows : List (List Atom)) → length known ≡ length there → IndexesRows known there index → keys ≡ map (key_of index.ordinals) rows
+    → has_twins index.ordinals (there ++ rows) ≡ false → IndexesRows (known ++ numbers) (there ++ rows) after)
     → ArePut numbers all (i + 1) before (slice_set now i after)
 put_more numbers all left i before now keys long first s index after is p r =
     let v = s.visited in
@@ -357,10 +357,10 @@ all_exchanged known there hits their new before after none k h = record { keys =
 -- ---- indexes that are copied
 
 pub copied_keys : (indexes copy : List Indexed) (i : ℕ) (index new : Indexed) → i < length indexes
-    → index ≡ get_or indexes i index → keys_of copy ≡ keys_of (take i indexes) → new.places ≡ index.places → keys_of (copy ++ new ∷ []) ≡ keys_of (take (i + 1) indexes)
+    → index ≡ get_or indexes i index → keys_of copy ≡ keys_of (take i indexes) → new.ordinals ≡ index.ordinals → keys_of (copy ++ new ∷ []) ≡ keys_of (take (i + 1) indexes)
 copied_keys indexes copy i index new lt is k p =
-    map-append (λ (x : Indexed). x.places) copy (new ∷ []) ∙ ap (λ ks. ks ++ new.places ∷ []) k ∙ ap (λ key. keys_of (take i indexes) ++ key ∷ []) p
-    ∙ sym (ap keys_of (take_more indexes i index lt ∙ ap (λ x. take i indexes ++ x ∷ []) (sym is)) ∙ map-append (λ (x : Indexed). x.places) (take i indexes) (index ∷ []))
+    map-append (λ (x : Indexed). x.ordinals) copy (new ∷ []) ∙ ap (λ ks. ks ++ new.ordinals ∷ []) k ∙ ap (λ key. keys_of (take i indexes) ++ key ∷ []) p
+    ∙ sym (ap keys_of (take_more indexes i index lt ∙ ap (λ x. take i indexes ++ x ∷ []) (sym is)) ∙ map-append (λ (x : Indexed). x.ordinals) (take i indexes) (index ∷ []))
 
 pub all_push : {A : Type 0} (P : A → Type 0) (xs : List A) (x : A) → All P xs → P x → All P (xs ++ x ∷ [])
 all_push P [] x h p = All-cons P x [] p (All-nil P)

@@ -150,14 +150,15 @@ left_unhit test from to (n ∷ ns) (row ∷ rows) (false ∷ hits) e h one = by_
 -- ---- keys that are put in
 
 -- as they are of the rows
-pub where_keys : (key : List Atom) (places : List ℕ) (ns : List ℕ) (rows : List (List Atom)) → number_where (are_alike key) ns (map (key_of places) rows) ≡ number_where (has_key places key) ns rows
-where_keys key places ns [] = refl
-where_keys key places [] (row ∷ rows) = refl
-where_keys key places (n ∷ ns) (row ∷ rows) = ap (λ o. cond (are_alike key (key_of places row)) (Some n) o) (where_keys key places ns rows)
+pub where_keys : (key : List Atom) (ordinals : List ℕ) (ns : List ℕ) (rows : List (List Atom))
+    → number_where (are_alike key) ns (map (key_of ordinals) rows) ≡ number_where (has_key ordinals key) ns rows
+where_keys key ordinals ns [] = refl
+where_keys key ordinals [] (row ∷ rows) = refl
+where_keys key ordinals (n ∷ ns) (row ∷ rows) = ap (λ o. cond (are_alike key (key_of ordinals row)) (Some n) o) (where_keys key ordinals ns rows)
 
-one_of_keys : (key : List Atom) (places : List ℕ) (rows : List (List Atom)) → IsOfOne (has_key places key) rows → IsOfOne (are_alike key) (map (key_of places) rows)
-one_of_keys key places [] one = tt
-one_of_keys key places (row ∷ rows) one = (λ t. any-map (are_alike key) (key_of places) rows ∙ one.0 t, one_of_keys key places rows one.1)
+one_of_keys : (key : List Atom) (ordinals : List ℕ) (rows : List (List Atom)) → IsOfOne (has_key ordinals key) rows → IsOfOne (are_alike key) (map (key_of ordinals) rows)
+one_of_keys key ordinals [] one = tt
+one_of_keys key ordinals (row ∷ rows) one = (λ t. any-map (are_alike key) (key_of ordinals) rows ∙ one.0 t, one_of_keys key ordinals rows one.1)
 
 pub put_where : (key : List Atom) (found : Option ℕ) (ns : List ℕ) (keys : List (List Atom)) → length ns ≡ length keys
     → IsOfOne (are_alike key) keys → put_in key found ns keys ≡ or_else (number_where (are_alike key) ns keys) found
@@ -173,19 +174,19 @@ put_where key found (n ∷ ns) (k ∷ keys) e one = by_test (are_alike key k) re
 
 -- ---- where no two rows are alike, each key is of one row at most
 
-pub one_of_distinct : (places : List ℕ) (key : List Atom) (rows : List (List Atom)) → has_twins places rows ≡ false → IsOfOne (has_key places key) rows
-one_of_distinct places key [] d = tt
-one_of_distinct places key (row ∷ rows) d =
-    let both = or_parts (list_any (alike_on places row) rows) (has_twins places rows) d in (
-      λ t. any_same (has_key places key) (alike_on places row) rows
-          (λ other. ap (λ k. are_alike k (key_of places other)) (alike_same key (key_of places row) t) ∙ sym (alike_on-keys places row other)) ∙ both.0,
-      one_of_distinct places key rows both.1,
+pub one_of_distinct : (ordinals : List ℕ) (key : List Atom) (rows : List (List Atom)) → has_twins ordinals rows ≡ false → IsOfOne (has_key ordinals key) rows
+one_of_distinct ordinals key [] d = tt
+one_of_distinct ordinals key (row ∷ rows) d =
+    let both = or_parts (list_any (alike_on ordinals row) rows) (has_twins ordinals rows) d in (
+      λ t. any_same (has_key ordinals key) (alike_on ordinals row) rows
+          (λ other. ap (λ k. are_alike k (key_of ordinals other)) (alike_same key (key_of ordinals row) t) ∙ sym (alike_on-keys ordinals row other)) ∙ both.0,
+      one_of_distinct ordinals key rows both.1,
     )
 
 -- parts of rows of which a test is true of one at most
-one_front : {A : Type 0} (test : A → Bool) (xs ys : List A) → IsOfOne test (xs ++ ys) → IsOfOne test ys
-one_front test [] ys one = one
-one_front test (x ∷ xs) ys one = one_front test xs ys one.1
+one_prefix : {A : Type 0} (test : A → Bool) (xs ys : List A) → IsOfOne test (xs ++ ys) → IsOfOne test ys
+one_prefix test [] ys one = one
+one_prefix test (x ∷ xs) ys one = one_prefix test xs ys one.1
 
 one_side : {A : Type 0} (test : A → Bool) (xs ys : List A) → IsOfOne test (xs ++ ys) → list_any test xs ≡ true → list_any test ys ≡ false
 one_side test [] ys one t = absurd cc
@@ -215,29 +216,29 @@ either_first test ns ms xs ys one = by_test (list_any test xs) refl
 -- ---- the index of the rows that are then there
 
 -- keys of rows that go
-pub taken_rows : (places : List ℕ) (before after : Keyed) (ns : List ℕ) (rows keys : List (List Atom)) (hits : List Bool) → length ns ≡ length rows
-    → ((key : List Atom) → number_at before key ≡ number_where (has_key places key) ns rows) → has_twins places rows ≡ false → keys ≡ map (key_of places) (hit rows hits)
+pub taken_rows : (ordinals : List ℕ) (before after : Keyed) (ns : List ℕ) (rows keys : List (List Atom)) (hits : List Bool) → length ns ≡ length rows
+    → ((key : List Atom) → number_at before key ≡ number_where (has_key ordinals key) ns rows) → has_twins ordinals rows ≡ false → keys ≡ map (key_of ordinals) (hit rows hits)
     → ((key : List Atom) → number_at after key ≡ taken_out key (number_at before key) keys)
-    → (key : List Atom) → number_at after key ≡ number_where (has_key places key) (unhit ns hits) (unhit rows hits)
-taken_rows places before after ns rows keys hits en i d k t key =
-    let test = has_key places key in
+    → (key : List Atom) → number_at after key ≡ number_where (has_key ordinals key) (unhit ns hits) (unhit rows hits)
+taken_rows ordinals before after ns rows keys hits en i d k t key =
+    let test = has_key ordinals key in
     let found = number_where test ns rows in
     t key ∙ ap (λ o. taken_out key o keys) (i key) ∙ ap (taken_out key found) k
-    ∙ ap (λ b. cond b None found) (any-map (are_alike key) (key_of places) (hit rows hits))
-    ∙ sym (where_unhit test ns rows hits en (one_of_distinct places key rows d))
+    ∙ ap (λ b. cond b None found) (any-map (are_alike key) (key_of ordinals) (hit rows hits))
+    ∙ sym (where_unhit test ns rows hits en (one_of_distinct ordinals key rows d))
 
 -- and of others that come
-pub put_rows : (places : List ℕ) (before after : Keyed) (ns ms : List ℕ) (rows new keys : List (List Atom)) → length ns ≡ length rows → length ms ≡ length keys
-    → ((key : List Atom) → number_at before key ≡ number_where (has_key places key) ns rows) → keys ≡ map (key_of places) new → has_twins places (rows ++ new) ≡ false
+pub put_rows : (ordinals : List ℕ) (before after : Keyed) (ns ms : List ℕ) (rows new keys : List (List Atom)) → length ns ≡ length rows → length ms ≡ length keys
+    → ((key : List Atom) → number_at before key ≡ number_where (has_key ordinals key) ns rows) → keys ≡ map (key_of ordinals) new → has_twins ordinals (rows ++ new) ≡ false
     → ((key : List Atom) → number_at after key ≡ put_in key (number_at before key) ms keys)
-    → (key : List Atom) → number_at after key ≡ number_where (has_key places key) (ns ++ ms) (rows ++ new)
-put_rows places before after ns ms rows new keys en em i k d p key =
-    let test = has_key places key in
+    → (key : List Atom) → number_at after key ≡ number_where (has_key ordinals key) (ns ++ ms) (rows ++ new)
+put_rows ordinals before after ns ms rows new keys en em i k d p key =
+    let test = has_key ordinals key in
     let found = number_where test ns rows in
-    let all = one_of_distinct places key (rows ++ new) d in
-    let long : length ms ≡ length (map (key_of places) new) = em ∙ ap length k in
-    p key ∙ ap (put_in key (number_at before key) ms) k ∙ ap (λ o. put_in key o ms (map (key_of places) new)) (i key)
-    ∙ put_where key found ms (map (key_of places) new) long (one_of_keys key places new (one_front test rows new all))
-    ∙ ap (λ o. or_else o found) (where_keys key places ms new)
+    let all = one_of_distinct ordinals key (rows ++ new) d in
+    let long : length ms ≡ length (map (key_of ordinals) new) = em ∙ ap length k in
+    p key ∙ ap (put_in key (number_at before key) ms) k ∙ ap (λ o. put_in key o ms (map (key_of ordinals) new)) (i key)
+    ∙ put_where key found ms (map (key_of ordinals) new) long (one_of_keys key ordinals new (one_prefix test rows new all))
+    ∙ ap (λ o. or_else o found) (where_keys key ordinals ms new)
     ∙ either_first test ns ms rows new all
     ∙ sym (where_append test ns ms rows new en)

@@ -45,7 +45,7 @@ has_twins-append key (row ∷ old) new =
     ∙ ap (λ b. (list_any (alike_on key row) old || list_any (alike_on key row) new) || b) (has_twins-append key old new)
     ∙ shuffle (list_any (alike_on key row) old) (list_any (alike_on key row) new) (has_twins key old) (list_any (λ row. list_any (alike_on key row) new) old) (has_twins key new)
 
--- one row behind others that differ
+-- one row after others that differ
 twins_push : (key : List ℕ) (rows : List (List Atom)) (row : List Atom) → has_twins key rows ≡ false → has_twins key (rows ++ row ∷ []) ≡ list_any (alike_on key row) rows
 twins_push key rows row h =
     has_twins-append key rows (row ∷ []) ∙ ap (λ b. b || (list_any (λ other. list_any (alike_on key other) (row ∷ [])) rows || false)) h
@@ -115,22 +115,22 @@ unhit_differ key (row ∷ rows) (false ∷ hits) d =
 
 -- the keys that an index has beside the numbers that go are those of the rows that stay
 known_left : (known gone : List ℕ) (there : List (List Atom)) (hits : List Bool) (to : ℕ) (index : Indexed)
-    → length known ≡ length there → AreRising 0 to known → IndexesRows known there index → has_twins index.places there ≡ false → gone ≡ hit known hits
-    → (k : List Atom) → is_known gone index.keyed k ≡ list_any (are_alike k) (map (key_of index.places) (unhit there hits))
+    → length known ≡ length there → AreRising 0 to known → IndexesRows known there index → has_twins index.ordinals there ≡ false → gone ≡ hit known hits
+    → (k : List Atom) → is_known gone index.keyed k ≡ list_any (are_alike k) (map (key_of index.ordinals) (unhit there hits))
 known_left known gone there hits to index e h i d g k =
     ap (λ ns. is_left ns (number_at index.keyed k)) g ∙ ap (is_left (hit known hits)) (i k)
-    ∙ left_unhit (has_key index.places k) 0 to known there hits e h (one_of_distinct index.places k there d)
-    ∙ sym (any-map (are_alike k) (key_of index.places) (unhit there hits))
+    ∙ left_unhit (has_key index.ordinals k) 0 to known there hits e h (one_of_distinct index.ordinals k there d)
+    ∙ sym (any-map (are_alike k) (key_of index.ordinals) (unhit there hits))
 
 -- one is found exactly where two rows are then alike, as long as no two of the old ones are
 pub twins_found : (known gone : List ℕ) (there new : List (List Atom)) (hits : List Bool) (to : ℕ) (index : Indexed)
-    → length known ≡ length there → AreRising 0 to known → IndexesRows known there index → has_twins index.places there ≡ false → gone ≡ hit known hits
-    → is_some (first_alike gone index.keyed (map (key_of index.places) new)) ≡ has_twins index.places (unhit there hits ++ new)
+    → length known ≡ length there → AreRising 0 to known → IndexesRows known there index → has_twins index.ordinals there ≡ false → gone ≡ hit known hits
+    → is_some (first_alike gone index.keyed (map (key_of index.ordinals) new)) ≡ has_twins index.ordinals (unhit there hits ++ new)
 twins_found known gone there new hits to index e h i d g =
-    found_twins index.places 0 gone index.keyed [] (unhit there hits) new
-    (λ k. or_none (is_known gone index.keyed k) ∙ known_left known gone there hits to index e h i d g k) (unhit_differ index.places there hits d)
+    found_twins index.ordinals 0 gone index.keyed [] (unhit there hits) new
+    (λ k. or_none (is_known gone index.keyed k) ∙ known_left known gone there hits to index e h i d g k) (unhit_differ index.ordinals there hits d)
 
--- ---- keys from a place on
+-- ---- keys from an ordinal on
 
 module _ (rows : List (List Atom)) (keys : List (List ℕ)) (i : ℕ) (key : List ℕ) (lt : i < length keys) (e : key ≡ get_or keys i key) (whole : Option ℕ) where
   first_at : whole ≡ first_twins (i + 1) (drop i keys) rows → whole ≡ (if has_twins key rows then Some (i + 1) else first_twins ((i + 1) + 1) (drop (i + 1) keys) rows)

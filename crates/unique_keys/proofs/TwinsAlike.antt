@@ -12,7 +12,7 @@ use Rattle.operators.proofs.Interface.{any_alike, alike_there}
 
 module _ (R : Pairing) (r : IsOneToOne R) where
   twins_alike : (classes : List Class) (key : List ℕ) (rows others : List (List Atom))
-      → All (λ place. IsNotRandomized (class_at classes place)) key → AllZip (RowsCorrespond R classes) rows others → has_twins key rows ≡ has_twins key others
+      → All (λ ordinal. IsNotRandomized (class_at classes ordinal)) key → AllZip (RowsCorrespond R classes) rows others → has_twins key rows ≡ has_twins key others
   twins_alike classes key [] [] t h = refl
   twins_alike classes key [] (o ∷ others) t h = absurd h
   twins_alike classes key (row ∷ rows) [] t h = absurd h
@@ -21,11 +21,11 @@ module _ (R : Pairing) (r : IsOneToOne R) where
       ∙ ap (λ b. list_any (alike_on key o) others || b) (twins_alike classes key rows others t h.1)
 
   pub first_alike : (classes : List Class) (number : ℕ) (keys : List (List ℕ)) (rows others : List (List Atom))
-      → All (λ key. All (λ place. IsNotRandomized (class_at classes place)) key) keys → AllZip (RowsCorrespond R classes) rows others
+      → All (λ key. All (λ ordinal. IsNotRandomized (class_at classes ordinal)) key) keys → AllZip (RowsCorrespond R classes) rows others
       → first_twins number keys rows ≡ first_twins number keys others
   first_alike classes number [] rows others t h = refl
   first_alike classes number (key ∷ keys) rows others t h =
       ap (λ b. if b then Some number else first_twins (number + 1) keys rows)
-      (twins_alike classes key rows others (All-head (λ key. All (λ place. IsNotRandomized (class_at classes place)) key) key keys t) h)
+      (twins_alike classes key rows others (All-head (λ key. All (λ ordinal. IsNotRandomized (class_at classes ordinal)) key) key keys t) h)
       ∙ ap (λ o. if has_twins key others then Some number else o)
-      (first_alike classes (number + 1) keys rows others (All-tail (λ key. All (λ place. IsNotRandomized (class_at classes place)) key) key keys t) h)
+      (first_alike classes (number + 1) keys rows others (All-tail (λ key. All (λ ordinal. IsNotRandomized (class_at classes ordinal)) key) key keys t) h)

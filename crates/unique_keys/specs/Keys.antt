@@ -8,8 +8,8 @@ use Rattle.operators.specs.Alike.{alike_on}
 
 -- two of the rows are
 abbrev pub has_twins : List ℕ → List (List Atom) → Bool
-has_twins places [] = false
-has_twins places (row ∷ rows) = list_any (alike_on places row) rows || has_twins places rows
+has_twins ordinals [] = false
+has_twins ordinals (row ∷ rows) = list_any (alike_on ordinals row) rows || has_twins ordinals rows
 
 -- the number of the first key on which two rows are alike
 abbrev pub first_twins : ℕ → List (List ℕ) → List (List Atom) → Option ℕ

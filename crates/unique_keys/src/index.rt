@@ -21,14 +21,14 @@ use std::marker::Model;
 
 /// The index of a unique key: the numbers of rows, found by what they have in its columns.
 pub struct UniqueIndex<K: Same> {
-    places: UniqueKey,
+    ordinals: UniqueKey,
     index: KeyIndex<K>,
 }
 
 impl<K: Same> Drop for UniqueIndex<K> {
     fn drop(self) {
         let UniqueIndex {
-            places: _,
+            ordinals: _,
             index: _,
         } = self;
     }
@@ -39,26 +39,26 @@ impl<K: Same> Model for UniqueIndex<K> {
 
     ghost Value = { Indexed };
 
-    ghost view = { λ i. record { places = i.places; keyed = i.index } };
+    ghost view = { λ i. record { ordinals = i.ordinals; keyed = i.index } };
 }
 
 impl<K: Same> UniqueIndex<K> {
     /// The index of no rows. It takes no memory.
-    pub fn new(alloc: Global, places: UniqueKey) -> UniqueIndex<K>
-        ensures places { result.places ≡ places }
+    pub fn new(alloc: Global, ordinals: UniqueKey) -> UniqueIndex<K>
+        ensures ordinals { result.ordinals ≡ ordinals }
         ensures rows { IndexesRows [] [] result }
     {
         UniqueIndex {
-            places,
+            ordinals,
             index: KeyIndex::new(alloc),
         }
     }
 
-    /// The places of the key's columns.
-    pub fn places(&self) -> &[usize]
-        ensures { result.now ≡ self.now.places }
+    /// The ordinals of the key's columns.
+    pub fn ordinals(&self) -> &[usize]
+        ensures { result.now ≡ self.now.ordinals }
     {
-        self.places.as_slice()
+        self.ordinals.as_slice()
     }
 
     /// The number of the row with a key.
@@ -70,19 +70,19 @@ impl<K: Same> UniqueIndex<K> {
 
     /// An index of the same rows, for the same key. What was sealed isn't copied.
     pub(crate) fn copy(&self, alloc: Global) -> Result<UniqueIndex<K>, AllocError>
-        ensures places { IfOk result (λ copy. copy.places ≡ self.now.places) }
+        ensures ordinals { IfOk result (λ copy. copy.ordinals ≡ self.now.ordinals) }
         ensures rows { (numbers : List ℕ) (rows : List (List Atom))
             → IndexesRows numbers rows self.now → IfOk result (IndexesRows numbers rows) }
     {
-        let places = self.places.copy()?;
+        let ordinals = self.ordinals.copy()?;
         let index = self.index.copy(alloc)?;
-        Ok(UniqueIndex { places, index })
+        Ok(UniqueIndex { ordinals, index })
     }
 
     /// Lets copies have all that is in the index, if there is memory for it: from then on a copy
     /// copies no row's key. The index stays of the rows that it was of.
     pub(crate) fn seal(&mut self, alloc: Global)
-        ensures places { self.new.places ≡ self.old.places }
+        ensures ordinals { self.new.ordinals ≡ self.old.ordinals }
         ensures rows { (numbers : List ℕ) (rows : List (List Atom))
             → IndexesRows numbers rows self.old → IndexesRows numbers rows self.new }
     {
@@ -91,7 +91,7 @@ impl<K: Same> UniqueIndex<K> {
 
     /// Makes room for so many keys more that are taken out or put in, if there is memory for it.
     pub(crate) fn reserve(&mut self, count: usize) -> Result<(), AllocError>
-        ensures places { self.new.places ≡ self.old.places }
+        ensures ordinals { self.new.ordinals ≡ self.old.ordinals }
         ensures rows { (numbers : List ℕ) (rows : List (List Atom))
             → IndexesRows numbers rows self.old → IndexesRows numbers rows self.new }
         ensures room { OnOk result (count ≤ self.new.keyed.spare) }
@@ -102,11 +102,11 @@ impl<K: Same> UniqueIndex<K> {
     /// Takes out the keys of rows that go. It takes no memory.
     pub(crate) fn take_out(&mut self, keys: Seq<Key<K>>)
         requires { length keys ≤ self.old.keyed.spare }
-        ensures places { self.new.places ≡ self.old.places }
+        ensures ordinals { self.new.ordinals ≡ self.old.ordinals }
         ensures rows { (known : List ℕ) (there : List (List Atom)) (hits : List Bool)
             → length known ≡ length there
-            → IndexesRows known there self.old → has_twins self.old.places there ≡ false
-            → keys ≡ map (key_of self.old.places) (hit there hits)
+            → IndexesRows known there self.old → has_twins self.old.ordinals there ≡ false
+            → keys ≡ map (key_of self.old.ordinals) (hit there hits)
             → IndexesRows (unhit known hits) (unhit there hits) self.new }
         ensures room { self.old.keyed.spare ≤ self.new.keyed.spare + length keys }
     {
@@ -117,11 +117,11 @@ impl<K: Same> UniqueIndex<K> {
     pub(crate) fn put_in(&mut self, numbers: &[usize], keys: Seq<Key<K>>)
         requires each { length numbers.now ≡ length keys }
         requires room { length keys ≤ self.old.keyed.spare }
-        ensures places { self.new.places ≡ self.old.places }
+        ensures ordinals { self.new.ordinals ≡ self.old.ordinals }
         ensures rows { (known : List ℕ) (there rows : List (List Atom))
             → length known ≡ length there → IndexesRows known there self.old
-            → keys ≡ map (key_of self.old.places) rows
-            → has_twins self.old.places (there ++ rows) ≡ false
+            → keys ≡ map (key_of self.old.ordinals) rows
+            → has_twins self.old.ordinals (there ++ rows) ≡ false
             → IndexesRows (known ++ numbers.now) (there ++ rows) self.new }
     {
         self.index.put_all(numbers, keys);
@@ -137,16 +137,16 @@ impl<K: Same> UniqueIndex<K> {
     ) -> Result<Option<Seq<Key<K>>>, AllocError>
         requires { (to : ℕ) × AreRising 0 to gone.now }
         ensures keys { IfOk result (λ found. IfSome found (λ keys.
-            keys ≡ map (key_of self.now.places) (map (λ row. row.now) rows.now))) }
+            keys ≡ map (key_of self.now.ordinals) (map (λ row. row.now) rows.now))) }
         ensures new { (known : List ℕ) (there : List (List Atom)) (hits : List Bool) (to : ℕ)
             → length known ≡ length there → AreRising 0 to known
-            → IndexesRows known there self.now → has_twins self.now.places there ≡ false
+            → IndexesRows known there self.now → has_twins self.now.ordinals there ≡ false
             → gone.now ≡ hit known hits
             → IfOk result (λ found.
-            has_twins self.now.places (unhit there hits ++ map (λ row. row.now) rows.now)
+            has_twins self.now.ordinals (unhit there hits ++ map (λ row. row.now) rows.now)
             ≡ not (is_some found)) }
     {
-        let keys = keys_of(alloc, self.places.as_slice(), rows)?;
+        let keys = keys_of(alloc, self.ordinals.as_slice(), rows)?;
         if first_uncounted(alloc, &self.index, gone, keys.as_slice())?.is_some() {
             drop(keys);
             return Ok(None);
@@ -155,17 +155,18 @@ impl<K: Same> UniqueIndex<K> {
     }
 }
 
-/// What rows have in the columns of these places.
+/// What rows have in the columns of these ordinals.
 pub(crate) fn keys_of<K: Same>(
     alloc: Global,
-    places: &[usize],
+    ordinals: &[usize],
     rows: &[&Row<K>],
 ) -> Result<Seq<Key<K>>, AllocError>
-    ensures { IfOk result (λ keys. keys ≡ map (key_of places.now) (map (λ row. row.now) rows.now)) }
+    ensures { IfOk result (λ keys. keys ≡ map (key_of ordinals.now)
+        (map (λ row. row.now) rows.now)) }
 {
     let mut keys = Seq::new(alloc);
     for row in rows {
-        keys.push(Key::of_row(alloc, places, row)?)?;
+        keys.push(Key::of_row(alloc, ordinals, row)?)?;
     }
     Ok(keys)
 }

@@ -20,7 +20,7 @@ use ae_base::uniques::UniqueNumber;
 use key_index::keys::Key;
 use std::alloc::{AllocError, Global};
 
-/// The number of the unique key of a place, from 0.
+/// The number of the unique key of an ordinal, from 0.
 pub fn numbered(i: usize) -> UniqueNumber
     requires { i < 8 }
     ensures { result ≡ i + 1 }
@@ -28,9 +28,9 @@ pub fn numbered(i: usize) -> UniqueNumber
     UniqueNumber::from_number((i + 1) as u8).unwrap()
 }
 
-/// Takes rows out of the index of each unique key, and puts in new ones, each with its number; or
+/// Takes rows out of the index of each unique key, and inserts new ones, each with its number; or
 /// answers the first key on which two rows would then be alike. The numbers of those that go rise.
-/// After a refusal the indexes are of the rows that they were of. The work is that of these rows.
+/// After a refusal the indexes are those of the old rows. The work is that of these rows.
 pub fn exchange<K: Same>(
     alloc: Global,
     indexes: &mut Vec<UniqueIndex<K>>,
@@ -57,7 +57,7 @@ pub fn exchange<K: Same>(
     Ok(())
 }
 
-/// Takes rows out of each index, or without memory out of none. The work is that of these rows.
+/// Takes rows out of each index, or out of memory out of none. The work is that of these rows.
 pub fn take_out<K: Same>(
     alloc: Global,
     indexes: &mut Vec<UniqueIndex<K>>,
@@ -121,7 +121,7 @@ fn make_ready<K: Same>(
 ) -> Result<Seq<Seq<Key<K>>>, Refusal>
     requires few { length indexes.old.items ≤ 8 }
     requires rising { (to : ℕ) × AreRising 0 to gone.now }
-    ensures places { keys_of indexes.new.items ≡ keys_of indexes.old.items }
+    ensures ordinals { keys_of indexes.new.items ≡ keys_of indexes.old.items }
     ensures same { (numbers : List ℕ) (there : List (List Atom))
         → All (IndexesRows numbers there) indexes.old.items
         → All (IndexesRows numbers there) indexes.new.items }
@@ -185,14 +185,14 @@ fn keys_of_each<K: Same>(
 {
     let mut all = Seq::new(alloc);
     for index in indexes {
-        all.push(keys_of(alloc, index.places(), rows)?)?;
+        all.push(keys_of(alloc, index.ordinals(), rows)?)?;
     }
     Ok(all)
 }
 
 /// Makes room in each index for so many keys more, if there is memory for it.
 fn reserve_each<K: Same>(indexes: &mut Vec<UniqueIndex<K>>, count: usize) -> Result<(), AllocError>
-    ensures places { keys_of indexes.new.items ≡ keys_of indexes.old.items }
+    ensures ordinals { keys_of indexes.new.items ≡ keys_of indexes.old.items }
     ensures same { (numbers : List ℕ) (there : List (List Atom))
         → All (IndexesRows numbers there) indexes.old.items
         → All (IndexesRows numbers there) indexes.new.items }
@@ -209,7 +209,7 @@ fn take_out_each<K: Same>(indexes: &mut Vec<UniqueIndex<K>>, keys: Seq<Seq<Key<K
     requires each { length keys ≡ length indexes.old.items }
     requires room { (count : ℕ) × (All (λ ks. count ≡ length ks) keys
         × All (λ index. count ≤ index.keyed.spare) indexes.old.items) }
-    ensures places { keys_of indexes.new.items ≡ keys_of indexes.old.items }
+    ensures ordinals { keys_of indexes.new.items ≡ keys_of indexes.old.items }
     ensures rows { (known : List ℕ) (there : List (List Atom)) (hits : List Bool)
         → length known ≡ length there
         → All (IndexesRows known there) indexes.old.items
@@ -236,7 +236,7 @@ fn put_in_each<K: Same>(
     requires each { length keys ≡ length indexes.old.items }
     requires numbered { All (λ ks. length numbers.now ≡ length ks) keys }
     requires room { All (λ index. length numbers.now ≤ index.keyed.spare) indexes.old.items }
-    ensures places { keys_of indexes.new.items ≡ keys_of indexes.old.items }
+    ensures ordinals { keys_of indexes.new.items ≡ keys_of indexes.old.items }
     ensures rows { (known : List ℕ) (there rows : List (List Atom))
         → length known ≡ length there
         → All (IndexesRows known there) indexes.old.items

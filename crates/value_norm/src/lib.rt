@@ -105,7 +105,7 @@ pub fn norm_is_one_to_one()
     ensures { NormIsOneToOne }
 {}
 
-/// The value that is computed of cell bytes is the one that has them.
+/// The value that is computed from cell bytes is the one that has them.
 pub fn value_of_is_the_one()
     ensures { ValueIsTheOne }
 {}

@@ -21,7 +21,7 @@ pub(crate) fn utf16le(alloc: Global, text: &str) -> Result<Vec<u8>, AllocError>
     Ok(bytes)
 }
 
-/// Puts a character's units at the end, each with its low byte first.
+/// Appends a character's units, each with its low byte first.
 fn push_character(bytes: &mut Vec<u8>, character: char) -> Result<(), AllocError>
     ensures { OnOk result (bytes.new.items
         ≡ bytes.old.items ++ flat_map unit_bytes (encode_utf16 character)) }

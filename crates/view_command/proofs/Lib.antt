@@ -4,4 +4,4 @@ mod Sizes
 mod Standing
 mod Taking
 mod Texts
-mod Told
+mod Replied

@@ -8,12 +8,12 @@ use Rattle.ae_base.specs.declared.atoms.AtomOf.TheVariants.{Null, Plain, Sealed}
 use Rattle.cell_counts.specs.declared.counts.Shown.TheVariants as shown
 use Rattle.first_seen.specs.Parts.{Spot, counted, is_seen, noted, number_in, seen_past, seen_with}
 use Rattle.scalar.specs.Classes.{Class, Open, Det, Rnd}
-use Rattle.tap_counts.specs.Counting.{Counts, Place, Tallied, frame_places, shown_of, spots_of, tallied, tallied_from}
+use Rattle.tap_counts.specs.Counting.{Counts, ClassedAtom, Tallied, frame_atoms, shown_of, spots_of, tallied, tallied_from}
 use Rattle.tap_counts.proofs.Interface.{spots_same}
 use Rattle.tap_listing.specs.Classes.{class_eq, classing, is_deterministic}
 use Rattle.tap_listing.specs.ClassLaws.{class_eq-Decides}
 use Rattle.tap_listing.specs.Frames.{atom_spots, frame_spots}
-use Rattle.tap_listing.specs.Tables.{Tables, Tells}
+use Rattle.tap_listing.specs.Tables.{Tables, Knows}
 use Rattle.tap_listing.specs.declared.frames.Frame.{Frame}
 use Rattle.view_command.proofs.Texts.{past_append}
 
@@ -23,7 +23,7 @@ Cells = List (Spot Class)
 abbrev spot : Class → List ℕ → Spot Class
 spot c x = record { class = c; cell = x }
 
--- ---- a cell that is seen, and more behind
+-- ---- a cell that is seen, and more after
 
 stays_counted : (a b r : Bool) (n m : ℕ) → ((a && b) || r) ≡ true → (r ≡ true → n ≡ m) → counted a b n ≡ counted a b m
 stays_counted false b r n m e f = f e
@@ -80,7 +80,7 @@ module _ (c : Class) (x : List ℕ) where
   noted_so true seen e = (e, refl)
   noted_so false seen e = (last_seen seen, last_number seen)
 
--- ---- cells seen are kept at the front
+-- ---- cells seen are kept at the start
 
 noted_grows : (b : Bool) (seen more : Cells) → (grown : Cells) × ((if b then seen else (seen ++ more)) ≡ seen ++ grown)
 noted_grows true seen more = ([], sym (append-nil seen))
@@ -119,36 +119,36 @@ module _ (c : Class) (x : List ℕ) (seen more : Cells) where
         there (is_seen classing later c x) later (later ++ spot c x ∷ []) seen_now,
       )
 
-place_again : (c : Class) (a : Atom) (seen more : Cells) → (shown_of c a (seen_past classing (seen_past classing seen (atom_spots c a)) more) ≡ shown_of c a seen)
+offset_again : (c : Class) (a : Atom) (seen more : Cells) → (shown_of c a (seen_past classing (seen_past classing seen (atom_spots c a)) more) ≡ shown_of c a seen)
     × (seen_past classing (seen_past classing (seen_past classing seen (atom_spots c a)) more) (atom_spots c a) ≡ seen_past classing (seen_past classing seen (atom_spots c a)) more)
-place_again Open Null seen more = (refl, refl)
-place_again Open (Plain v) seen more = (refl, refl)
-place_again Open (Sealed x) seen more = (refl, refl)
-place_again (Det k t) Null seen more = (refl, refl)
-place_again (Det k t) (Plain v) seen more = (refl, refl)
-place_again (Det k t) (Sealed x) seen more = let h = again (Det k t) x seen more in (ap shown.Numbered h.0, h.1)
-place_again (Rnd k t) Null seen more = (refl, refl)
-place_again (Rnd k t) (Plain v) seen more = (refl, refl)
-place_again (Rnd k t) (Sealed x) seen more = (refl, refl)
+offset_again Open Null seen more = (refl, refl)
+offset_again Open (Plain v) seen more = (refl, refl)
+offset_again Open (Sealed x) seen more = (refl, refl)
+offset_again (Det k t) Null seen more = (refl, refl)
+offset_again (Det k t) (Plain v) seen more = (refl, refl)
+offset_again (Det k t) (Sealed x) seen more = let h = again (Det k t) x seen more in (ap shown.Numbered h.0, h.1)
+offset_again (Rnd k t) Null seen more = (refl, refl)
+offset_again (Rnd k t) (Plain v) seen more = (refl, refl)
+offset_again (Rnd k t) (Sealed x) seen more = (refl, refl)
 
--- ---- the places of a frame again
+-- ---- the offsets of a frame again
 
-places_again : (places : List Place) (t : Tallied) (seen more : Cells) → (tallied_from t places (seen_past classing seen (spots_of places ++ more)) ≡ tallied_from t places seen)
-    × (seen_past classing (seen_past classing seen (spots_of places ++ more)) (spots_of places) ≡ seen_past classing seen (spots_of places ++ more))
-places_again [] t seen more = (refl, refl)
-places_again (p ∷ places) t seen more =
+offsets_again : (offsets : List ClassedAtom) (t : Tallied) (seen more : Cells) → (tallied_from t offsets (seen_past classing seen (spots_of offsets ++ more)) ≡ tallied_from t offsets seen)
+    × (seen_past classing (seen_past classing seen (spots_of offsets ++ more)) (spots_of offsets) ≡ seen_past classing seen (spots_of offsets ++ more))
+offsets_again [] t seen more = (refl, refl)
+offsets_again (p ∷ offsets) t seen more =
     let spots = atom_spots p.class p.atom in
-    let others = spots_of places in
+    let others = spots_of offsets in
     let first = seen_past classing seen spots in
     let all = seen_past classing seen ((spots ++ others) ++ more) in
     let last = seen_past classing first (others ++ more) in
     let same : all ≡ last = ap (seen_past classing seen) (append_assoc spots others more) ∙ past_append seen spots (others ++ more) in
-    let one = place_again p.class p.atom seen (others ++ more) in
+    let one = offset_again p.class p.atom seen (others ++ more) in
     let tally = tallied t p.class (shown_of p.class p.atom seen) in
-    let rest = places_again places tally first more in (
-      ap (λ (l : Cells). tallied_from t (p ∷ places) l) same
-          ∙ ap (λ s. tallied_from (tallied t p.class s) places (seen_past classing last spots)) one.0
-          ∙ ap (λ (l : Cells). tallied_from tally places l) one.1
+    let rest = offsets_again offsets tally first more in (
+      ap (λ (l : Cells). tallied_from t (p ∷ offsets) l) same
+          ∙ ap (λ s. tallied_from (tallied t p.class s) offsets (seen_past classing last spots)) one.0
+          ∙ ap (λ (l : Cells). tallied_from tally offsets l) one.1
           ∙ rest.0,
       ap (λ (l : Cells). seen_past classing l (spots ++ others)) same
           ∙ past_append last spots others
@@ -159,15 +159,15 @@ places_again (p ∷ places) t seen more =
 
 -- the cells of a frame were shown, and then it was counted
 pub counted_again : (cs : List Class) (frame : Frame) (mid new : Tables) (before after : Tallied) (past : Cells)
-    → Tells mid (seen_past classing past (frame_spots cs frame)) → Counts (frame_places cs frame) mid new before after
-    → Tells new (seen_past classing past (frame_spots cs frame)) × (after ≡ tallied_from before (frame_places cs frame) past)
-counted_again cs frame mid new before after past told counts =
-    let places = frame_places cs frame in
-    let spots = spots_of places in
+    → Knows mid (seen_past classing past (frame_spots cs frame)) → Counts (frame_atoms cs frame) mid new before after
+    → Knows new (seen_past classing past (frame_spots cs frame)) × (after ≡ tallied_from before (frame_atoms cs frame) past)
+counted_again cs frame mid new before after past exposed counts =
+    let offsets = frame_atoms cs frame in
+    let spots = spots_of offsets in
     let now = seen_past classing past (frame_spots cs frame) in
-    let c = counts now told in
-    let h = places_again places before past [] in
+    let c = counts now exposed in
+    let h = offsets_again offsets before past [] in
     let same : seen_past classing past (spots ++ []) ≡ now = ap (seen_past classing past) (append-nil spots ∙ spots_same cs frame) in (
-      subst (λ (l : Cells). Tells new l) (ap (λ (l : Cells). seen_past classing l spots) (sym same) ∙ h.1 ∙ same) c.1,
-      c.0 ∙ ap (λ (l : Cells). tallied_from before places l) (sym same) ∙ h.0,
+      subst (λ (l : Cells). Knows new l) (ap (λ (l : Cells). seen_past classing l spots) (sym same) ∙ h.1 ∙ same) c.1,
+      c.0 ∙ ap (λ (l : Cells). tallied_from before offsets l) (sym same) ∙ h.0,
     )

@@ -35,11 +35,11 @@ use Rattle.tap_listing.specs.Frames.{
   part_of,
 }
 use Rattle.tap_listing.specs.declared.frames.Frame.{Frame}
-use Rattle.tap_listing.specs.declared.frames.Frame.TheVariants.{Asked, Told}
+use Rattle.tap_listing.specs.declared.frames.Frame.TheVariants.{Asked, Replied}
 
 abbrev pub frame_bytes : Frame → List ℕ
 frame_bytes (Asked asked) = asked_frame asked
-frame_bytes (Told told) = payload_frame told.version told.message
+frame_bytes (Replied exposed) = payload_frame exposed.version exposed.message
 
 abbrev cell_bytes : List (Label Class) → ℕ
 cell_bytes [] = 0
@@ -64,12 +64,12 @@ spots_append (s ∷ ss) ts = let e = spots_append ss ts in omega (arith, e)
 abbrev Longer : List ℕ → List ℕ → ℕ → Type 0
 Longer xs ys n = length xs ≡ length ys + n
 
-behind : (front xs ys : List ℕ) (n : ℕ) → Longer xs ys n → Longer (front ++ xs) (front ++ ys) n
-behind front xs ys n h = omega (arith, h, length-append front xs, length-append front ys)
+behind : (prefix xs ys : List ℕ) (n : ℕ) → Longer xs ys n → Longer (prefix ++ xs) (prefix ++ ys) n
+behind prefix xs ys n h = omega (arith, h, length-append prefix xs, length-append prefix ys)
 
--- fronts of one length
-behind_as_long : (front other xs ys : List ℕ) (n : ℕ) → length front ≡ length other → Longer xs ys n → Longer (front ++ xs) (other ++ ys) n
-behind_as_long front other xs ys n e h = omega (arith, e, h, length-append front xs, length-append other ys)
+-- prefixes of one length
+behind_as_long : (prefix other xs ys : List ℕ) (n : ℕ) → length prefix ≡ length other → Longer xs ys n → Longer (prefix ++ xs) (other ++ ys) n
+behind_as_long prefix other xs ys n e h = omega (arith, e, h, length-append prefix xs, length-append other ys)
 
 joined : (xs ys us vs : List ℕ) (n m k : ℕ) → Longer xs ys n → Longer us vs m → k ≡ n + m → Longer (xs ++ us) (ys ++ vs) k
 joined xs ys us vs n m k h i e = omega (arith, h, i, e, length-append xs us, length-append ys vs)
@@ -155,7 +155,7 @@ framed version kind other xs ys n h =
 frame_size : (classes : List Class) (f : Frame) → Longer (frame_bytes f) (frame_bytes (blank_frame classes f)) (spot_bytes (frame_spots classes f))
 frame_size classes (Asked a) = framed a.version (request_kind a.message) (request_kind (blank_request a.message))
     (request_body a.message) (request_body (blank_request a.message)) (spot_bytes (request_spots a.message)) (request_size a.message)
-frame_size classes (Told t) = framed t.version (payload_kind t.message) (payload_kind (blank_payload classes t.message))
+frame_size classes (Replied t) = framed t.version (payload_kind t.message) (payload_kind (blank_payload classes t.message))
     (payload_body t.message) (payload_body (blank_payload classes t.message)) (spot_bytes (payload_spots classes t.message)) (payload_size classes t.message)
 
 labels_size : (seen ss : List (Spot Class)) → cell_bytes (labels classing seen ss) ≡ spot_bytes ss
@@ -163,5 +163,5 @@ labels_size seen [] = refl
 labels_size seen (s ∷ ss) = ap (λ n. length s.cell + n) (labels_size (seen_with classing seen s) ss)
 
 -- an entry tells how long its frame is
-pub frame_size_told : (seen : List (Spot Class)) (classes : List Class) (f : Frame) → size_of (entry_of classing seen (part_of classes f)) ≡ size_of_frame f
-frame_size_told seen classes f = ap (λ n. length (frame_bytes (blank_frame classes f)) + n) (labels_size seen (frame_spots classes f)) ∙ sym (frame_size classes f)
+pub frame_size_exposed : (seen : List (Spot Class)) (classes : List Class) (f : Frame) → size_of (entry_of classing seen (part_of classes f)) ≡ size_of_frame f
+frame_size_exposed seen classes f = ap (λ n. length (frame_bytes (blank_frame classes f)) + n) (labels_size seen (frame_spots classes f)) ∙ sym (frame_size classes f)

@@ -1,4 +1,4 @@
--- How far the input was taken, and what was put where that ends.
+-- How far the input was taken, and what was written where that ends.
 use Rattle.std.proofs.Common.{◌≡◌, ◌+◌, ◌≤◌, ℕ, List, [], ◌++◌, length, take, Option, Some, None, Bool, refl, sym, subst, ◌∙◌, length-append, append-nil, arith, inl}
 use Rattle.std.specs.Prelude.{IfSome}
 use Rattle.std.proofs.lemmas.List.{take-append-le, take_all}
@@ -6,20 +6,20 @@ use Rattle.ae_base.specs.Limits.{most_stream_bytes}
 use Rattle.ae_edge.specs.Devices.{WhereExposed, Removes}
 use Rattle.ae_edge.specs.Sources.{Takes}
 use Rattle.ae_edge.specs.declared.sources.Taken.TheVariants as taken
-use Rattle.ae_edge.proofs.Interface.{told_map, removes_none, removes_then}
+use Rattle.ae_edge.proofs.Interface.{exposed_map, removes_none, removes_then}
 use Rattle.tap_counts.specs.Counting.{Tallied, no_tally}
 use Rattle.tap_listing.specs.Tables.{no_tables}
 use Rattle.tap_reading.specs.Reading.{is_tap_head}
 use Rattle.wire_frames.specs.Frames.{Whole, Refused, Rest, IsNotYet}
 use Rattle.view_command.specs.Streaming.{EndsAt, ListsAll, ListsInput, Stands}
 use Rattle.view_command.specs.Viewing.{ShowsFrames, ShowsOpen}
-use Rattle.view_command.specs.declared.commands.Viewed.{Viewed}
-use Rattle.view_command.specs.declared.commands.Viewed.TheVariants as ended
+use Rattle.view_command.specs.declared.commands.ViewEnding.{ViewEnding}
+use Rattle.view_command.specs.declared.commands.ViewEnding.TheVariants as ended
 use Rattle.view_command.specs.declared.frames.Seen.{Seen}
 use Rattle.view_command.specs.declared.held.Held.{Held}
 use Rattle.view_command.proofs.Standing.{lists_end, lists_more, shows_more, shows_open, shows_so_far, stands_first, stands_short}
 
--- so much was taken of the input that so many bytes may still be; its frames were put, and less than a frame is held
+-- so much was taken of the input that so many bytes may still be; its frames were written, and less than a frame is held
 pub record Going (page : Bool) (count : ℕ) (held : Held) (seen : Seen) (source left out now : Option (List ℕ)) : Type 0 where
   pub taken : List ℕ
   pub lost : Removes taken source left
@@ -40,14 +40,14 @@ goes_first page held seen source out at bytes classes cells tally = record {
 
 -- ---- what a call on the input takes
 
--- what is left, where it is told
+-- what is left, where it is exposed
 abbrev pub rest_of : Option (List ℕ) → List ℕ
 rest_of (Some bytes) = bytes
 rest_of None = []
 
-pub told_rest : (left : Option (List ℕ)) → IfSome left (λ bytes. rest_of left ≡ bytes)
-told_rest (Some bytes) = refl
-told_rest None = tt
+pub exposed_rest : (left : Option (List ℕ)) → IfSome left (λ bytes. rest_of left ≡ bytes)
+exposed_rest (Some bytes) = refl
+exposed_rest None = tt
 
 none_left : (left after : Option (List ℕ)) → WhereExposed (Takes taken.End) left after → rest_of after ≡ []
 none_left (Some x) (Some y) h = h.1
@@ -56,16 +56,16 @@ none_left (Some x) None h = absurd h
 none_left None (Some y) h = absurd h
 
 removes_piece : (piece : List ℕ) (left after : Option (List ℕ)) → WhereExposed (Takes (taken.Bytes piece)) left after → Removes piece left after
-removes_piece piece left after h = told_map (Takes (taken.Bytes piece)) (λ (x y : List ℕ). x ≡ piece ++ y) (λ x y e. e) left after h
+removes_piece piece left after h = exposed_map (Takes (taken.Bytes piece)) (λ (x y : List ℕ). x ≡ piece ++ y) (λ x y e. e) left after h
 
 removes_end : (left after : Option (List ℕ)) → WhereExposed (Takes taken.End) left after → Removes [] left after
-removes_end left after h = told_map (Takes taken.End) (λ (x y : List ℕ). x ≡ [] ++ y) (λ x y e. e.0 ∙ sym e.1) left after h
+removes_end left after h = exposed_map (Takes taken.End) (λ (x y : List ℕ). x ≡ [] ++ y) (λ x y e. e.0 ∙ sym e.1) left after h
 
 removes_failed : (left after : Option (List ℕ)) → WhereExposed (Takes taken.Failed) left after → Removes [] left after
-removes_failed left after h = told_map (Takes taken.Failed) (λ (x y : List ℕ). x ≡ [] ++ y) (λ x y e. sym e) left after h
+removes_failed left after h = exposed_map (Takes taken.Failed) (λ (x y : List ℕ). x ≡ [] ++ y) (λ x y e. sym e) left after h
 
 removes_unheld : (left after : Option (List ℕ)) → WhereExposed (Takes taken.OutOfMemory) left after → Removes [] left after
-removes_unheld left after h = told_map (Takes taken.OutOfMemory) (λ (x y : List ℕ). x ≡ [] ++ y) (λ x y e. sym e) left after h
+removes_unheld left after h = exposed_map (Takes taken.OutOfMemory) (λ (x y : List ℕ). x ≡ [] ++ y) (λ x y e. sym e) left after h
 
 -- ---- and how it goes on, or ends
 
@@ -79,7 +79,7 @@ module _ (page : Bool) (count : ℕ) (held : Held) (seen : Seen) (source left ou
   within : length g.taken ≤ most_stream_bytes
   within = omega (arith, g.few)
 
-  -- places are within the limit
+  -- offsets are within the limit
   pub short : held.at + length held.bytes.items ≤ most_stream_bytes
   short = omega (arith, within, stands_short page g.taken held seen out now g.stands)
 
@@ -106,15 +106,15 @@ module _ (page : Bool) (count : ℕ) (held : Held) (seen : Seen) (source left ou
           waits = h.1;
         }
 
-    pub ends_refused : (place : ℕ) (tally : Tallied) (new : Option (List ℕ))
-        → After (λ bytes first. ListsAll page (Refused place) bytes tally first new) → ListsInput page (ended.BadFrame place) tally source after out new
-    ends_refused place tally new f = record {
+    pub ends_refused : (offset : ℕ) (tally : Tallied) (new : Option (List ℕ))
+        → After (λ bytes first. ListsAll page (Refused offset) bytes tally first new) → ListsInput page (ended.BadFrame offset) tally source after out new
+    ends_refused offset tally new f = record {
       taken = g.taken ++ piece;
       rest = rest_of after;
       lost = lost_more piece after took;
-      told = told_rest after;
+      exposed = exposed_rest after;
       few = still_within;
-      lists = lists_more page place (g.taken ++ piece) (rest_of after) tally out new (f g.taken out g.stands);
+      lists = lists_more page offset (g.taken ++ piece) (rest_of after) tally out new (f g.taken out g.stands);
     }
 
     pub ends_unput : (tally : Tallied) (new : Option (List ℕ)) → After (λ bytes first. ShowsFrames page [] bytes first new) → ListsInput page ended.WriteFault tally source after out new
@@ -122,7 +122,7 @@ module _ (page : Bool) (count : ℕ) (held : Held) (seen : Seen) (source left ou
       taken = g.taken ++ piece;
       rest = rest_of after;
       lost = lost_more piece after took;
-      told = told_rest after;
+      exposed = exposed_rest after;
       few = still_within;
       lists = shows_more page [] (g.taken ++ piece) (rest_of after) out new (f g.taken out g.stands);
     }
@@ -132,7 +132,7 @@ module _ (page : Bool) (count : ℕ) (held : Held) (seen : Seen) (source left ou
       taken = g.taken ++ piece;
       rest = rest_of after;
       lost = lost_more piece after took;
-      told = told_rest after;
+      exposed = exposed_rest after;
       few = still_within;
       lists = shows_more page [] (g.taken ++ piece) (rest_of after) out new (f g.taken out g.stands);
     }
@@ -142,15 +142,15 @@ module _ (page : Bool) (count : ℕ) (held : Held) (seen : Seen) (source left ou
       → length piece ≡ 1 → count ≡ 0 → ListsInput page ended.TooLong seen.tally source after out now
   ends_past piece after took one none =
       let all : length g.taken ≡ most_stream_bytes = omega (arith, g.few, none) in
-      let front : take most_stream_bytes (g.taken ++ piece) ≡ g.taken =
+      let prefix : take most_stream_bytes (g.taken ++ piece) ≡ g.taken =
       take-append-le most_stream_bytes g.taken piece (omega (arith, all)) ∙ take_all most_stream_bytes g.taken (omega (arith, all)) in
       record {
         taken = g.taken ++ piece;
         rest = rest_of after;
         lost = lost_more piece after took;
-        told = told_rest after;
+        exposed = exposed_rest after;
         few = omega (arith, all, one, length-append g.taken piece);
-        lists = subst (λ (l : List ℕ). ShowsOpen page [] l out now) (sym front) (shows_open page g.taken held seen out now g.stands g.waits);
+        lists = subst (λ (l : List ℕ). ShowsOpen page [] l out now) (sym prefix) (shows_open page g.taken held seen out now g.stands g.waits);
       }
 
   pub ends_unread : (after : Option (List ℕ)) → WhereExposed (Takes taken.Failed) left after → ListsInput page ended.ReadFault seen.tally source after out now
@@ -158,7 +158,7 @@ module _ (page : Bool) (count : ℕ) (held : Held) (seen : Seen) (source left ou
     taken = g.taken;
     rest = rest_of after;
     lost = lost_same after (removes_failed left after h);
-    told = told_rest after;
+    exposed = exposed_rest after;
     few = within;
     lists = shows_open page g.taken held seen out now g.stands g.waits;
   }
@@ -168,30 +168,30 @@ module _ (page : Bool) (count : ℕ) (held : Held) (seen : Seen) (source left ou
     taken = g.taken;
     rest = rest_of after;
     lost = lost_same after (removes_unheld left after h);
-    told = told_rest after;
+    exposed = exposed_rest after;
     few = within;
     lists = shows_more page [] g.taken (rest_of after) out now (shows_so_far page g.taken held seen out now g.stands);
   }
 
   -- the end of the input
-  pub ends_whole : (v : Viewed) (after : Option (List ℕ)) → WhereExposed (Takes taken.End) left after → EndsAt v held → ListsInput page v seen.tally source after out now
+  pub ends_whole : (v : ViewEnding) (after : Option (List ℕ)) → WhereExposed (Takes taken.End) left after → EndsAt v held → ListsInput page v seen.tally source after out now
   ends_whole ended.Done after h e = record {
     taken = g.taken;
     rest = rest_of after;
     lost = lost_same after (removes_end left after h);
-    told = told_rest after;
+    exposed = exposed_rest after;
     few = within;
     lists = (none_left left after h, lists_end page g.taken held seen out now g.stands Whole e);
   }
-  ends_whole (ended.CutOff place) after h e = record {
+  ends_whole (ended.CutOff offset) after h e = record {
     taken = g.taken;
     rest = rest_of after;
     lost = lost_same after (removes_end left after h);
-    told = told_rest after;
+    exposed = exposed_rest after;
     few = within;
-    lists = (none_left left after h, lists_end page g.taken held seen out now g.stands (Rest place) (e.0, e.1, g.waits));
+    lists = (none_left left after h, lists_end page g.taken held seen out now g.stands (Rest offset) (e.0, e.1, g.waits));
   }
-  ends_whole (ended.BadFrame place) after h e = absurd e
+  ends_whole (ended.BadFrame offset) after h e = absurd e
   ends_whole ended.ReadFault after h e = absurd e
   ends_whole ended.WriteFault after h e = absurd e
   ends_whole ended.OutOfMemory after h e = absurd e

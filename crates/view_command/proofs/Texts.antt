@@ -34,7 +34,7 @@ use Rattle.tap_listing.specs.Frames.{
   rows_spots,
 }
 use Rattle.tap_listing.specs.declared.frames.Frame.{Frame}
-use Rattle.tap_listing.specs.declared.frames.Frame.TheVariants.{Asked, Told}
+use Rattle.tap_listing.specs.declared.frames.Frame.TheVariants.{Asked, Replied}
 use Rattle.tap_text.specs.Text.{
   asked_head,
   atom_text,
@@ -46,7 +46,7 @@ use Rattle.tap_text.specs.Text.{
   param_text,
   params_text,
   payload_text,
-  place_text,
+  spot_text,
   reply_text,
   request_text,
   row_line,
@@ -54,7 +54,7 @@ use Rattle.tap_text.specs.Text.{
   rows_text,
   sized_text,
   statement_text,
-  told_head,
+  answered_head,
   type_text,
 }
 use Rattle.std.specs.Prelude.{decimal}
@@ -70,7 +70,7 @@ rest_of x y xs ys e = ap (drop 1) e
 joined : (a b c d : List ℕ) → a ≡ c → b ≡ d → a ++ b ≡ c ++ d
 joined a b c d e f = ap (λ l. l ++ b) e ∙ ap (λ l. c ++ l) f
 
--- ---- cells behind cells seen
+-- ---- cells after cells seen
 
 abbrev Cells : Type 0
 Cells = List (Spot Class)
@@ -79,7 +79,7 @@ pub past_append : (seen ss ts : Cells) → seen_past classing seen (ss ++ ts) �
 past_append seen [] ts = refl
 past_append seen (s ∷ ss) ts = past_append (seen_with classing seen s) ss ts
 
--- cells in two parts, and more behind them, are labelled alike
+-- cells in two parts, and more after them, are labelled alike
 abbrev Alike : Cells → Cells → Cells → Cells → Type 0
 Alike other ts seen ss = labels classing other ts ≡ labels classing seen ss
 
@@ -133,11 +133,11 @@ rows_in (Rows rows) = rows
 
 abbrev asked_in : Versioned Request → Frame → Versioned Request
 asked_in a (Asked b) = b
-asked_in a (Told b) = a
+asked_in a (Replied b) = a
 
-abbrev told_in : Versioned Payload → Frame → Versioned Payload
-told_in a (Asked b) = a
-told_in a (Told b) = b
+abbrev exposed_in : Versioned Payload → Frame → Versioned Payload
+exposed_in a (Asked b) = a
+exposed_in a (Replied b) = b
 
 module _ (page : Bool) where
   -- ---- atoms
@@ -210,9 +210,9 @@ module _ (page : Bool) where
   row_alike [] (a ∷ xs) [] seen other ss ts e h = absurd cc
   row_alike (c ∷ cs) (a ∷ xs) [] seen other ss ts e h = absurd cc
   row_alike [] (a ∷ xs) (b ∷ bs) seen other ss ts e h =
-      let front : atom_text page Open b other ≡ atom_text page Open a seen = ap (λ x. atom_text page Open x other) (first b a (blank_row [] bs) (blank_row [] xs) e) ∙ open_alike a seen other in
+      let prefix : atom_text page Open b other ≡ atom_text page Open a seen = ap (λ x. atom_text page Open x other) (first b a (blank_row [] bs) (blank_row [] xs) e) ∙ open_alike a seen other in
       let rest = row_alike [] xs bs seen other ss ts (rest_of b a (blank_row [] bs) (blank_row [] xs) e) h in
-      (joined (place_text page Open b other) (row_text page [] bs other) (place_text page Open a seen) (row_text page [] xs seen) (ap (λ l. codes "| " ++ l ++ codes " ") front) rest.0, rest.1)
+      (joined (spot_text page Open b other) (row_text page [] bs other) (spot_text page Open a seen) (row_text page [] xs seen) (ap (λ l. codes "| " ++ l ++ codes " ") prefix) rest.0, rest.1)
   row_alike (c ∷ cs) (a ∷ xs) (b ∷ bs) seen other ss ts e h =
       let sa = atom_spots c a in
       let sb = atom_spots c b in
@@ -220,10 +220,10 @@ module _ (page : Bool) where
       let rb = row_spots cs bs in
       let x = blank_atom c a in
       let y = blank_atom c b in
-      let front = atom_alike c a b seen other (ra ++ ss) (rb ++ ts) (first y x (blank_row cs bs) (blank_row cs xs) e) (in_parts other sb rb ts seen sa ra ss h) in
-      let rest = row_alike cs xs bs (seen_past classing seen sa) (seen_past classing other sb) ss ts (rest_of y x (blank_row cs bs) (blank_row cs xs) e) front.1 in (
-        joined (place_text page c b other) (row_text page cs bs (seen_past classing other sb)) (place_text page c a seen)
-            (row_text page cs xs (seen_past classing seen sa)) (ap (λ l. codes "| " ++ l ++ codes " ") front.0) rest.0,
+      let prefix = atom_alike c a b seen other (ra ++ ss) (rb ++ ts) (first y x (blank_row cs bs) (blank_row cs xs) e) (in_parts other sb rb ts seen sa ra ss h) in
+      let rest = row_alike cs xs bs (seen_past classing seen sa) (seen_past classing other sb) ss ts (rest_of y x (blank_row cs bs) (blank_row cs xs) e) prefix.1 in (
+        joined (spot_text page c b other) (row_text page cs bs (seen_past classing other sb)) (spot_text page c a seen)
+            (row_text page cs xs (seen_past classing seen sa)) (ap (λ l. codes "| " ++ l ++ codes " ") prefix.0) rest.0,
         past_parts other sb rb ts seen sa ra ss rest.1,
       )
 
@@ -239,11 +239,11 @@ module _ (page : Bool) where
   rows_alike classes (a ∷ xs) (b ∷ bs) seen other e h =
       let x = blank_row classes a in
       let y = blank_row classes b in
-      let front = row_alike classes a b seen other (rows_spots classes xs) (rows_spots classes bs) (first y x (map (blank_row classes) bs) (map (blank_row classes) xs) e) h in
+      let prefix = row_alike classes a b seen other (rows_spots classes xs) (rows_spots classes bs) (first y x (map (blank_row classes) bs) (map (blank_row classes) xs) e) h in
       let later = seen_past classing seen (row_spots classes a) in
       let after = seen_past classing other (row_spots classes b) in
-      joined (row_line page classes b other) (rows_text page classes bs after) (row_line page classes a seen) (rows_text page classes xs later) (ap lined front.0)
-      (rows_alike classes xs bs later after (rest_of y x (map (blank_row classes) bs) (map (blank_row classes) xs) e) front.1)
+      joined (row_line page classes b other) (rows_text page classes bs after) (row_line page classes a seen) (rows_text page classes xs later) (ap lined prefix.0)
+      (rows_alike classes xs bs later after (rest_of y x (map (blank_row classes) bs) (map (blank_row classes) xs) e) prefix.1)
 
   -- ---- requests
 
@@ -279,11 +279,11 @@ module _ (page : Bool) where
   params_alike [] (q ∷ qs) seen other e h = absurd cc
   params_alike (p ∷ ps) [] seen other e h = absurd cc
   params_alike (p ∷ ps) (q ∷ qs) seen other e h =
-      let front = param_alike p q seen other (params_spots ps) (params_spots qs) (first (blank_param q) (blank_param p) (map blank_param qs) (map blank_param ps) e) h in
+      let prefix = param_alike p q seen other (params_spots ps) (params_spots qs) (first (blank_param q) (blank_param p) (map blank_param qs) (map blank_param ps) e) h in
       let later = seen_past classing seen (atom_spots (class_of p.ty p.enc) p.atom) in
       let after = seen_past classing other (atom_spots (class_of q.ty q.enc) q.atom) in
-      joined (param_text page q other) (params_text page qs after) (param_text page p seen) (params_text page ps later) front.0
-      (params_alike ps qs later after (rest_of (blank_param q) (blank_param p) (map blank_param qs) (map blank_param ps) e) front.1)
+      joined (param_text page q other) (params_text page qs after) (param_text page p seen) (params_text page ps later) prefix.0
+      (params_alike ps qs later after (rest_of (blank_param q) (blank_param p) (map blank_param qs) (map blank_param ps) e) prefix.1)
 
   abbrev execute_of : ℕ → ℕ → List ℕ → List ℕ → List ℕ
   execute_of session version characters params = codes "session " ++ decimal session ++ codes " execute at version " ++ decimal version ++ 10 ∷ statement_text page characters ++ params
@@ -300,18 +300,18 @@ module _ (page : Bool) where
 
   -- ---- replies
 
-  told_same : (classes : List Class) (r o : Reply) → o ≡ r → reply_text page classes o [] ≡ reply_text page classes r []
-  told_same classes r o e = ap (λ (x : Reply). reply_text page classes x []) e
+  exposed_same : (classes : List Class) (r o : Reply) → o ≡ r → reply_text page classes o [] ≡ reply_text page classes r []
+  exposed_same classes r o e = ap (λ (x : Reply). reply_text page classes x []) e
 
   reply_alike : (classes : List Class) (r o : Reply) (seen other : Cells) → blank_reply classes o ≡ blank_reply classes r
       → Alike other (reply_spots classes o) seen (reply_spots classes r) → reply_text page classes o other ≡ reply_text page classes r seen
-  reply_alike classes (Described d) (Described x) seen other e h = told_same classes (Described d) (Described x) e
+  reply_alike classes (Described d) (Described x) seen other e h = exposed_same classes (Described d) (Described x) e
   reply_alike classes (Described d) (Columns x) seen other e h = absurd cc
   reply_alike classes (Described d) (Row x) seen other e h = absurd cc
   reply_alike classes (Described d) (Ended x) seen other e h = absurd cc
   reply_alike classes (Described d) (Refused x) seen other e h = absurd cc
   reply_alike classes (Columns d) (Described x) seen other e h = absurd cc
-  reply_alike classes (Columns d) (Columns x) seen other e h = told_same classes (Columns d) (Columns x) e
+  reply_alike classes (Columns d) (Columns x) seen other e h = exposed_same classes (Columns d) (Columns x) e
   reply_alike classes (Columns d) (Row x) seen other e h = absurd cc
   reply_alike classes (Columns d) (Ended x) seen other e h = absurd cc
   reply_alike classes (Columns d) (Refused x) seen other e h = absurd cc
@@ -326,13 +326,13 @@ module _ (page : Bool) where
   reply_alike classes (Ended d) (Described x) seen other e h = absurd cc
   reply_alike classes (Ended d) (Columns x) seen other e h = absurd cc
   reply_alike classes (Ended d) (Row x) seen other e h = absurd cc
-  reply_alike classes (Ended d) (Ended x) seen other e h = told_same classes (Ended d) (Ended x) e
+  reply_alike classes (Ended d) (Ended x) seen other e h = exposed_same classes (Ended d) (Ended x) e
   reply_alike classes (Ended d) (Refused x) seen other e h = absurd cc
   reply_alike classes (Refused d) (Described x) seen other e h = absurd cc
   reply_alike classes (Refused d) (Columns x) seen other e h = absurd cc
   reply_alike classes (Refused d) (Row x) seen other e h = absurd cc
   reply_alike classes (Refused d) (Ended x) seen other e h = absurd cc
-  reply_alike classes (Refused d) (Refused x) seen other e h = told_same classes (Refused d) (Refused x) e
+  reply_alike classes (Refused d) (Refused x) seen other e h = exposed_same classes (Refused d) (Refused x) e
 
   payload_alike : (classes : List Class) (p q : Payload) (seen other : Cells) → blank_payload classes q ≡ blank_payload classes p
       → Alike other (payload_spots classes q) seen (payload_spots classes p) → payload_text page classes q other ≡ payload_text page classes p seen
@@ -350,10 +350,11 @@ module _ (page : Bool) where
       let version = ap (λ (v : Versioned Request). v.version) same in
       let inner = request_alike a.message b.message seen other (ap (λ (v : Versioned Request). v.message) same) h in
       ap (λ v. mark page (codes "<p class=q>") ++ asked_head at v ++ request_text page b.message other) version ∙ ap (λ l. mark page (codes "<p class=q>") ++ asked_head at a.version ++ l) inner
-  frame_alike at classes (Asked a) (Told b) seen other e h = absurd cc
-  frame_alike at classes (Told a) (Asked b) seen other e h = absurd cc
-  frame_alike at classes (Told a) (Told b) seen other e h =
-      let same = ap (told_in a) e in
+  frame_alike at classes (Asked a) (Replied b) seen other e h = absurd cc
+  frame_alike at classes (Replied a) (Asked b) seen other e h = absurd cc
+  frame_alike at classes (Replied a) (Replied b) seen other e h =
+      let same = ap (exposed_in a) e in
       let version = ap (λ (v : Versioned Payload). v.version) same in
       let inner = payload_alike classes a.message b.message seen other (ap (λ (v : Versioned Payload). v.message) same) h in
-      ap (λ v. mark page (codes "<p class=r>") ++ told_head at v ++ payload_text page classes b.message other) version ∙ ap (λ l. mark page (codes "<p class=r>") ++ told_head at a.version ++ l) inner
+      ap (λ v. mark page (codes "<p class=r>") ++ answered_head at v ++ payload_text page classes b.message other) version
+      ∙ ap (λ l. mark page (codes "<p class=r>") ++ answered_head at a.version ++ l) inner

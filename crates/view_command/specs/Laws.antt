@@ -1,4 +1,4 @@
--- The text of a recording is told by its entries.
+-- The text of a recording is determined by its entries.
 use Rattle.std.specs.Prelude.{◌≡◌, ℕ, List, map, Bool}
 use Rattle.tap_listing.specs.Frames.{entries_of}
 use Rattle.tap_listing.specs.declared.frames.Frame.{Frame}
@@ -6,7 +6,7 @@ use Rattle.tap_reading.specs.Reading.{TapFrames}
 use Rattle.wire_frames.specs.Frames.{Placed, End}
 use Rattle.view_command.specs.Viewing.{listing_text}
 
--- frames without their places
+-- frames without their offsets
 abbrev pub messages_of : List (Placed Frame) → List Frame
 messages_of frames = map (λ (m : Placed Frame). m.message) frames
 

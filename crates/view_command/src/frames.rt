@@ -5,7 +5,7 @@ ghost use Rattle.ae_edge.specs.Streams.{CountsPutAll, PutsAll};
 ghost use Rattle.first_seen.specs.Parts.{Spot};
 ghost use Rattle.scalar.specs.Classes.{Class};
 ghost use Rattle.tap_counts.specs.Counting.{no_tally};
-ghost use Rattle.tap_listing.specs.Tables.{Tells, no_tables};
+ghost use Rattle.tap_listing.specs.Tables.{Knows, no_tables};
 ghost use Rattle.tap_text.specs.Text.{frame_text};
 ghost use Rattle.view_command.specs.Streaming.{Passes};
 
@@ -49,7 +49,7 @@ fn text_of(
     seen: &mut Seen,
     frame: &Frame<'_>,
 ) -> Result<String, AllocError>
-    ensures text { (past : List (Spot Class)) → Tells seen.old.cells past → IfOk result
+    ensures text { (past : List (Spot Class)) → Knows seen.old.cells past → IfOk result
         (λ text. string_bytes text ≡ frame_text page at seen.old.classes.items frame.now past) }
     ensures passes { OnOk result (Passes frame.now seen.old seen.new) }
 {
@@ -75,7 +75,7 @@ fn text_of(
     Ok(text)
 }
 
-/// Puts the text of a frame, which is counted. Its cells are seen from now on.
+/// Writes the text of a frame, which is counted. Its cells are seen from now on.
 pub(crate) fn put_frame<W: Sink>(
     alloc: Global,
     page: bool,
@@ -84,7 +84,7 @@ pub(crate) fn put_frame<W: Sink>(
     frame: &Frame<'_>,
     out: &mut W,
 ) -> Result<(), WriteError>
-    ensures content { (past : List (Spot Class)) → Tells seen.old.cells past
+    ensures content { (past : List (Spot Class)) → Knows seen.old.cells past
         → PutsAll (frame_text page at seen.old.classes.items frame.now past) result
         (W.seen out.old).content (W.seen out.new).content }
     ensures passes { OnOk result (Passes frame.now seen.old seen.new) }

@@ -1,7 +1,7 @@
 //! The frames of a recording, from bytes that come in pieces.
 
 ghost use Rattle.std.specs.Prelude.{◌≡◌, ◌+◌, ◌++◌, ◌<◌, ◌^◌, List, ℕ, Option, [], OnOk, length};
-ghost use Rattle.view_command.specs.Streaming.{Comes, CountsCame, CountsTurn, Stands, Turns};
+ghost use Rattle.view_command.specs.Streaming.{Comes, CountsHeld, CountsTurn, Stands, Turns};
 
 use crate::frames::{Seen, put_frame};
 use ae_base::blobs::Blob;
@@ -12,7 +12,7 @@ use std::alloc::{AllocError, Global};
 use tap_reading::decode;
 use wire_frames::Decoded;
 
-/// The bytes of a recording that are held, and the place of the first.
+/// The bytes of a recording that are held, and the offset of the first.
 #[derive(Drop)]
 pub(crate) struct Held {
     pub(crate) at: u64,
@@ -35,18 +35,18 @@ impl Held {
 /// The result of one step of the loop.
 #[derive(Clone, Copy)]
 enum Turn {
-    /// A frame was put, of so many bytes.
+    /// A frame was written, of this many bytes.
     Put(usize),
-    /// Less than a frame stands there.
+    /// Less than a frame is held.
     Waits,
-    /// What stands there is no frame.
+    /// The bytes held begin no frame.
     Bad,
-    /// The text of a frame couldn't be put.
+    /// The text of a frame couldn't be written.
     WriteFault,
     OutOfMemory,
 }
 
-/// Puts the frame that stands next. It stays held.
+/// Writes the next frame. It stays held.
 fn put_next<W: Sink>(alloc: Global, page: bool, held: &Held, seen: &mut Seen, out: &mut W) -> Turn
     ensures turns { Turns page result held.now seen.old seen.new (W.seen out.old).content
         (W.seen out.new).content }
@@ -64,31 +64,31 @@ fn put_next<W: Sink>(alloc: Global, page: bool, held: &Held, seen: &mut Seen, ou
     }
 }
 
-/// What came of all that is held.
+/// The result of writing all that is held.
 #[derive(Clone, Copy)]
-pub(crate) enum Came {
-    /// Each frame was put, and less than a frame is left.
+pub(crate) enum HeldEnding {
+    /// Each frame was written, and less than a frame is left.
     Waits,
-    /// Each frame was put up to this place, where none is.
+    /// Each frame was written up to this offset, where no frame begins.
     Bad(u64),
-    /// The text of a frame couldn't be put.
+    /// The text of a frame couldn't be written.
     WriteFault,
     OutOfMemory,
 }
 
-/// Puts the frames that are held, one after another; the bytes of each are let go.
+/// Writes the frames that are held, one after another; the bytes of each are consumed.
 fn put_held<W: Sink>(
     alloc: Global,
     page: bool,
     held: &mut Held,
     seen: &mut Seen,
     out: &mut W,
-) -> Came
+) -> HeldEnding
     requires { held.old.at + length held.old.bytes.items < 2 ^ 64 }
     ensures comes { (taken : List ℕ) (first : Option (List ℕ))
         → Stands page taken held.old seen.old first (W.seen out.old).content
         → Comes page result taken held.new seen.new first (W.seen out.new).content }
-    ensures counts { CountsCame result (W.seen out.old).faults (W.seen out.new).faults }
+    ensures counts { CountsHeld result (W.seen out.old).faults (W.seen out.new).faults }
 {
     'frames: loop {
         match put_next(alloc, page, held, seen, out) {
@@ -96,15 +96,15 @@ fn put_held<W: Sink>(
                 held.bytes.advance(used);
                 held.at += used as u64;
             }
-            Turn::Waits => return Came::Waits,
-            Turn::Bad => return Came::Bad(held.at),
-            Turn::WriteFault => return Came::WriteFault,
-            Turn::OutOfMemory => return Came::OutOfMemory,
+            Turn::Waits => return HeldEnding::Waits,
+            Turn::Bad => return HeldEnding::Bad(held.at),
+            Turn::WriteFault => return HeldEnding::WriteFault,
+            Turn::OutOfMemory => return HeldEnding::OutOfMemory,
         }
     }
 }
 
-/// Takes a piece behind what is held, and puts the frames that are whole.
+/// Appends a piece to the bytes held, and writes the frames that are whole.
 pub(crate) fn put_piece<W: Sink>(
     alloc: Global,
     page: bool,
@@ -112,15 +112,15 @@ pub(crate) fn put_piece<W: Sink>(
     held: &mut Held,
     seen: &mut Seen,
     out: &mut W,
-) -> Came
+) -> HeldEnding
     requires { held.old.at + length (held.old.bytes.items ++ piece.now) < 2 ^ 64 }
     ensures comes { (taken : List ℕ) (first : Option (List ℕ))
         → Stands page taken held.old seen.old first (W.seen out.old).content
         → Comes page result (taken ++ piece.now) held.new seen.new first (W.seen out.new).content }
-    ensures counts { CountsCame result (W.seen out.old).faults (W.seen out.new).faults }
+    ensures counts { CountsHeld result (W.seen out.old).faults (W.seen out.new).faults }
 {
     match held.bytes.extend_from_slice(piece.as_slice()) {
         Ok(()) => put_held(alloc, page, held, seen, out),
-        Err(_) => Came::OutOfMemory,
+        Err(_) => HeldEnding::OutOfMemory,
     }
 }

@@ -1,4 +1,4 @@
-//! What stands before and behind the frames of a recording.
+//! The texts before and after the frames of a recording.
 
 ghost use Rattle.std.specs.Prelude.{◌≡◌, ◌++◌, IfOk, OnOk, string_bytes};
 ghost use Rattle.ae_edge.specs.Devices.{Calls};
@@ -7,14 +7,14 @@ ghost use Rattle.tap_page.specs.Page.{page_foot};
 ghost use Rattle.tap_text.specs.Text.{mark};
 ghost use Rattle.view_command.specs.Viewing.{ended_text, foot_text};
 
-use crate::commands::Viewed;
+use crate::commands::ViewEnding;
 use ae_edge::sinks::Sink;
 use ae_edge::streams::{WriteError, put_all};
 use std::alloc::{AllocError, Global};
 use std::fmt::Write;
 use tap_counts::{Tally, push_tally};
 
-/// Puts a part that only a page has.
+/// Writes a part that only a page has.
 pub(crate) fn put_mark<W: Sink>(page: bool, html: &str, out: &mut W) -> Result<(), WriteError>
     ensures { Calls (PutsAll (mark page html.now) result) (CountsPutAll result)
         (W.seen out.old) (W.seen out.new) }
@@ -26,20 +26,23 @@ pub(crate) fn put_mark<W: Sink>(page: bool, html: &str, out: &mut W) -> Result<(
     }
 }
 
-/// Puts how a recording ended.
-fn push_ended(text: &mut String, viewed: Viewed) -> Result<(), AllocError>
+/// Writes how a recording ended.
+fn push_ended(text: &mut String, viewed: ViewEnding) -> Result<(), AllocError>
     ensures { OnOk result (string_bytes text.new ≡ string_bytes text.old ++ ended_text viewed) }
 {
     match viewed {
-        Viewed::Done => text.push_str("whole\n")?,
-        Viewed::BadFrame(place) => write!(text, "bad frame at {place}\n")?,
-        Viewed::CutOff(place) => write!(text, "cut off at {place}\n")?,
-        Viewed::ReadFault | Viewed::WriteFault | Viewed::OutOfMemory | Viewed::TooLong => {}
+        ViewEnding::Done => text.push_str("whole\n")?,
+        ViewEnding::BadFrame(offset) => write!(text, "bad frame at {offset}\n")?,
+        ViewEnding::CutOff(offset) => write!(text, "cut off at {offset}\n")?,
+        ViewEnding::ReadFault
+        | ViewEnding::WriteFault
+        | ViewEnding::OutOfMemory
+        | ViewEnding::TooLong => {}
     }
     Ok(())
 }
 
-/// Puts the end of a page.
+/// Writes the end of a page.
 fn push_foot(text: &mut String, page: bool) -> Result<(), AllocError>
     ensures { OnOk result (string_bytes text.new ≡ string_bytes text.old
         ++ mark page page_foot) }
@@ -50,8 +53,13 @@ fn push_foot(text: &mut String, page: bool) -> Result<(), AllocError>
     Ok(())
 }
 
-/// What stands behind the frames.
-fn foot_of(alloc: Global, page: bool, tally: &Tally, viewed: Viewed) -> Result<String, AllocError>
+/// The text after the frames.
+fn foot_of(
+    alloc: Global,
+    page: bool,
+    tally: &Tally,
+    viewed: ViewEnding,
+) -> Result<String, AllocError>
     ensures { IfOk result (λ text.
         string_bytes text ≡ foot_text page tally.now (ended_text viewed)) }
 {
@@ -62,12 +70,12 @@ fn foot_of(alloc: Global, page: bool, tally: &Tally, viewed: Viewed) -> Result<S
     Ok(text)
 }
 
-/// Puts what stands behind the frames.
+/// Writes the text after the frames.
 pub(crate) fn put_foot<W: Sink>(
     alloc: Global,
     page: bool,
     tally: &Tally,
-    viewed: Viewed,
+    viewed: ViewEnding,
     out: &mut W,
 ) -> Result<(), WriteError>
     ensures { Calls (PutsAll (foot_text page tally.now (ended_text viewed)) result)

@@ -1,10 +1,10 @@
-//! A recording by hand, and what is put of it.
+//! A recording by hand, and what is written of it.
 
 use ae_edge::memory::sink::MemSink;
 use ae_edge::memory::source::MemSource;
 use std::alloc::{AllocError, Global};
 use std::test::Fail;
-use view_command::commands::{Viewed, view};
+use view_command::commands::{ViewEnding, view};
 
 // A question that is refused, in version 1: 40 bytes and 10.
 const QUESTION: &[u8] =
@@ -12,7 +12,7 @@ const QUESTION: &[u8] =
 
 const NO_TABLE: &[u8] = b"\x01\x85\x00\x00\x00\x04\x14\x00\x01t";
 
-// A change with a cell as its parameter, which is 65 bytes behind these 60.
+// A change with a cell as its parameter, which is 65 bytes after these 60.
 const CHANGE: &[u8] =
     b"\x01\x02\x00\x00\x00\x77\x00\x01\x00\x00\x00\x00\x00\x00\x00\x03\x00\x00\x00\x19INSERT INTO t VALUES (@s)\x01\x00\x01s\x03\x00\x01\x01\x00\x00\x00\x01\x04\x00\x41";
 
@@ -77,15 +77,15 @@ fn recording(alloc: Global) -> Result<Vec<u8>, AllocError> {
     )
 }
 
-// How the recording ends, and whether this was put, where it comes in pieces of so many bytes and
-// the call of a number fails.
+// How the recording ends, and whether this was written, where it comes in pieces of so many bytes
+// and the call of a number fails.
 fn viewed(
     alloc: Global,
     page: bool,
     piece: usize,
     failing: Vec<u64>,
     wanted: &[u8],
-) -> Result<(Viewed, bool), AllocError> {
+) -> Result<(ViewEnding, bool), AllocError> {
     let mut input = MemSource::new(recording(alloc)?, piece.max(1), failing);
     let mut out = MemSink::new(alloc, Vec::new(alloc));
     let viewed = view(alloc, page, &mut input, &mut out);
@@ -101,7 +101,7 @@ fn a_page_has_its_frames_and_its_counts(rt: HostRuntime) -> Result<(), Fail> {
     let wanted = joined(alloc, &[head, PAGE.as_bytes(), foot])?;
     for piece in [1, 7, 4096] {
         let ended = viewed(alloc, true, piece, Vec::new(alloc), wanted.as_slice())?;
-        assert!(rt; ended == (Viewed::Done, true));
+        assert!(rt; ended == (ViewEnding::Done, true));
     }
     Ok(())
 }
@@ -113,7 +113,7 @@ fn whole_frames_stand_before_a_fault(rt: HostRuntime) -> Result<(), Fail> {
     for call in [10, 11, 34] {
         let failing = Vec::from_slice(alloc, &[call])?;
         let ended = viewed(alloc, false, 5, failing, REFUSED.as_bytes())?;
-        assert!(rt; ended == (Viewed::ReadFault, true));
+        assert!(rt; ended == (ViewEnding::ReadFault, true));
     }
     Ok(())
 }

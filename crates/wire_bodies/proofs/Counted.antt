@@ -1,4 +1,4 @@
--- Lists behind their count, which is tested before a part is read.
+-- Lists after their count, which is tested before a part is read.
 use Rattle.std.proofs.Common.{◌≡◌, ℕ, zero, suc, Bool, true, false, cond, List, [], ◌∷◌, length, Option, Some, None, refl, sym, ap, subst, ◌∙◌}
 use Rattle.std.specs.Int.{w16}
 use Rattle.std.proofs.lemmas.Option.{same_Some, cond_some}
@@ -55,7 +55,7 @@ over test most part n bytes fails h =
     let f = fails x.0 (ap (is_within 1 most) (parts_counted part n bytes x e) ∙ h) in
     rw f refl)
 
--- ---- parts behind their count
+-- ---- parts after their count
 
 pub few_counted : {P : Type 0} (part : Reader P) (bytes : List ℕ) (count : ℕ) (rest : List ℕ) → kept (is_within 1 512) (number_at w16) bytes ≡ Some (count, rest)
     → kept is_few (many_at part) bytes ≡ parts_at part count rest
@@ -72,9 +72,9 @@ pub few_none : {P : Type 0} (part : Reader P) (bytes : List ℕ) → kept (is_wi
 unfolding many_at
 few_none part bytes e = few_uncounted part (number_at w16 bytes) e
 
--- ---- rows behind their counts
+-- ---- rows after their counts
 
--- the rows behind the count of them, by what stands for the count of columns
+-- the rows after the count of them, by what stands for the count of columns
 abbrev shared : ℕ → Option (ℕ × List ℕ) → Option (List Atoms × List ℕ)
 shared rows columns = ◌>>=◌ {B = (ℕ × ℕ) × List ℕ} columns (λ y. Some ((rows, y.0), y.1)) >>= λ counts. shared_rows_at counts.0 counts.1
 

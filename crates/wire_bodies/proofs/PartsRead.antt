@@ -2,7 +2,7 @@
 use Rattle.std.proofs.Common.{◌≡◌, ◌<◌, ℕ, zero, suc, List, [], ◌∷◌, ◌++◌, length, Some, None, refl, sym, ap, subst, arith}
 use Rattle.wire_decoding.specs.Reading.{Reader, parts_at}
 
--- the parts stand at the front of some bytes, one after another, before the rest
+-- the parts stand at the start of some bytes, one after another, before the rest
 abbrev pub AreRead : {P : Type 0} → Reader P → List P → List ℕ → List ℕ → Type 0
 AreRead part [] bytes rest = bytes ≡ rest
 AreRead part (p ∷ ps) bytes rest = (after : List ℕ) × (part bytes ≡ Some (p, after)) × AreRead part ps after rest

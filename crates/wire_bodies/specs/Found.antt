@@ -5,7 +5,7 @@ use Rattle.wire_bodies.specs.declared.found.Body.TheVariants as body
 use Rattle.wire_bodies.specs.declared.found.Found.{Found}
 use Rattle.wire_bodies.specs.declared.found.Found.TheVariants as found
 
--- What stands at the front is what reading gives, unless memory ran out.
+-- What stands at the start is what reading gives, unless memory ran out.
 abbrev pub GivesFound : {X : Type 0} → Found X → Option (X × List ℕ) → Type 0
 GivesFound (found.One x rest) read = read ≡ Some (x, rest.now)
 GivesFound found.Bad read = read ≡ None

@@ -36,10 +36,10 @@ macro_rules! with {
     };
 }
 
-/// A fault with its only field, a place.
+/// A fault with its only field, an offset.
 macro_rules! at {
-    ($fault:ident, $place:expr) => {
-        match $place {
+    ($fault:ident, $offset:expr) => {
+        match $offset {
             Body::One(at) => Body::One(SqlFault::$fault { at }),
             Body::Bad => Body::Bad,
             Body::OutOfMemory => Body::OutOfMemory,
@@ -71,7 +71,7 @@ fn param_name(alloc: Global, bytes: &[u8]) -> Body<ParamName>
     }
 }
 
-fn place(bytes: &[u8]) -> Body<u32>
+fn offset(bytes: &[u8]) -> Body<u32>
     ensures { GivesBody result (read.whole (read.number_at w32) bytes.now) }
 {
     match u32_of(bytes) {
@@ -123,7 +123,7 @@ fn fields_of(alloc: Global, code: u8, rest: &[u8]) -> Body<SqlFault>
 {
     match code {
         10 => bare!(Syntax, rest),
-        11 => at!(NumberTooWide, place(rest)),
+        11 => at!(NumberTooWide, offset(rest)),
         12 => bare!(TooDeep, rest),
         13 => bare!(TooLong, rest),
         20 => with!(SqlFault::NoTable, name(alloc, rest)),
@@ -131,9 +131,9 @@ fn fields_of(alloc: Global, code: u8, rest: &[u8]) -> Body<SqlFault>
         22 => with!(SqlFault::Ambiguous, name(alloc, rest)),
         23 => with!(SqlFault::NoParam, param_name(alloc, rest)),
         24 => with!(SqlFault::NoKey, name(alloc, rest)),
-        25 => at!(NotGrouped, place(rest)),
-        26 => at!(TypeClash, place(rest)),
-        30 => at!(EncryptionClash, place(rest)),
+        25 => at!(NotGrouped, offset(rest)),
+        26 => at!(TypeClash, offset(rest)),
+        30 => at!(EncryptionClash, offset(rest)),
         40 => with!(SqlFault::Moved, versions(rest)),
         41 => with!(SqlFault::ParamClash, param_name(alloc, rest)),
         42 => with!(SqlFault::BadCell, param_name(alloc, rest)),

@@ -1,6 +1,6 @@
 //! What readers that take memory answer.
 
-/// What stands at the front, and the rest.
+/// The first value of some bytes, and the rest.
 #[derive(Drop)]
 pub enum Found<'a, X> {
     One(X, &'a [u8]),

@@ -21,12 +21,12 @@ use wire_messages::params::{
 use wire_parts::atoms::AtomPart;
 use wire_parts::keys::KeyPart;
 
-/// A part of a message that can be read from the front of some bytes.
+/// A part of a message that can be read from the start of some bytes.
 pub trait ReadPart<'a>: Sized + Drop {
-    /// What stands at the front of some bytes, and the bytes after it.
+    /// The first part of some bytes, and the bytes after it.
     ghost reading: { List ℕ → Option (Self × List ℕ) };
 
-    /// The part at the front, and the rest.
+    /// The first part, and the rest.
     fn read(bytes: &'a [u8]) -> Option<(Self, &'a [u8])>
         ensures { Gives (λ x. (x.0, x.1.now)) result (reading bytes.now) };
 }

@@ -52,8 +52,8 @@ fn shared_rows_of(
     Found::One(parts, rest)
 }
 
-/// Rows that share a frame, behind their number and the number of their columns. Where there are
-/// too many rows or columns, no row is read.
+/// Rows that share a frame, after their number and the number of their columns. If there are too
+/// many rows or columns, no row is read.
 #[tactic(auto, unfolding(wire_decoding::specs::Reading::rows_at))]
 pub fn rows_of(alloc: Global, bytes: &[u8]) -> Found<'_, RowBatch<'_>>
     ensures { GivesFound result (read.kept read.is_batch read.rows_at bytes.now) }

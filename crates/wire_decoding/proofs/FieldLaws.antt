@@ -80,10 +80,10 @@ number_takes : (w : Width) (limit : ℕ) (wide : IsWide w limit) (bytes : List �
 number_takes w limit wide bytes x fits e =
     let g = guard_some (ltb (length bytes) (byte_len w)) (from_be_bytes w (take (byte_len w) bytes), drop (byte_len w) bytes) x e in
     let long : byte_len w ≤ length bytes = ltb-false _ _ g.0 in
-    let front : to_be_bytes w (from_be_bytes w (take (byte_len w) bytes)) ≡ take (byte_len w) bytes
+    let prefix : to_be_bytes w (from_be_bytes w (take (byte_len w) bytes)) ≡ take (byte_len w) bytes
     = wide.back (take (byte_len w) bytes) (length-take-le (byte_len w) bytes long) (AreBytes-take (byte_len w) bytes fits) in
     let first : Takes bytes (to_be_bytes w (from_be_bytes w (take (byte_len w) bytes))) (drop (byte_len w) bytes)
-    = record { parts = rw front (sym (take-append-drop (byte_len w) bytes)); rest_fits = AreBytes-drop (byte_len w) bytes fits } in
+    = record { parts = rw prefix (sym (take-append-drop (byte_len w) bytes)); rest_fits = AreBytes-drop (byte_len w) bytes fits } in
     subst (λ (y : ℕ × List ℕ). Takes bytes (to_be_bytes w y.0) y.1 × (y.0 < limit)) g.1 (first, wide.below (take (byte_len w) bytes) (AreBytes-take (byte_len w) bytes fits))
 
 number_again : (w : Width) (limit : ℕ) (wide : IsWide w limit) (n : ℕ) (rest : List ℕ) → n < limit → number_at w (to_be_bytes w n ++ rest) ≡ Some (n, rest)
@@ -158,7 +158,7 @@ bytes_again text rest =
     let long : ltb (length (text ++ rest)) (length text) ≡ false = le-ltb _ _ (omega (arith, length-append text rest)) in
     rw (long, take_at text rest (length text) refl, drop_at text rest (length text) refl) refl
 
--- bytes behind their number
+-- bytes after their number
 abbrev pub sized : Width → List ℕ → List ℕ
 sized w bytes = to_be_bytes w (length bytes) ++ bytes
 

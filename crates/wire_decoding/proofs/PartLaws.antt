@@ -385,14 +385,14 @@ of_param : (code : ℕ) (f : List ℕ → SqlFault) → ((x : List ℕ) → code
     → TakesBody code_of spell.fields IsFault code (ends f param_name_at)
 of_param code f = ended_body spell.str IsParamWord param_name_at param_name_reads f code_of spell.fields IsFault code
 
-of_place : (code : ℕ) (f : ℕ → SqlFault) → ((x : ℕ) → code ≡ code_of (f x)) → ((x : ℕ) → spell.u32 x ≡ spell.fields (f x)) → ((x : ℕ) → x < 2 ^ 32 → IsFault (f x))
+of_offset : (code : ℕ) (f : ℕ → SqlFault) → ((x : ℕ) → code ≡ code_of (f x)) → ((x : ℕ) → spell.u32 x ≡ spell.fields (f x)) → ((x : ℕ) → x < 2 ^ 32 → IsFault (f x))
     → TakesBody code_of spell.fields IsFault code (ends f (number_at w32))
-of_place code f = ended_body spell.u32 (λ n. n < 2 ^ 32) (number_at w32) u32_reads f code_of spell.fields IsFault code
+of_offset code f = ended_body spell.u32 (λ n. n < 2 ^ 32) (number_at w32) u32_reads f code_of spell.fields IsFault code
 
 faults_take : AllTakeBodies code_of spell.fields IsFault faults
 faults_take =
     bare_body 10 fault.Syntax refl refl tt
-    also of_place 11 fault.NumberTooWide (λ x. refl) (λ x. refl) (λ x h. h)
+    also of_offset 11 fault.NumberTooWide (λ x. refl) (λ x. refl) (λ x h. h)
     also bare_body 12 fault.TooDeep refl refl tt
     also bare_body 13 fault.TooLong refl refl tt
     also of_name 20 fault.NoTable (λ x. refl) (λ x. refl) (λ x h. h)
@@ -400,9 +400,9 @@ faults_take =
     also of_name 22 fault.Ambiguous (λ x. refl) (λ x. refl) (λ x h. h)
     also of_param 23 fault.NoParam (λ x. refl) (λ x. refl) (λ x h. h)
     also of_name 24 fault.NoKey (λ x. refl) (λ x. refl) (λ x h. h)
-    also of_place 25 fault.NotGrouped (λ x. refl) (λ x. refl) (λ x h. h)
-    also of_place 26 fault.TypeClash (λ x. refl) (λ x. refl) (λ x h. h)
-    also of_place 30 fault.EncryptionClash (λ x. refl) (λ x. refl) (λ x h. h)
+    also of_offset 25 fault.NotGrouped (λ x. refl) (λ x. refl) (λ x h. h)
+    also of_offset 26 fault.TypeClash (λ x. refl) (λ x. refl) (λ x h. h)
+    also of_offset 30 fault.EncryptionClash (λ x. refl) (λ x. refl) (λ x h. h)
     also ended_body versions_spelling IsVersions versions_at versions_read fault.Moved code_of spell.fields IsFault 40 (λ x. refl) (λ x. refl) (λ x h. h)
     also of_param 41 fault.ParamClash (λ x. refl) (λ x. refl) (λ x h. h)
     also of_param 42 fault.BadCell (λ x. refl) (λ x. refl) (λ x h. h)
@@ -431,12 +431,12 @@ name_ends = ends_again spell.str IsWord name_at name_reads
 param_ends : (f : List ℕ → SqlFault) (name : List ℕ) → IsParamWord name → ends f param_name_at (spell.str name) ≡ Some (f name)
 param_ends = ends_again spell.str IsParamWord param_name_at param_name_reads
 
-place_ends : (f : ℕ → SqlFault) (at : ℕ) → at < 2 ^ 32 → ends f (number_at w32) (spell.u32 at) ≡ Some (f at)
-place_ends = ends_again spell.u32 (λ n. n < 2 ^ 32) (number_at w32) u32_reads
+offset_ends : (f : ℕ → SqlFault) (at : ℕ) → at < 2 ^ 32 → ends f (number_at w32) (spell.u32 at) ≡ Some (f at)
+offset_ends = ends_again spell.u32 (λ n. n < 2 ^ 32) (number_at w32) u32_reads
 
 pub fault_again : (f : SqlFault) → IsFault f → pick faults (code_of f) (spell.fields f) ≡ Some f
 fault_again fault.Syntax h = refl
-fault_again (fault.NumberTooWide at) h = place_ends fault.NumberTooWide at h
+fault_again (fault.NumberTooWide at) h = offset_ends fault.NumberTooWide at h
 fault_again fault.TooDeep h = refl
 fault_again fault.TooLong h = refl
 fault_again (fault.NoTable name) h = name_ends fault.NoTable name h
@@ -444,9 +444,9 @@ fault_again (fault.NoColumn name) h = name_ends fault.NoColumn name h
 fault_again (fault.Ambiguous name) h = name_ends fault.Ambiguous name h
 fault_again (fault.NoParam name) h = param_ends fault.NoParam name h
 fault_again (fault.NoKey name) h = name_ends fault.NoKey name h
-fault_again (fault.NotGrouped at) h = place_ends fault.NotGrouped at h
-fault_again (fault.TypeClash at) h = place_ends fault.TypeClash at h
-fault_again (fault.EncryptionClash at) h = place_ends fault.EncryptionClash at h
+fault_again (fault.NotGrouped at) h = offset_ends fault.NotGrouped at h
+fault_again (fault.TypeClash at) h = offset_ends fault.TypeClash at h
+fault_again (fault.EncryptionClash at) h = offset_ends fault.EncryptionClash at h
 fault_again (fault.Moved versions) h = ends_again versions_spelling IsVersions versions_at versions_read fault.Moved versions h
 fault_again (fault.ParamClash name) h = param_ends fault.ParamClash name h
 fault_again (fault.BadCell name) h = param_ends fault.BadCell name h

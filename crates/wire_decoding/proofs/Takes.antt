@@ -107,8 +107,8 @@ pub Reads-bytes : {A : Type 0} (spell : A → List ℕ) (P Q : A → Type 0) (re
 Reads-bytes spell P Q read there back r = record {
   takes = λ bytes x fits e.
       let t = r.takes bytes x fits e in
-      let front : take (length (spell x.0)) bytes ≡ spell x.0 = ap (take (length (spell x.0))) t.0.parts ∙ take_at (spell x.0) x.1 (length (spell x.0)) refl in
-      (t.0, there x.0 t.1 (subst AreBytes front (AreBytes-take (length (spell x.0)) bytes fits)));
+      let prefix : take (length (spell x.0)) bytes ≡ spell x.0 = ap (take (length (spell x.0))) t.0.parts ∙ take_at (spell x.0) x.1 (length (spell x.0)) refl in
+      (t.0, there x.0 t.1 (subst AreBytes prefix (AreBytes-take (length (spell x.0)) bytes fits)));
   again = λ a rest good. r.again a rest (back a good);
 }
 
@@ -173,7 +173,7 @@ tried_again sa Ga ra r f x y rest good e = rw (r.again x rest good, e) refl
 
 -- ---- by a first byte
 
--- what a reader reads behind a byte is spelled with it
+-- what a reader reads after a byte is spelled with it
 pub record TakesBehind {A : Type 0} (spell : A → List ℕ) (Good : A → Type 0) (tag : ℕ) (read : Reader A) : Type 0 where
   pub takes : (bytes : List ℕ) (x : A × List ℕ) → AreBytes bytes → read bytes ≡ Some x → Takes (tag ∷ bytes) (spell x.0) x.1 × Good x.0
 
@@ -246,7 +246,7 @@ whole_again spell Good read r a good = ap (whole read) (sym (append-nil (spell a
 pub ends_again : {A B : Type 0} (spell : A → List ℕ) (Good : A → Type 0) (read : Reader A) → Reads spell Good read → (f : A → B) (a : A) → Good a → ends f read (spell a) ≡ Some (f a)
 ends_again spell Good read r f a good = rw (whole_again spell Good read r a good) refl
 
--- what a body's reader reads behind a byte is spelled with it
+-- what a body's reader reads after a byte is spelled with it
 pub record TakesBody {A : Type 0} (tag_of : A → ℕ) (spell : A → List ℕ) (Good : A → Type 0) (tag : ℕ) (read : List ℕ → Option A) : Type 0 where
   pub takes : (bytes : List ℕ) (a : A) → AreBytes bytes → read bytes ≡ Some a → (tag ≡ tag_of a) × (bytes ≡ spell a) × Good a
 

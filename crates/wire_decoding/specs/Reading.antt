@@ -1,4 +1,4 @@
--- Reading from left to right: a reader gives what stands at the front of some bytes, and the bytes after it.
+-- Reading from left to right: a reader gives the first field of some bytes, and the bytes after it.
 use Rattle.std.specs.Prelude.{◌≡◌, ℕ, zero, suc, List, [], ◌∷◌, length, map, take, drop, encode_utf8_all, Bool, Option, Some, None, nat_lt, nat_le, ◌==◌, ◌&&◌, not, if◌then◌else◌}
 use Rattle.std.specs.Int.{Width, w16, w32, w64, byte_len, from_be_bytes, cast_signed}
 use Rattle.std.specs.List.{list_all}
@@ -109,7 +109,7 @@ number_at w bytes = if nat_lt (length bytes) (byte_len w) then None else Some (f
 abbrev pub bytes_at : ℕ → Reader (List ℕ)
 bytes_at n bytes = if nat_lt (length bytes) n then None else Some (take n bytes, drop n bytes)
 
--- bytes behind their number
+-- bytes after their number
 unfoldable pub blob_at : Width → Reader (List ℕ)
 blob_at w bytes = number_at w bytes >>= λ n. bytes_at n.0 n.1
 

@@ -1,4 +1,4 @@
-//! Values of what was read, where it meets their conditions.
+//! Values that were read, if they meet their conditions.
 
 ghost use Rattle.std.specs.Prelude.{◌≡◌};
 ghost use Rattle.std.specs.Str.{chars};
@@ -51,16 +51,15 @@ pub fn unique_number(number: u8) -> Option<UniqueNumber>
     UniqueNumber::from_number(number)
 }
 
-/// The version of the catalog that was seen and the one that stands, or `None` where both are the
-/// same.
+/// The version of the catalog that was seen and the present one, or `None` if both are the same.
 pub fn versions(seen: u64, now: u64) -> Option<Versions>
     ensures { result ≡ read.when read.differ (record { seen = seen; now = now }) }
 {
     Versions::that_differ(seen, now)
 }
 
-/// The change count of a table that was seen and the one that stands, or `None` where the second
-/// isn't greater.
+/// The change count of a table that was seen and the present one, or `None` if the second isn't
+/// greater.
 pub fn counts(seen: u64, now: u64) -> Option<ChangeCounts>
     ensures { result ≡ read.when read.rose (record { seen = seen; now = now }) }
 {

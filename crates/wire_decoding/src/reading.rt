@@ -1,5 +1,4 @@
-//! The fields of messages from bytes. Each reader gives what stands at the front, and the bytes
-//! after it.
+//! The fields of messages from bytes. Each reader gives the first field, and the bytes after it.
 
 ghost use Rattle.std.specs.Prelude.{◌≡◌, Some};
 ghost use Rattle.std.specs.Int.{w16, w32, w64};
@@ -50,7 +49,7 @@ fn bytes_of(count: usize, bytes: &[u8]) -> Option<(&[u8], &[u8])>
     Some(bytes.split_at(count))
 }
 
-/// Bytes behind their number in two bytes.
+/// Bytes after their number in two bytes.
 #[tactic(auto, unfolding(crate::specs::Reading::blob_at))]
 fn blob_of(bytes: &[u8]) -> Option<(&[u8], &[u8])>
     ensures { Gives (λ x. (x.0.now, x.1.now)) result (read.blob_at w16 bytes.now) }
@@ -59,7 +58,7 @@ fn blob_of(bytes: &[u8]) -> Option<(&[u8], &[u8])>
     bytes_of(count as usize, rest)
 }
 
-/// Bytes behind their number in four bytes.
+/// Bytes after their number in four bytes.
 #[tactic(auto, unfolding(crate::specs::Reading::blob_at))]
 fn long_blob_of(bytes: &[u8]) -> Option<(&[u8], &[u8])>
     ensures { Gives (λ x. (x.0.now, x.1.now)) result (read.blob_at w32 bytes.now) }
@@ -78,7 +77,7 @@ fn text_of(bytes: &[u8]) -> Option<&str>
     }
 }
 
-/// A text behind the number of its bytes in two bytes.
+/// A text after the number of its bytes in two bytes.
 #[tactic(auto, unfolding(crate::specs::Reading::str_at))]
 fn str_of(bytes: &[u8]) -> Option<(&str, &[u8])>
     ensures { Gives (λ x. (chars x.0.now, x.1.now)) result (read.str_at w16 bytes.now) }
@@ -90,7 +89,7 @@ fn str_of(bytes: &[u8]) -> Option<(&str, &[u8])>
     }
 }
 
-/// A statement's text, behind the number of its bytes in four bytes.
+/// A statement's text, after the number of its bytes in four bytes.
 #[tactic(auto, unfolding(crate::specs::Reading::text_at, crate::specs::Reading::str_at))]
 pub fn statement_of(bytes: &[u8]) -> Option<(StatementPart<'_>, &[u8])>
     ensures { Gives (λ x. (x.0, x.1.now)) result (read.text_at bytes.now) }

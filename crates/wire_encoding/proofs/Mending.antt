@@ -16,12 +16,12 @@ mended before body v k a b c d start e =
     let n : length r ≡ start + 4 = omega (arith, length-append q (b ∷ [])) in
     let s = r ++ c ∷ [] in
     let o : length s ≡ start + 5 = omega (arith, length-append r (c ∷ [])) in
-    let front = sym (append_assoc before (v ∷ k ∷ []) (0 ∷ 0 ∷ 0 ∷ 0 ∷ body)) in
-    rw (front, put p (0 ∷ 0 ∷ 0 ∷ body) 0 a (start + 2) l, put q (0 ∷ 0 ∷ body) 0 b (start + 3) m, put r (0 ∷ body) 0 c (start + 4) n, put s body 0 d (start + 5) o)
+    let prefix = sym (append_assoc before (v ∷ k ∷ []) (0 ∷ 0 ∷ 0 ∷ 0 ∷ body)) in
+    rw (prefix, put p (0 ∷ 0 ∷ 0 ∷ body) 0 a (start + 2) l, put q (0 ∷ 0 ∷ body) 0 b (start + 3) m, put r (0 ∷ body) 0 c (start + 4) n, put s body 0 d (start + 5) o)
     (append_assoc s (d ∷ []) body ∙ append_assoc r (c ∷ []) (d ∷ body) ∙ append_assoc q (b ∷ []) (c ∷ d ∷ body)
     ∙ append_assoc p (a ∷ []) (b ∷ c ∷ d ∷ body) ∙ append_assoc before (v ∷ k ∷ []) (a ∷ b ∷ c ∷ d ∷ body))
 
--- pieces that are put one behind another
+-- pieces that are written one after another
 pub two_more : (o a b x y : List ℕ) → x ≡ o ++ a → y ≡ x ++ b → y ≡ o ++ (a ++ b)
 two_more o a b x y e f = f ∙ ap (λ w. w ++ b) e ∙ append_assoc o a b
 

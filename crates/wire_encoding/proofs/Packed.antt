@@ -33,14 +33,14 @@ carried_closed (row ∷ rows) = append-nil (map Row (row ∷ rows))
 carried_after : (rows : List Atoms) (payloads : List Payload) (replies : List Reply) → flat_map replies_of payloads ≡ replies
     → flat_map replies_of (closed rows ++ payloads) ≡ map Row rows ++ replies
 carried_after rows payloads replies e =
-    flat_map-append replies_of (closed rows) payloads ∙ ap (λ front. front ++ flat_map replies_of payloads) (carried_closed rows) ∙ ap (λ rs. map Row rows ++ rs) e
+    flat_map-append replies_of (closed rows) payloads ∙ ap (λ prefix. prefix ++ flat_map replies_of payloads) (carried_closed rows) ∙ ap (λ rs. map Row rows ++ rs) e
 
 carried_row : (rows : List Atoms) (row : Atoms) (replies : List Reply) (b : Bool)
     → flat_map replies_of (gathered (rows ++ row ∷ []) replies) ≡ map Row (rows ++ row ∷ []) ++ replies
     → flat_map replies_of (gathered (row ∷ []) replies) ≡ Row row ∷ replies
     → flat_map replies_of (cond b (gathered (rows ++ row ∷ []) replies) (closed rows ++ gathered (row ∷ []) replies)) ≡ map Row rows ++ Row row ∷ replies
 carried_row rows row replies true with_it apart =
-    with_it ∙ ap (λ front. front ++ replies) (map-append Row rows (row ∷ [])) ∙ append_assoc (map Row rows) (Row row ∷ []) replies
+    with_it ∙ ap (λ prefix. prefix ++ replies) (map-append Row rows (row ∷ [])) ∙ append_assoc (map Row rows) (Row row ∷ []) replies
 carried_row rows row replies false with_it apart = carried_after rows (gathered (row ∷ []) replies) (Row row ∷ replies) apart
 
 carried : (replies : List Reply) (rows : List Atoms) → flat_map replies_of (gathered rows replies) ≡ map Row rows ++ replies
@@ -138,10 +138,10 @@ pub packed_none : (version : FrameVersion) → packed version [] ≡ []
 packed_none V1 = refl
 packed_none V2 = refl
 
-pub packed_front : (version : FrameVersion) (replies : List Reply) (count : ℕ) (bytes : List ℕ) → PacksPrefix version replies count bytes
+pub packed_prefix : (version : FrameVersion) (replies : List Reply) (count : ℕ) (bytes : List ℕ) → PacksPrefix version replies count bytes
     → packed version replies ≡ bytes ++ packed version (drop count replies)
-packed_front version replies count bytes front =
-    ap (flat_map (payload_frame version)) front.first ∙ ap (λ b. b ++ packed version (drop count replies)) (sym front.spells.1)
+packed_prefix version replies count bytes prefix =
+    ap (flat_map (payload_frame version)) prefix.first ∙ ap (λ b. b ++ packed version (drop count replies)) (sym prefix.spells.1)
 
 -- a reply with a frame of its own
 pub alone_proper : (version : FrameVersion) (reply : Reply) → IsAlone version reply → IsReply reply → HasFrame version (One reply)
@@ -163,7 +163,7 @@ alone_first V2 (Refused fault) others alone = refl
 pub puts_alone : (version : FrameVersion) (replies others : List Reply) (reply : Reply) (old new : List ℕ) → replies ≡ reply ∷ others → IsAlone version reply → IsReply reply
     → new ≡ old ++ reply_frame version reply → PutsPrefix version replies old new 1
 puts_alone version replies others reply old new e alone h grew =
-    let front : PacksPrefix version (reply ∷ others) 1 (reply_frame version reply) = record {
+    let prefix : PacksPrefix version (reply ∷ others) 1 (reply_frame version reply) = record {
       payload = One reply;
       first = alone_first version reply others alone;
       carries = refl;
@@ -171,12 +171,12 @@ puts_alone version replies others reply old new e alone h grew =
       within = omega arith;
       spells = (alone_proper version reply alone h, refl);
     } in
-    record { bytes = reply_frame version reply; grew = grew; front = subst (λ rs. PacksPrefix version rs 1 (reply_frame version reply)) (sym e) front }
+    record { bytes = reply_frame version reply; grew = grew; prefix = subst (λ rs. PacksPrefix version rs 1 (reply_frame version reply)) (sym e) prefix }
 
 -- rows that share their frame
-front_shared : (first : Atoms) (others : List Reply) (count : ℕ) → Follow first others count → All IsRow (rows_of (take (count + 1) (Row first ∷ others)))
+prefix_shared : (first : Atoms) (others : List Reply) (count : ℕ) → Follow first others count → All IsRow (rows_of (take (count + 1) (Row first ∷ others)))
     → PacksPrefix V2 (Row first ∷ others) (count + 1) (payload_frame V2 (Rows (rows_of (take (count + 1) (Row first ∷ others)))))
-front_shared first others count follow all =
+prefix_shared first others count follow all =
     rw add-one (record {
       payload = Rows (first ∷ rows_of (take count others));
       first = follow.frame;
@@ -189,26 +189,26 @@ front_shared first others count follow all =
 pub puts_shared : (version : FrameVersion) (replies others : List Reply) (first : Atoms) (count : ℕ) (old new : List ℕ) → replies ≡ Row first ∷ others → version ≡ V2 → Follow first others count
     → All IsRow (rows_of (take (count + 1) replies)) → new ≡ old ++ payload_frame V2 (Rows (rows_of (take (count + 1) replies))) → PutsPrefix version replies old new (count + 1)
 puts_shared version replies others first count old new e v follow all grew =
-    let front = front_shared first others count follow (subst (λ rs. All IsRow (rows_of (take (count + 1) rs))) e all) in
+    let prefix = prefix_shared first others count follow (subst (λ rs. All IsRow (rows_of (take (count + 1) rs))) e all) in
     record {
       bytes = payload_frame V2 (Rows (rows_of (take (count + 1) replies)));
       grew = grew;
-      front = rw (e, v) front;
+      prefix = rw (e, v) prefix;
     }
 
 -- one frame more
 pub packed_more : (version : FrameVersion) (replies : List Reply) (done count : ℕ) (old new : List ℕ) → PutsPrefix version (drop done replies) old new count
     → old ++ packed version (drop done replies) ≡ packed version replies → new ++ packed version (drop (done + count) replies) ≡ packed version replies
-packed_more version replies done count old new front e =
-    let p = packed_front version (drop done replies) count front.bytes front.front in
+packed_more version replies done count old new prefix e =
+    let p = packed_prefix version (drop done replies) count prefix.bytes prefix.prefix in
     let d : drop count (drop done replies) ≡ drop (done + count) replies = drop-drop count done replies in
-    ap (λ out. out ++ packed version (drop (done + count) replies)) front.grew ∙ append_assoc old front.bytes (packed version (drop (done + count) replies))
-    ∙ ap (λ rs. old ++ (front.bytes ++ packed version rs)) (sym d) ∙ ap (λ out. old ++ out) (sym p) ∙ e
+    ap (λ out. out ++ packed version (drop (done + count) replies)) prefix.grew ∙ append_assoc old prefix.bytes (packed version (drop (done + count) replies))
+    ∙ ap (λ rs. old ++ (prefix.bytes ++ packed version rs)) (sym d) ∙ ap (λ out. old ++ out) (sym p) ∙ e
 
 pub proper_more : (version : FrameVersion) (replies : List Reply) (done count : ℕ) (old new : List ℕ) → PutsPrefix version (drop done replies) old new count
     → (All (HasFrame version) (payloads_of version (drop done replies)) → All (HasFrame version) (payloads_of version replies))
     → All (HasFrame version) (payloads_of version (drop (done + count) replies)) → All (HasFrame version) (payloads_of version replies)
-proper_more version replies done count old new front before after =
+proper_more version replies done count old new prefix before after =
     let others = payloads_of version (drop count (drop done replies)) in
     let rest : All (HasFrame version) others = subst (λ (rs : List Reply). All (HasFrame version) (payloads_of version rs)) (sym (drop-drop count done replies)) after in
-    before (subst (All (HasFrame version)) (sym front.front.first) (All-cons (HasFrame version) front.front.payload others front.front.spells.0 rest))
+    before (subst (All (HasFrame version)) (sym prefix.prefix.first) (All-cons (HasFrame version) prefix.prefix.payload others prefix.prefix.spells.0 rest))

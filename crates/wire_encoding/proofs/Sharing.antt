@@ -183,12 +183,12 @@ taken_more first replies count size larger reply t lt is e =
     let rows = rows_of (take count replies) in
     let others = drop (count + 1) replies in
     let s = step first rows reply others larger (sym (same_size first replies count size reply t) ∙ e) in
-    let front : take (count + 1) replies ≡ take count replies ++ reply ∷ [] = take_more replies count reply lt ∙ ap (λ r. take count replies ++ r ∷ []) is in
+    let prefix : take (count + 1) replies ≡ take count replies ++ reply ∷ [] = take_more replies count reply lt ∙ ap (λ r. take count replies ++ r ∷ []) is in
     let back : drop count replies ≡ reply ∷ others = drop_more replies count reply lt ∙ ap (λ r. r ∷ others) is in
     let more : rows_of (take (count + 1) replies) ≡ rows ++ row_of reply
-    = ap rows_of front ∙ flat_map-append row_of (take count replies) (reply ∷ []) ∙ ap (λ r. rows ++ r) (append-nil (row_of reply)) in (
+    = ap rows_of prefix ∙ flat_map-append row_of (take count replies) (reply ∷ []) ∙ ap (λ r. rows ++ r) (append-nil (row_of reply)) in (
       record {
-        rows = ap (map Row) more ∙ map-append Row rows (row_of reply) ∙ ap (λ r. r ++ map Row (row_of reply)) t.rows ∙ ap (λ r. take count replies ++ r) s.one ∙ sym front;
+        rows = ap (map Row) more ∙ map-append Row rows (row_of reply) ∙ ap (λ r. r ++ map Row (row_of reply)) t.rows ∙ ap (λ r. take count replies ++ r) s.one ∙ sym prefix;
         ahead = t.ahead ∙ ap (λ r. gathered (first ∷ rows) r) back ∙ s.ahead ∙ ap (λ r. gathered (first ∷ r) others) (sym more);
         batch = subst (λ (r : List Atoms). IsBatch (first ∷ r)) (sym more) (s.batch t.batch);
         sized = s.sized ∙ ap (λ r. length (rows_body (first ∷ r))) (sym more);

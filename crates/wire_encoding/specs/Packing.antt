@@ -62,7 +62,7 @@ abbrev pub closed : List Atoms → List Payload
 closed [] = []
 closed (row ∷ rows) = Rows (row ∷ rows) ∷ []
 
--- behind rows that were taken: each frame takes the rows that follow, as long as it may
+-- after rows that were taken: each frame takes the rows that follow, as long as it may
 abbrev pub gathered : List Atoms → List Reply → List Payload
 gathered rows [] = closed rows
 gathered rows (Row row ∷ replies) = if takes rows row then gathered (rows ++ row ∷ []) replies else (closed rows ++ gathered (row ∷ []) replies)
@@ -91,8 +91,8 @@ pub record PacksPrefix (version : FrameVersion) (replies : List Reply) (count : 
   pub within : count ≤ length replies
   pub spells : SpellsPayload version payload bytes
 
--- it was put behind other bytes
+-- it was written after other bytes
 pub record PutsPrefix (version : FrameVersion) (replies : List Reply) (old new : List ℕ) (count : ℕ) : Type 0 where
   pub bytes : List ℕ
   pub grew : new ≡ old ++ bytes
-  pub front : PacksPrefix version replies count bytes
+  pub prefix : PacksPrefix version replies count bytes

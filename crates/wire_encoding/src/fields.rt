@@ -19,13 +19,13 @@ pub trait Part {
     /// What each part meets.
     ghost meets: { Self → Type 0 };
 
-    /// Puts the spelling at the end.
+    /// Appends the spelling.
     fn push(&self, out: &mut Vec<u8>) -> Result<(), AllocError>
         ensures bytes { OnOk result (out.new.items ≡ out.old.items ++ spelling self.now) }
         ensures meets { OnOk result (meets self.now) };
 }
 
-/// Puts the spellings of parts at the end, one after another.
+/// Appends the spellings of parts, one after another.
 pub fn push_all<P: Part>(out: &mut Vec<u8>, parts: &[P]) -> Result<(), AllocError>
     ensures bytes { OnOk result (out.new.items ≡ out.old.items ++ flat_map P.spelling parts.now) }
     ensures meet { OnOk result (All P.meets parts.now) }
@@ -36,7 +36,7 @@ pub fn push_all<P: Part>(out: &mut Vec<u8>, parts: &[P]) -> Result<(), AllocErro
     Ok(())
 }
 
-/// A count in one byte, and so many parts.
+/// A count in one byte, and as many parts.
 pub fn push_few<P: Part>(out: &mut Vec<u8>, parts: &[P]) -> Result<(), AllocError>
     requires count { length parts.now < 256 }
     ensures bytes { OnOk result (out.new.items ≡ out.old.items ++ spell.few P.spelling parts.now) }
@@ -46,7 +46,7 @@ pub fn push_few<P: Part>(out: &mut Vec<u8>, parts: &[P]) -> Result<(), AllocErro
     push_all(out, parts)
 }
 
-/// A count in two bytes, and so many parts.
+/// A count in two bytes, and as many parts.
 pub fn push_many<P: Part>(out: &mut Vec<u8>, parts: &[P]) -> Result<(), AllocError>
     requires count { length parts.now < 2 ^ 16 }
     ensures bytes { OnOk result (out.new.items ≡ out.old.items ++ spell.many P.spelling parts.now) }
@@ -67,7 +67,7 @@ pub fn push_blob(out: &mut Vec<u8>, bytes: &[u8]) -> Result<(), AllocError>
     Ok(())
 }
 
-/// A text behind a length in two bytes.
+/// A text after a length in two bytes.
 pub fn push_str(out: &mut Vec<u8>, text: &str) -> Result<(), AllocError>
     requires { length text.now < 2 ^ 16 }
     ensures { OnOk result (out.new.items ≡ out.old.items ++ spell.str (chars text.now)) }
@@ -75,7 +75,7 @@ pub fn push_str(out: &mut Vec<u8>, text: &str) -> Result<(), AllocError>
     push_blob(out, text.as_bytes())
 }
 
-/// A text of at most 128 characters behind a length in two bytes.
+/// A text of at most 128 characters after a length in two bytes.
 pub fn push_short(out: &mut Vec<u8>, text: &str) -> Result<(), AllocError>
     requires { length (chars text.now) ≤ 128 }
     ensures { OnOk result (out.new.items ≡ out.old.items ++ spell.str (chars text.now)) }
@@ -83,7 +83,7 @@ pub fn push_short(out: &mut Vec<u8>, text: &str) -> Result<(), AllocError>
     push_blob(out, text.as_bytes())
 }
 
-/// A statement's text, behind a length in four bytes.
+/// A statement's text, after a length in four bytes.
 pub fn push_text(out: &mut Vec<u8>, text: &StatementPart<'_>) -> Result<(), AllocError>
     ensures bytes { OnOk result (out.new.items ≡ out.old.items ++ spell.text text.now) }
     ensures meets { OnOk result (IsStatement text.now) }

@@ -154,7 +154,7 @@ pub fn version_byte(version: FrameVersion) -> u8
     }
 }
 
-/// Writes the length of the body into the frame that begins at a place and is the last one.
+/// Writes the length of the body into the frame that begins at an offset and is the last one.
 pub fn mend_length(out: &mut Vec<u8>, start: usize)
     requires header { start + 6 ≤ length out.old.items }
     requires length { length out.old.items < start + 6 + 2 ^ 32 }
@@ -185,7 +185,7 @@ fn try_push_request(
     Ok(())
 }
 
-/// Puts the frame that spells a reply at the end.
+/// Appends the frame that spells a reply.
 pub fn try_push_reply(
     out: &mut Vec<u8>,
     version: FrameVersion,
@@ -202,7 +202,7 @@ pub fn try_push_reply(
     Ok(())
 }
 
-/// Puts the frame that spells a request in a version at the end. Out of memory, the buffer is
+/// Appends the frame that spells a request in a version. Out of memory, the buffer is
 /// emptied.
 pub fn push_request(
     out: &mut Vec<u8>,

@@ -8,4 +8,4 @@ mod sizes;
 mod writing;
 
 pub use framing::{encode_reply, encode_request, push_request};
-pub use packing::{pack, push_front};
+pub use packing::{pack, push_prefix};

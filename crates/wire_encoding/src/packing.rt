@@ -77,7 +77,7 @@ fn push_shape(out: &mut Vec<u8>, rows: usize, columns: usize) -> Result<(), Allo
     Ok(())
 }
 
-/// Puts the frame of rows at the end, each of so many atoms.
+/// Appends the frame of rows, each of so many atoms.
 fn push_rows(out: &mut Vec<u8>, rows: &[Reply<'_>], columns: usize) -> Result<(), AllocError>
     requires share { Share rows.now columns }
     requires columns { columns ≤ 512 }
@@ -107,7 +107,7 @@ fn shared_row<'r, 'a>(version: FrameVersion, reply: &'r Reply<'a>) -> Option<&'r
     }
 }
 
-fn try_push_front(
+fn try_push_prefix(
     out: &mut Vec<u8>,
     version: FrameVersion,
     replies: &[Reply<'_>],
@@ -126,19 +126,19 @@ fn try_push_front(
     Ok(count)
 }
 
-/// Puts the first frame of an answer at the end, and tells how many of the replies it carries. Out
-/// of memory, the buffer is emptied.
-pub fn push_front(
+/// Appends the first frame of an answer, and says how many of the replies it carries. Out of
+/// memory, the buffer is emptied.
+pub fn push_prefix(
     out: &mut Vec<u8>,
     version: FrameVersion,
     replies: &[Reply<'_>],
 ) -> Result<usize, AllocError>
     requires { 1 ≤ length replies.now }
-    ensures front { IfOk result
+    ensures prefix { IfOk result
         (λ count. PutsPrefix version replies.now out.old.items out.new.items count) }
     ensures emptied { OnErr result (out.new.items ≡ []) }
 {
-    let pushed = try_push_front(out, version, replies);
+    let pushed = try_push_prefix(out, version, replies);
     if pushed.is_err() {
         out.clear();
     }
@@ -157,7 +157,7 @@ pub fn pack(
     let mut out = Vec::new(alloc);
     let mut packed = 0;
     'frames: while packed < replies.len() {
-        packed += push_front(&mut out, version, &replies[packed..])?;
+        packed += push_prefix(&mut out, version, &replies[packed..])?;
     }
     Ok(out)
 }

@@ -125,7 +125,7 @@ impl<'a> Part for KeyPart<'a> {
     }
 }
 
-/// Keys, value by value, behind the count of their entries in one byte.
+/// Keys, value by value, after the count of their entries in one byte.
 #[tactic(auto, using(wire_messages::proofs::Interface::entries_within))]
 pub fn push_keys(out: &mut Vec<u8>, keys: &[KeyPart<'_>]) -> Result<(), AllocError>
     requires count { length (entries_of keys.now) ≤ 128 }

@@ -85,39 +85,39 @@ to_server = record {
 
 -- ---- payloads
 
-abbrev pub told_version : FrameVersion → Payload → FrameVersion
-told_version version payload = version
+abbrev pub answered_version : FrameVersion → Payload → FrameVersion
+answered_version version payload = version
 
 named : (version : FrameVersion) (byte kind : ℕ) → is_reply_head version byte kind ≡ true → byte ≡ version_byte version
 named version byte kind h = eqb-true byte (version_byte version) (and_parts (eqb byte (version_byte version)) (is_reply_kind version kind) h).0
 
-told_head : (version : FrameVersion) (payload : Payload) → IsPayload version payload → is_reply_head version (version_byte version) (payload_kind payload) ≡ true
-told_head V1 (One (Described d)) p = refl
-told_head V1 (One (Columns h)) p = refl
-told_head V1 (One (Row atoms)) p = refl
-told_head V1 (One (Ended done)) p = refl
-told_head V1 (One (Refused fault)) p = refl
-told_head V1 (Rows rows) p = absurd p
-told_head V2 (One (Described d)) p = refl
-told_head V2 (One (Columns h)) p = refl
-told_head V2 (One (Row atoms)) p = absurd p
-told_head V2 (One (Ended done)) p = refl
-told_head V2 (One (Refused fault)) p = refl
-told_head V2 (Rows rows) p = refl
+answered_head : (version : FrameVersion) (payload : Payload) → IsPayload version payload → is_reply_head version (version_byte version) (payload_kind payload) ≡ true
+answered_head V1 (One (Described d)) p = refl
+answered_head V1 (One (Columns h)) p = refl
+answered_head V1 (One (Row atoms)) p = refl
+answered_head V1 (One (Ended done)) p = refl
+answered_head V1 (One (Refused fault)) p = refl
+answered_head V1 (Rows rows) p = absurd p
+answered_head V2 (One (Described d)) p = refl
+answered_head V2 (One (Columns h)) p = refl
+answered_head V2 (One (Row atoms)) p = absurd p
+answered_head V2 (One (Ended done)) p = refl
+answered_head V2 (One (Refused fault)) p = refl
+answered_head V2 (Rows rows) p = refl
 
-told_takes : (version other : FrameVersion) (kind : ℕ) (body : List ℕ) (payload : Payload) → AreBytes body → length body ≤ most_body_bytes → is_reply_head version (version_byte other) kind ≡ true
+answered_takes : (version other : FrameVersion) (kind : ℕ) (body : List ℕ) (payload : Payload) → AreBytes body → length body ≤ most_body_bytes → is_reply_head version (version_byte other) kind ≡ true
     → payload_at other kind body ≡ Some payload → (other ≡ version) × (kind ≡ payload_kind payload) × (body ≡ payload_body payload) × HasFrame version payload
-told_takes version other kind body payload fits short head e =
+answered_takes version other kind body payload fits short head e =
     let same : other ≡ version = one_version other version (named version (version_byte other) kind head) in
     let t = payload_takes other kind body payload fits e in
     (same, t.0, t.1, record { proper = subst (λ (v : FrameVersion). IsPayload v payload) same t.2; short = subst (λ (b : List ℕ). length b ≤ most_body_bytes) t.1 short })
 
-pub to_driver : (version : FrameVersion) → IsDirection (is_reply_head version) (told_version version) payload_kind payload_body (HasFrame version) (SpellsPayload version) payload_at
+pub to_driver : (version : FrameVersion) → IsDirection (is_reply_head version) (answered_version version) payload_kind payload_body (HasFrame version) (SpellsPayload version) payload_at
 to_driver version = record {
   heads = λ byte kind h. (version, sym (named version byte kind h));
-  takes = told_takes version;
+  takes = answered_takes version;
   again = λ payload good. payload_again version payload good.proper;
-  kinds = λ payload good. told_head version payload good.proper;
+  kinds = λ payload good. answered_head version payload good.proper;
   within = λ payload good. good.short;
   spells = λ payload bytes good e. (good, e);
   spelled = λ payload bytes s. s;

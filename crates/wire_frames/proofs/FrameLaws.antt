@@ -1,4 +1,4 @@
--- Frames at the front of some bytes, in either direction.
+-- Frames at the start of some bytes, in either direction.
 use Rattle.std.proofs.Common.{◌≡◌, ℕ, suc, ◌+◌, ◌^◌, ◌<◌, ◌≤◌, Bool, true, false, ltb, not, List, [], ◌∷◌, ◌++◌, length, get_or, take, drop, Option, Some, None, refl, sym, ap, subst, ◌∙◌, arith, inr}
 use Rattle.std.specs.Int.{w32, from_be_bytes}
 use Rattle.std.proofs.lemmas.Bool.{ltb-false, le-ltb, or_parts, or_from, not-false, not_from_true}
@@ -89,9 +89,9 @@ of_frame version kind body rest short = record {
 }
 
 -- a frame has the length that it states
-pub front_is_whole : (version later : FrameVersion) (kind other : ℕ) (body tail rest : List ℕ) → length body ≤ most_body_bytes → length tail ≤ most_body_bytes
+pub prefix_is_whole : (version later : FrameVersion) (kind other : ℕ) (body tail rest : List ℕ) → length body ≤ most_body_bytes → length tail ≤ most_body_bytes
     → spell.frame version kind body ++ rest ≡ spell.frame later other tail → rest ≡ []
-front_is_whole version later kind other body tail rest short small e =
+prefix_is_whole version later kind other body tail rest short small e =
     let o = of_frame version kind body rest (omega arith) in
     let p = of_frame later other tail [] (omega arith) in
     let same : stated (spell.frame version kind body ++ rest) ≡ stated (spell.frame later other tail ++ []) = ap stated (e ∙ sym (append-nil (spell.frame later other tail))) in
@@ -124,7 +124,7 @@ pub record IsDirection {N : Type 0} (is_head : ℕ → ℕ → Bool) (version_of
   pub spelled : (m : N) (bytes : List ℕ) → Spells m bytes → Good m × (bytes ≡ spell.frame (version_of m) (kind_of m) (body_of m))
 
 module _ {N : Type 0} (is_head : ℕ → ℕ → Bool) (version_of : N → FrameVersion) (kind_of : N → ℕ) (body_of : N → List ℕ) (Good : N → Type 0) (Spells : N → List ℕ → Type 0)
-    (read : FrameVersion → ℕ → List ℕ → Option N) (way : IsDirection is_head version_of kind_of body_of Good Spells read) where
+    (read : FrameVersion → ℕ → List ℕ → Option N) (direction : IsDirection is_head version_of kind_of body_of Good Spells read) where
   -- what is read of a whole frame, in a version
   abbrev pub within_frame : FrameVersion → List ℕ → Option N
   within_frame version bytes = read version (get_or bytes 1 0) (take (stated bytes) (drop 6 bytes))
@@ -139,30 +139,30 @@ module _ {N : Type 0} (is_head : ℕ → ℕ → Bool) (version_of : N → Frame
       let body = take (stated bytes) (drop 6 bytes) in
       let head : is_head (version_byte version) (get_or bytes 1 0) ≡ true = subst (λ (b : ℕ). is_head b (get_or bytes 1 0) ≡ true) (sym named) h.head in
       let short : length body ≤ most_body_bytes = omega (arith, body_length bytes long, h.short) in
-      let t = way.takes version (get_or bytes 1 0) body m (AreBytes-take (stated bytes) (drop 6 bytes) (AreBytes-drop 6 bytes fits)) short head e in
-      way.spells m (take (6 + stated bytes) bytes) t.3
+      let t = direction.takes version (get_or bytes 1 0) body m (AreBytes-take (stated bytes) (drop 6 bytes) (AreBytes-drop 6 bytes fits)) short head e in
+      direction.spells m (take (6 + stated bytes) bytes) t.3
       (whole_is version bytes fits long (sym named) ∙ ap (λ v. spell.frame v (get_or bytes 1 0) body) t.0 ∙ ap (λ k. spell.frame (version_of m) k body) t.1
       ∙ ap (λ b. spell.frame (version_of m) (kind_of m) b) t.2)
 
-  -- what stands at a front that spells a message
-  pub record AtFront (bytes front : List ℕ) (m : N) : Type 0 where
+  -- what stands at a prefix that spells a message
+  pub record AtStart (bytes prefix : List ℕ) (m : N) : Type 0 where
     pub long : 6 + stated bytes ≤ length bytes
     pub header : is_no_header is_head bytes ≡ false
     pub named : version_byte (version_of m) ≡ get_or bytes 0 0
     pub read_is : within_frame (version_of m) bytes ≡ Some m
-    pub used : 6 + stated bytes ≡ length front
+    pub used : 6 + stated bytes ≡ length prefix
 
-  pub at_front : (bytes front rest : List ℕ) (m : N) → Spells m front → bytes ≡ front ++ rest → AtFront bytes front m
-  at_front bytes front rest m s e =
-      let p = way.spelled m front s in
-      let w = way.within m p.0 in
+  pub at_start : (bytes prefix rest : List ℕ) (m : N) → Spells m prefix → bytes ≡ prefix ++ rest → AtStart bytes prefix m
+  at_start bytes prefix rest m s e =
+      let p = direction.spelled m prefix s in
+      let w = direction.within m p.0 in
       let b : spell.frame (version_of m) (kind_of m) (body_of m) ++ rest ≡ bytes = ap (λ f. f ++ rest) (sym p.1) ∙ sym e in
       let o = subst (λ (x : List ℕ). OfFrame (version_of m) (kind_of m) (body_of m) rest x) b (of_frame (version_of m) (kind_of m) (body_of m) rest (omega arith)) in
       record {
         long = rw o.stated_is o.long;
-        header = header_to is_head bytes (record { head = rw (o.named, o.kind_is) (way.kinds m p.0); short = rw o.stated_is w });
+        header = header_to is_head bytes (record { head = rw (o.named, o.kind_is) (direction.kinds m p.0); short = rw o.stated_is w });
         named = sym o.named;
-        read_is = rw (o.kind_is, o.stated_is, o.body_is) (way.again m p.0);
+        read_is = rw (o.kind_is, o.stated_is, o.body_is) (direction.again m p.0);
         used = rw o.stated_is (sym (ap length p.1 ∙ frame_length (version_of m) (kind_of m) (body_of m)));
       }
 
@@ -178,23 +178,23 @@ module _ {N : Type 0} (is_head : ℕ → ℕ → Bool) (version_of : N → Frame
       rw l (h.0, whole_one bytes version m fits h.0 h.1 h.2 (sym (read_there bytes version kind body h) ∙ e))
 
   -- what is read of a frame whose front spells a message, in the version that the frame names
-  read_at_front : (bytes front rest : List ℕ) (version : FrameVersion) (message : N) → version_byte version ≡ get_or bytes 0 0 → Spells message front → bytes ≡ front ++ rest
+  read_at_start : (bytes prefix rest : List ℕ) (version : FrameVersion) (message : N) → version_byte version ≡ get_or bytes 0 0 → Spells message prefix → bytes ≡ prefix ++ rest
       → within_frame version bytes ≡ Some message
-  read_at_front bytes front rest version message named s split =
-      let a = at_front bytes front rest message s split in
+  read_at_start bytes prefix rest version message named s split =
+      let a = at_start bytes prefix rest message s split in
       ap (λ v. within_frame v bytes) (one_version version (version_of message) (named ∙ sym a.named)) ∙ a.read_is
 
   pub one_is_read : (bytes : List ℕ) (version : FrameVersion) (kind : ℕ) (body : List ℕ) (m : N) → IsFound is_head bytes version kind body → read version kind body ≡ Some m
-      → (message : N) (front rest : List ℕ) → Spells message front → bytes ≡ front ++ rest → (m ≡ message) × (6 + length body ≡ length front)
-  one_is_read bytes version kind body m h e message front rest s split =
-      let a = at_front bytes front rest message s split in
+      → (message : N) (prefix rest : List ℕ) → Spells message prefix → bytes ≡ prefix ++ rest → (m ≡ message) × (6 + length body ≡ length prefix)
+  one_is_read bytes version kind body m h e message prefix rest s split =
+      let a = at_start bytes prefix rest message s split in
       let l : length body ≡ stated bytes = ap length h.4 ∙ body_length bytes h.0 in
-      (some_is m message (sym e ∙ read_there bytes version kind body h ∙ read_at_front bytes front rest version message h.2 s split), rw l a.used)
+      (some_is m message (sym e ∙ read_there bytes version kind body h ∙ read_at_start bytes prefix rest version message h.2 s split), rw l a.used)
 
   pub none_is_spelled : (bytes : List ℕ) (version : FrameVersion) (kind : ℕ) (body : List ℕ) → IsFound is_head bytes version kind body → read version kind body ≡ None
-      → (message : N) (front rest : List ℕ) → Spells message front → bytes ≡ front ++ rest → ⊥
-  none_is_spelled bytes version kind body h none message front rest s split =
-      none_at_all (read version kind body) message none (read_there bytes version kind body h ∙ read_at_front bytes front rest version message h.2 s split)
+      → (message : N) (prefix rest : List ℕ) → Spells message prefix → bytes ≡ prefix ++ rest → ⊥
+  none_is_spelled bytes version kind body h none message prefix rest s split =
+      none_at_all (read version kind body) message none (read_there bytes version kind body h ∙ read_at_start bytes prefix rest version message h.2 s split)
 
   pub none_is_refused : (bytes : List ℕ) (version : FrameVersion) (kind : ℕ) (body : List ℕ) → IsFound is_head bytes version kind body → read version kind body ≡ None → IsRefused is_head Spells bytes
   none_is_refused bytes version kind body h none = (
@@ -206,15 +206,15 @@ module _ {N : Type 0} (is_head : ℕ → ℕ → Bool) (version_of : N → Frame
     ),
   )
 
-  pub no_header_spells : (bytes : List ℕ) → is_no_header is_head bytes ≡ true → (message : N) (front rest : List ℕ) → Spells message front → bytes ≡ front ++ rest → ⊥
-  no_header_spells bytes none message front rest s split = both_ways (is_no_header is_head bytes) none (at_front bytes front rest message s split).header
+  pub no_header_spells : (bytes : List ℕ) → is_no_header is_head bytes ≡ true → (message : N) (prefix rest : List ℕ) → Spells message prefix → bytes ≡ prefix ++ rest → ⊥
+  no_header_spells bytes none message prefix rest s split = both_ways (is_no_header is_head bytes) none (at_start bytes prefix rest message s split).header
 
-  -- ---- the law of fronts
+  -- ---- the law of prefixes
 
-  pub one_front : (m n : N) (front other x y : List ℕ) → Spells m front → Spells n other → front ++ x ≡ other ++ y → (m ≡ n) × (front ≡ other)
-  one_front m n front other x y s t e =
-      let a = at_front (front ++ x) front x m s refl in
-      let same : m ≡ n = some_is m n (sym a.read_is ∙ read_at_front (front ++ x) other y (version_of m) n a.named t e) in
-      let p = way.spelled m front s in
-      let q = way.spelled n other t in
+  pub one_prefix : (m n : N) (prefix other x y : List ℕ) → Spells m prefix → Spells n other → prefix ++ x ≡ other ++ y → (m ≡ n) × (prefix ≡ other)
+  one_prefix m n prefix other x y s t e =
+      let a = at_start (prefix ++ x) prefix x m s refl in
+      let same : m ≡ n = some_is m n (sym a.read_is ∙ read_at_start (prefix ++ x) other y (version_of m) n a.named t e) in
+      let p = direction.spelled m prefix s in
+      let q = direction.spelled n other t in
       (same, p.1 ∙ ap (λ w. spell.frame (version_of w) (kind_of w) (body_of w)) same ∙ sym q.1)

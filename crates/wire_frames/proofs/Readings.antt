@@ -1,4 +1,4 @@
--- Each list of bytes is read: as messages with their places, and an end.
+-- Each list of bytes is read: as messages with their offsets, and an end.
 use Rattle.std.proofs.Common.{◌≡◌, ℕ, zero, suc, ◌+◌, ◌<◌, ◌≤◌, Bool, true, false, ltb, List, [], ◌∷◌, length, get_or, take, drop, Option, Some, None, refl, sym, arith, inl, inr}
 use Rattle.std.specs.List.{All}
 use Rattle.std.proofs.lemmas.Bool.{ltb-true, ltb-false}
@@ -25,11 +25,11 @@ fits_of (b ∷ bs) all zero = All-head (λ byte. byte < 256) b bs all
 fits_of (b ∷ bs) all (suc i) = fits_of bs (All-tail (λ byte. byte < 256) b bs all) i
 
 module _ {N : Type 0} (is_head : ℕ → ℕ → Bool) (version_of : N → FrameVersion) (kind_of : N → ℕ) (body_of : N → List ℕ) (Good : N → Type 0) (Spells : N → List ℕ → Type 0)
-    (read : FrameVersion → ℕ → List ℕ → Option N) (way : IsDirection is_head version_of kind_of body_of Good Spells read) where
+    (read : FrameVersion → ℕ → List ℕ → Option N) (direction : IsDirection is_head version_of kind_of body_of Good Spells read) where
   abbrev Reading : ℕ → List ℕ → Type 0
   Reading at bytes = (ms : List (Placed N)) × (end : End) × ReadsAs is_head Spells at bytes ms end
 
-  -- a message in front of a reading
+  -- a message before a reading
   then_reading : (at : ℕ) (bytes : List ℕ) (version : FrameVersion) (m : N) → AreBytes bytes → 6 + stated bytes ≤ length bytes
       → is_no_header is_head bytes ≡ false → version_byte version ≡ get_or bytes 0 0
       → read version (get_or bytes 1 0) (take (stated bytes) (drop 6 bytes)) ≡ Some m
@@ -42,7 +42,7 @@ module _ {N : Type 0} (is_head : ℕ → ℕ → Bool) (version_of : N → Frame
       drop (6 + stated bytes) bytes,
       sym (take-append-drop (6 + stated bytes) bytes),
       refl,
-      whole_one is_head version_of kind_of body_of Good Spells read way bytes version m fits whole header named e,
+      whole_one is_head version_of kind_of body_of Good Spells read direction bytes version m fits whole header named e,
       r.2,
     ),
   )
@@ -58,14 +58,14 @@ module _ {N : Type 0} (is_head : ℕ → ℕ → Bool) (version_of : N → Frame
       (λ part. ([], Rest at, (refl, omega arith, inr (ltb-false (length bytes) 6 long, header, ltb-true (length bytes) (6 + stated bytes) part))))
       (λ whole.
       let there = ltb-false (length bytes) (6 + stated bytes) whole in
-      let named = way.heads (get_or bytes 0 0) (get_or bytes 1 0) (is_head_of is_head bytes header) in
+      let named = direction.heads (get_or bytes 0 0) (get_or bytes 1 0) (is_head_of is_head bytes header) in
       by_option (read named.0 (get_or bytes 1 0) (take (stated bytes) (drop 6 bytes)))
       (λ none. (
         [],
         Refused at,
         (
           refl,
-          none_is_refused is_head version_of kind_of body_of Good Spells read way bytes named.0
+          none_is_refused is_head version_of kind_of body_of Good Spells read direction bytes named.0
               (get_or bytes 1 0) (take (stated bytes) (drop 6 bytes)) (there, header, named.1, refl, refl) none,
         ),
       ))

@@ -5,7 +5,7 @@ use Rattle.std.proofs.lemmas.List.{append_cancel_left, take_at}
 use Rattle.std.proofs.lemmas.List.Elements.{All-head, All-tail}
 use Rattle.ae_base.specs.declared.frames.FrameVersion.{FrameVersion}
 use Rattle.wire_frames.specs.Frames.{Placed, End, Whole, Refused, Rest, EndsSo, ReadsAs, IsNotYet, IsRefused, stated, is_no_header, placed_from}
-use Rattle.wire_frames.proofs.FrameLaws.{IsDirection, at_front, one_front, both_ways}
+use Rattle.wire_frames.proofs.FrameLaws.{IsDirection, at_start, one_prefix, both_ways}
 
 -- ---- read back
 
@@ -48,20 +48,20 @@ and_first : {N : Type 0} (m n : Placed N) (ms ns : List (Placed N)) (end other :
 and_first m n ms ns end other e p = (ap (λ a. a ∷ ms) e ∙ ap (λ l. n ∷ l) p.0, p.1)
 
 module _ {N : Type 0} (is_head : ℕ → ℕ → Bool) (version_of : N → FrameVersion) (kind_of : N → ℕ) (body_of : N → List ℕ) (Good : N → Type 0) (Spells : N → List ℕ → Type 0)
-    (read : FrameVersion → ℕ → List ℕ → Option N) (way : IsDirection is_head version_of kind_of body_of Good Spells read) where
+    (read : FrameVersion → ℕ → List ℕ → Option N) (direction : IsDirection is_head version_of kind_of body_of Good Spells read) where
   -- where a message is spelled the stream goes on
-  not_at_end : (at : ℕ) (bytes front rest : List ℕ) (m : N) (end : End) → Spells m front → bytes ≡ front ++ rest → EndsSo is_head Spells at bytes end → ⊥
-  not_at_end at bytes front rest m Whole s e h =
-      let a = at_front is_head version_of kind_of body_of Good Spells read way bytes front rest m s e in
+  not_at_end : (at : ℕ) (bytes prefix rest : List ℕ) (m : N) (end : End) → Spells m prefix → bytes ≡ prefix ++ rest → EndsSo is_head Spells at bytes end → ⊥
+  not_at_end at bytes prefix rest m Whole s e h =
+      let a = at_start is_head version_of kind_of body_of Good Spells read direction bytes prefix rest m s e in
       omega (arith, a.long, ap length h)
-  not_at_end at bytes front rest m (Refused place) s e h =
-      let a = at_front is_head version_of kind_of body_of Good Spells read way bytes front rest m s e in
+  not_at_end at bytes prefix rest m (Refused offset) s e h =
+      let a = at_start is_head version_of kind_of body_of Good Spells read direction bytes prefix rest m s e in
       elim h.1.1 [
         | inl none ↦ both_ways (is_no_header is_head bytes) none a.header
-        | inr whole ↦ whole.1 m (subst (λ (f : List ℕ). Spells m f) (sym (ap (λ b. take (6 + stated bytes) b) e ∙ take_at front rest (6 + stated bytes) (sym a.used))) s)
+        | inr whole ↦ whole.1 m (subst (λ (f : List ℕ). Spells m f) (sym (ap (λ b. take (6 + stated bytes) b) e ∙ take_at prefix rest (6 + stated bytes) (sym a.used))) s)
       ]
-  not_at_end at bytes front rest m (Rest place) s e h =
-      let a = at_front is_head version_of kind_of body_of Good Spells read way bytes front rest m s e in
+  not_at_end at bytes prefix rest m (Rest offset) s e h =
+      let a = at_start is_head version_of kind_of body_of Good Spells read direction bytes prefix rest m s e in
       elim h.2 [
         | inl few ↦ omega (arith, a.long, few)
         | inr part ↦ omega (arith, a.long, part.2)
@@ -73,7 +73,7 @@ module _ {N : Type 0} (is_head : ℕ → ℕ → Bool) (version_of : N → Frame
   read_once at bytes [] (n ∷ ns) end other h k = absurd (not_at_end at bytes k.0 k.1 n.message end k.4 k.2 h)
   read_once at bytes (m ∷ ms) [] end other h k = absurd (not_at_end at bytes h.0 h.1 m.message other h.4 h.2 k)
   read_once at bytes (m ∷ ms) (n ∷ ns) end other h k =
-      let same = one_front is_head version_of kind_of body_of Good Spells read way m.message n.message h.0 k.0 h.1 k.1 h.4 k.4 (sym h.2 ∙ k.2) in
+      let same = one_prefix is_head version_of kind_of body_of Good Spells read direction m.message n.message h.0 k.0 h.1 k.1 h.4 k.4 (sym h.2 ∙ k.2) in
       let rests : k.1 ≡ h.1 = append_cancel_left h.0 k.1 h.1 (ap (λ f. f ++ k.1) same.1 ∙ sym k.2 ∙ h.2) in
       let there = subst (λ (r : List ℕ). ReadsAs is_head Spells (at + length h.0) r ns other) rests (subst (λ (f : List ℕ). ReadsAs is_head Spells (at + length f) k.1 ns other) (sym same.1) k.5) in
       and_first m n ms ns end other (same_placed at m n h.3 k.3 same.0)

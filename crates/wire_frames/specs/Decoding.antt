@@ -3,15 +3,15 @@ use Rattle.std.specs.Prelude.{◌≡◌, ◌≤◌, ◌+◌, ℕ, List, ◌++◌
 use Rattle.ae_base.specs.declared.frames.FrameVersion.{FrameVersion}
 use Rattle.wire_encoding.specs.Spelling.{version_byte}
 use Rattle.wire_frames.specs.Frames.{is_request_head, is_reply_head, stated, is_no_header, IsNotYet, IsRefused}
-use Rattle.wire_frames.specs.declared.decoding.Way.{Way}
-use Rattle.wire_frames.specs.declared.decoding.Way.TheVariants.{ToServer, ToDriver}
+use Rattle.wire_frames.specs.declared.decoding.Direction.{Direction}
+use Rattle.wire_frames.specs.declared.decoding.Direction.TheVariants.{ToServer, ToDriver}
 use Rattle.wire_frames.specs.declared.decoding.Framed.{Framed}
 use Rattle.wire_frames.specs.declared.decoding.Framed.TheVariants as framed
 use Rattle.wire_frames.specs.declared.decoding.Decoded.{Decoded}
 use Rattle.wire_frames.specs.declared.decoding.Decoded.TheVariants as decoded
 
 -- the first two bytes of a direction's frames
-abbrev pub has_head : Way → ℕ → ℕ → Bool
+abbrev pub has_head : Direction → ℕ → ℕ → Bool
 has_head ToServer = is_request_head
 has_head (ToDriver version) = is_reply_head version
 
@@ -28,7 +28,7 @@ IsFramed is_head bytes (framed.Whole version kind body) =
 IsFramed is_head bytes framed.NotYet = IsNotYet is_head bytes
 IsFramed is_head bytes framed.Bad = (6 ≤ length bytes) × (is_no_header is_head bytes ≡ true)
 
--- What is read stands at the front, spelled so. Else less than a frame stands there, or what is refused, unless memory
+-- What is read stands at the start, spelled so. Else less than a frame stands there, or what is refused, unless memory
 -- ran out.
 abbrev pub Decodes : {M : Type 0} → (ℕ → ℕ → Bool) → (M → List ℕ → Type 0) → Decoded M → List ℕ → Type 0
 Decodes is_head Spells (decoded.One message used) bytes = (used ≤ length bytes) × Spells message (take used bytes)
@@ -43,6 +43,6 @@ IsRead decoded.NotYet message count = ⊥
 IsRead decoded.Bad message count = ⊥
 IsRead decoded.OutOfMemory message count = Unit {0}
 
--- Whatever message a front spells, it is read.
+-- Whatever message a prefix spells, it is read.
 abbrev pub ReadsEach : {M : Type 0} → (M → List ℕ → Type 0) → Decoded M → List ℕ → Type 0
-ReadsEach {M} Spells result bytes = (message : M) (front rest : List ℕ) → Spells message front → bytes ≡ front ++ rest → IsRead result message (length front)
+ReadsEach {M} Spells result bytes = (message : M) (prefix rest : List ℕ) → Spells message prefix → bytes ≡ prefix ++ rest → IsRead result message (length prefix)

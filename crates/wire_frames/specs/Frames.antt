@@ -1,4 +1,4 @@
--- A stream of bytes as frames: the messages with their places, and where it ends.
+-- A stream of bytes as frames: the messages with their offsets, and where it ends.
 use Rattle.std.specs.Prelude.{◌≡◌, ◌⊎◌, ◌<◌, ◌≤◌, ◌+◌, ℕ, List, [], ◌∷◌, ◌++◌, length, map, flat_map, take, drop, Bool, true, false, ◌&&◌, ◌||◌, not, nat_le, nat_lt, ◌==◌, slice_index}
 use Rattle.std.specs.Int.{w32, from_be_bytes}
 use Rattle.ae_base.specs.declared.frames.FrameVersion.{FrameVersion}
@@ -44,7 +44,7 @@ IsRefused {M} is_head Spells bytes =
     (6 ≤ length bytes)
     × ((is_no_header is_head bytes ≡ true) ⊎ ((6 + stated bytes ≤ length bytes) × ((message : M) → Spells message (take (6 + stated bytes) bytes) → ⊥)))
 
--- a message with the place of its first byte
+-- a message with the offset of its first byte
 pub record Placed (M : Type 0) : Type 0 where
   pub at : ℕ
   pub message : M
@@ -57,10 +57,10 @@ pub data End : Type 0 where
 
 abbrev pub EndsSo : {M : Type 0} → (ℕ → ℕ → Bool) → (M → List ℕ → Type 0) → ℕ → List ℕ → End → Type 0
 EndsSo is_head Spells at bytes Whole = bytes ≡ []
-EndsSo is_head Spells at bytes (Refused place) = (place ≡ at) × IsRefused is_head Spells bytes
-EndsSo is_head Spells at bytes (Rest place) = (place ≡ at) × (0 < length bytes) × IsNotYet is_head bytes
+EndsSo is_head Spells at bytes (Refused offset) = (offset ≡ at) × IsRefused is_head Spells bytes
+EndsSo is_head Spells at bytes (Rest offset) = (offset ≡ at) × (0 < length bytes) × IsNotYet is_head bytes
 
--- the stream from the place on is these messages, and ends so
+-- the stream from the offset on is these messages, and ends so
 abbrev pub ReadsAs : {M : Type 0} → (ℕ → ℕ → Bool) → (M → List ℕ → Type 0) → ℕ → List ℕ → List (Placed M) → End → Type 0
 ReadsAs is_head Spells at bytes [] end = EndsSo is_head Spells at bytes end
 ReadsAs is_head Spells at bytes (m ∷ ms) end =
@@ -74,7 +74,7 @@ RequestFrames bytes messages end = ReadsAs is_request_head SpellsRequest 0 bytes
 abbrev pub ReplyFrames : FrameVersion → List ℕ → List (Placed Payload) → End → Type 0
 ReplyFrames version bytes payloads end = ReadsAs (is_reply_head version) (SpellsPayload version) 0 bytes payloads end
 
--- messages one after another, each with the place of its frame
+-- messages one after another, each with the offset of its frame
 abbrev pub placed_from : {M : Type 0} → (M → List ℕ) → ℕ → List M → List (Placed M)
 placed_from frame at [] = []
 placed_from frame at (m ∷ ms) = record { at = at; message = m } ∷ placed_from frame (at + length (frame m)) ms
@@ -88,6 +88,6 @@ spread_one p = map (λ reply. record { at = p.at; message = reply }) (replies_of
 abbrev pub spread : List (Placed Payload) → List (Placed Reply)
 spread payloads = flat_map spread_one payloads
 
--- the replies of an answer whose frames stand from a place on
+-- the replies of an answer whose frames stand from an offset on
 abbrev pub placed_answer : FrameVersion → ℕ → List Reply → List (Placed Reply)
 placed_answer version at replies = spread (placed_from (payload_frame version) at (payloads_of version replies))

@@ -16,29 +16,29 @@ abbrev pub IsAsked : Versioned Request → Type 0
 IsAsked asked = IsRequest asked.message
 
 -- a payload that is told in a version, and its frame
-abbrev pub IsTold : Versioned Payload → Type 0
-IsTold told = HasFrame told.version told.message
+abbrev pub IsAnswered : Versioned Payload → Type 0
+IsAnswered answered = HasFrame answered.version answered.message
 
-abbrev pub told_frame : Versioned Payload → List ℕ
-told_frame told = payload_frame told.version told.message
+abbrev pub answered_frame : Versioned Payload → List ℕ
+answered_frame answered = payload_frame answered.version answered.message
 
 -- no spelling is the beginning of another's
 abbrev pub BeginsNoOther : {M : Type 0} → (M → Type 0) → (M → List ℕ) → Type 0
 BeginsNoOther {M} IsMessage frame = (m n : M) (rest : List ℕ) → IsMessage m → IsMessage n → frame m ++ rest ≡ frame n → rest ≡ []
 
--- whatever follows it, a front spells one message at most
+-- whatever follows it, a prefix spells one message at most
 abbrev pub HasOneReading : {M : Type 0} → (M → List ℕ → Type 0) → Type 0
-HasOneReading {M} Spells = (m n : M) (front other x y : List ℕ) → Spells m front → Spells n other → front ++ x ≡ other ++ y → (m ≡ n) × (front ≡ other)
+HasOneReading {M} Spells = (m n : M) (prefix other x y : List ℕ) → Spells m prefix → Spells n other → prefix ++ x ≡ other ++ y → (m ≡ n) × (prefix ≡ other)
 
 -- ---- streams
 
--- a stream is one list of messages with their places, and has one end
+-- a stream is one list of messages with their offsets, and has one end
 abbrev pub IsReadOnce : {M : Type 0} → (ℕ → ℕ → Bool) → (M → List ℕ → Type 0) → Type 0
 IsReadOnce {M} is_head Spells =
     (at : ℕ) (bytes : List ℕ) (ms ns : List (Placed M)) (end other : End)
     → ReadsAs is_head Spells at bytes ms end → ReadsAs is_head Spells at bytes ns other → (ms ≡ ns) × (end ≡ other)
 
--- bytes are a list of messages with their places, and have an end
+-- bytes are a list of messages with their offsets, and have an end
 abbrev pub HasReading : {M : Type 0} → (ℕ → ℕ → Bool) → (M → List ℕ → Type 0) → Type 0
 HasReading {M} is_head Spells =
     (at : ℕ) (bytes : List ℕ) → All (λ byte. byte < 256) bytes

@@ -13,14 +13,15 @@ use wire_messages::requests::Request;
 use wire_payloads::payloads::Payload;
 use wire_payloads::versioned::Versioned;
 
-/// Which way frames go: to the server in either version, to the driver in the one that it speaks.
+/// The direction of frames: to the server in either version, to the driver in the one that it
+/// speaks.
 #[derive(Clone, Copy, PartialEq, Eq, Debug)]
-pub enum Way {
+pub enum Direction {
     ToServer,
     ToDriver(FrameVersion),
 }
 
-/// What stands at the front of some bytes.
+/// The first frame of some bytes.
 #[derive(Drop)]
 pub enum Decoded<M> {
     /// A message, and how many bytes its frame has.
@@ -52,21 +53,23 @@ fn is_reply_kind(version: FrameVersion, kind: u8) -> bool
 }
 
 /// Whether a frame of the direction begins with these two bytes.
-fn has_head(way: Way, byte: u8, kind: u8) -> bool
-    ensures { result ≡ has_head way byte kind }
+fn has_head(direction: Direction, byte: u8, kind: u8) -> bool
+    ensures { result ≡ has_head direction byte kind }
 {
-    match way {
-        Way::ToServer => (byte == 0x01 || byte == 0x02) && (kind == 0x01 || kind == 0x02),
-        Way::ToDriver(FrameVersion::V1) => byte == 0x01 && is_reply_kind(FrameVersion::V1, kind),
-        Way::ToDriver(FrameVersion::V2) => byte == 0x02 && is_reply_kind(FrameVersion::V2, kind),
+    match direction {
+        Direction::ToServer => (byte == 0x01 || byte == 0x02) && (kind == 0x01 || kind == 0x02),
+        Direction::ToDriver(FrameVersion::V1) => byte == 0x01
+            && is_reply_kind(FrameVersion::V1, kind),
+        Direction::ToDriver(FrameVersion::V2) => byte == 0x02
+            && is_reply_kind(FrameVersion::V2, kind),
     }
 }
 
 /// The version that a frame of the direction names by its first two bytes.
-fn version_of(way: Way, byte: u8, kind: u8) -> Option<FrameVersion>
-    ensures { NamesVersion (has_head way) byte kind result }
+fn version_of(direction: Direction, byte: u8, kind: u8) -> Option<FrameVersion>
+    ensures { NamesVersion (has_head direction) byte kind result }
 {
-    if !has_head(way, byte, kind) {
+    if !has_head(direction, byte, kind) {
         return None;
     }
     if byte == 0x01 {
@@ -76,14 +79,14 @@ fn version_of(way: Way, byte: u8, kind: u8) -> Option<FrameVersion>
     }
 }
 
-/// The frame at the front.
-fn frame_of(way: Way, bytes: &[u8]) -> Framed<'_>
-    ensures { IsFramed (has_head way) bytes.now result }
+/// The first frame.
+fn frame_of(direction: Direction, bytes: &[u8]) -> Framed<'_>
+    ensures { IsFramed (has_head direction) bytes.now result }
 {
     let [byte, kind, a, b, c, d, rest @ ..] = bytes else {
         return Framed::NotYet;
     };
-    let Some(version) = version_of(way, *byte, *kind) else {
+    let Some(version) = version_of(direction, *byte, *kind) else {
         return Framed::Bad;
     };
     let length = u32::from_be_bytes([*a, *b, *c, *d]) as usize;
@@ -96,16 +99,16 @@ fn frame_of(way: Way, bytes: &[u8]) -> Framed<'_>
     Framed::Whole(version, *kind, &rest[..length])
 }
 
-/// Reads the request at the front, in either version. Its parts borrow from the bytes.
+/// Reads the first request, in either version. Its parts borrow from the bytes.
 ///
-/// What is read is spelled so, and a front that spells a request is read as that request, unless
-/// memory runs out. Where less than a frame stands there, that is the answer.
+/// The request that is read is encoded so, and bytes that begin with the encoding of a request are
+/// read as that request, unless memory runs out. If there is less than a frame, that is the answer.
 pub fn decode_request(alloc: Global, bytes: &[u8]) -> Decoded<Versioned<Request<'_>>>
     ensures cases { Decodes is_request_head SpellsRequest result bytes.now }
     ensures not_yet { IsNotYet is_request_head bytes.now → result ≡ Decoded.NotYet }
     ensures only { ReadsEach SpellsRequest result bytes.now }
 {
-    match frame_of(Way::ToServer, bytes) {
+    match frame_of(Direction::ToServer, bytes) {
         Framed::Whole(version, kind, body) => match request_body_of(alloc, kind, body) {
             Body::One(message) => Decoded::One(Versioned { version, message }, 6 + body.len()),
             Body::Bad => Decoded::Bad,
@@ -116,17 +119,17 @@ pub fn decode_request(alloc: Global, bytes: &[u8]) -> Decoded<Versioned<Request<
     }
 }
 
-/// Reads what a frame of a version carries to the driver, at the front. Its parts borrow from the
-/// bytes. A header of the other version is no frame.
+/// Reads what the first frame of a version carries to the driver. Its parts borrow from the bytes.
+/// A header of the other version is no frame.
 ///
-/// What is read is spelled so, and a front that spells a payload is read as that payload, unless
-/// memory runs out. Where less than a frame stands there, that is the answer.
+/// The payload that is read is encoded so, and bytes that begin with the encoding of a payload are
+/// read as that payload, unless memory runs out. If there is less than a frame, that is the answer.
 pub fn decode_reply(alloc: Global, version: FrameVersion, bytes: &[u8]) -> Decoded<Payload<'_>>
     ensures cases { Decodes (is_reply_head version) (SpellsPayload version) result bytes.now }
     ensures not_yet { IsNotYet (is_reply_head version) bytes.now → result ≡ Decoded.NotYet }
     ensures only { ReadsEach (SpellsPayload version) result bytes.now }
 {
-    match frame_of(Way::ToDriver(version), bytes) {
+    match frame_of(Direction::ToDriver(version), bytes) {
         Framed::Whole(version, kind, body) => match payload_body_of(alloc, version, kind, body) {
             Body::One(payload) => Decoded::One(payload, 6 + body.len()),
             Body::Bad => Decoded::Bad,

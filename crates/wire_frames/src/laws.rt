@@ -2,27 +2,28 @@
 
 ghost use Rattle.ae_base.specs.declared.frames.FrameVersion.{FrameVersion};
 ghost use Rattle.wire_frames.specs.Frames.{is_request_head, is_reply_head};
-ghost use Rattle.wire_frames.specs.Laws.{IsAsked, IsTold, told_frame, BeginsNoOther, HasOneReading, IsReadOnce, HasReading, IsReadBack, IsUnpacked};
+ghost use Rattle.wire_frames.specs.Laws.{IsAsked, IsAnswered, answered_frame, BeginsNoOther, HasOneReading, IsReadOnce, HasReading, IsReadBack, IsUnpacked};
 ghost use Rattle.wire_encoding.specs.Packing.{SpellsPayload};
 ghost use Rattle.wire_encoding.specs.Spelling.{SpellsRequest, asked_frame};
 
-/// No spelling of a message is the beginning of another's, whichever versions they are in, and
-/// whatever follows, a front spells one message at most. So what is written is read again.
+/// No encoding of a message is the beginning of another's, whichever versions they are in, and
+/// whatever follows, bytes begin with the encoding of one message at most. So what is written is
+/// read again.
 pub fn one_reading()
     ensures requests_end { BeginsNoOther IsAsked asked_frame }
-    ensures replies_end { BeginsNoOther IsTold told_frame }
+    ensures replies_end { BeginsNoOther IsAnswered answered_frame }
     ensures requests { HasOneReading SpellsRequest }
     ensures replies { (version : FrameVersion) → HasOneReading (SpellsPayload version) }
 {}
 
-/// A stream is read in one way: as one list of messages with their places, and with one end.
+/// A stream is read in one way: as one list of messages with their offsets, and with one end.
 pub fn streams_are_read_once()
     ensures requests { IsReadOnce is_request_head SpellsRequest }
     ensures replies { (version : FrameVersion)
         → IsReadOnce (is_reply_head version) (SpellsPayload version) }
 {}
 
-/// Each stream has a reading: whatever the bytes are, they are messages with their places, and an
+/// Each stream has a reading: whatever the bytes are, they are messages with their offsets, and an
 /// end. So what is said of a stream by its reading is said of every stream.
 pub fn streams_have_readings()
     ensures requests { HasReading is_request_head SpellsRequest }

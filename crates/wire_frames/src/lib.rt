@@ -4,5 +4,5 @@
 mod decoding;
 mod laws;
 
-pub use decoding::{Decoded, Way, decode_reply, decode_request};
+pub use decoding::{Decoded, Direction, decode_reply, decode_request};
 pub use laws::{frames_are_read_back, one_reading, streams_are_read_once};

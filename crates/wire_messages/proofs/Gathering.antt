@@ -156,8 +156,8 @@ entries_within (key ∷ keys) =
 
 -- ---- what they meet
 
-front_meets : {A : Type 0} (P : A → Type 0) (xs ys : List A) → All P (xs ++ ys) → All P xs
-front_meets P xs ys a = All-same P xs (take (length xs) (xs ++ ys)) (sym (take_at xs ys (length xs) refl)) (All-take P (length xs) (xs ++ ys) a)
+prefix_meets : {A : Type 0} (P : A → Type 0) (xs ys : List A) → All P (xs ++ ys) → All P xs
+prefix_meets P xs ys a = All-same P xs (take (length xs) (xs ++ ys)) (sym (take_at xs ys (length xs) refl)) (All-take P (length xs) (xs ++ ys) a)
 
 rest_meets : {A : Type 0} (P : A → Type 0) (xs ys : List A) → All P (xs ++ ys) → All P ys
 rest_meets P xs ys a = All-same P ys (drop (length xs) (xs ++ ys)) (sym (drop_at xs ys (length xs) refl)) (All-drop P (length xs) (xs ++ ys) a)
@@ -169,4 +169,4 @@ entries_meet (key ∷ keys) a = All-append IsEntry (entries_of_key key) (entries
 pub keys_meet : (keys : List KeyMeta) → All IsEntry (entries_of keys) → All IsKey keys
 keys_meet [] a = All-nil IsKey
 keys_meet (key ∷ keys) a =
-    All-cons IsKey key keys (front_meets IsEntry (entries_of_key key) (entries_of keys) a) (keys_meet keys (rest_meets IsEntry (entries_of_key key) (entries_of keys) a))
+    All-cons IsKey key keys (prefix_meets IsEntry (entries_of_key key) (entries_of keys) a) (keys_meet keys (rest_meets IsEntry (entries_of_key key) (entries_of keys) a))

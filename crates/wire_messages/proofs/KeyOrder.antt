@@ -35,8 +35,8 @@ left_is keys used d lt =
     let m = drop_more keys used d lt in
     rw (a, m, b) refl
 
-front_is : (keys : List KeyMeta) (used : ℕ) (d : KeyMeta) → used < length keys → take (used + 1) (ids_of keys) ≡ take used (ids_of keys) ++ (get_or keys used d).id ∷ []
-front_is keys used d lt =
+prefix_is : (keys : List KeyMeta) (used : ℕ) (d : KeyMeta) → used < length keys → take (used + 1) (ids_of keys) ≡ take used (ids_of keys) ++ (get_or keys used d).id ∷ []
+prefix_is keys used d lt =
     let a = take-map (λ (k : KeyMeta). k.id) used keys in
     let b = take-map (λ (k : KeyMeta). k.id) (used + 1) keys in
     let m = map_more (λ (k : KeyMeta). k.id) keys used d lt in
@@ -48,7 +48,7 @@ pub used_next : (keys : List KeyMeta) (used key : ℕ) (d : KeyMeta) → used < 
 used_next keys used key d lt h e encs =
     let f = used_first keys used key h encs in
     let l = left_is keys used d lt in
-    let t = front_is keys used d lt ∙ ap (λ k. take used (ids_of keys) ++ k ∷ []) e in
+    let t = prefix_is keys used d lt ∙ ap (λ k. take used (ids_of keys) ++ k ∷ []) e in
     let s = same_head (get_or keys used d).id key (drop (used + 1) (ids_of keys)) (keys_used (take used (ids_of keys) ++ key ∷ []) encs) e in
     rw (f, l, s, t) refl
 

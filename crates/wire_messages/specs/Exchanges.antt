@@ -11,7 +11,7 @@ use Rattle.wire_messages.specs.declared.replies.Reply.TheVariants.{Described, Co
 use Rattle.wire_messages.specs.declared.requests.Request.{Request}
 use Rattle.wire_messages.specs.declared.requests.Request.TheVariants.{Describe, Execute}
 use Rattle.wire_messages.specs.Messages.{Header}
-use Rattle.wire_messages.specs.Messages as told
+use Rattle.wire_messages.specs.Messages as messages
 
 -- a request and the replies to it
 pub record Exchange : Type 0 where
@@ -27,7 +27,7 @@ pub record Served (State : Type 0) : Type 0 where
 -- as many atoms and the end of an answer; each of them by a refusal instead
 pub data HasKinds : Request → List Reply → Type 0 where
   Refusal : (request : Request) (f : SqlFault) → HasKinds request (Refused f ∷ [])
-  Description : (session : ℕ) (text : List ℕ) (declarations : List ParamDecl) (description : told.Description)
+  Description : (session : ℕ) (text : List ℕ) (declarations : List ParamDecl) (description : messages.Description)
       → HasKinds (Describe session text declarations) (Described description ∷ [])
   Definition : (session version : ℕ) (text : List ℕ) (params : List SentParam) → HasKinds (Execute session version text params) (Ended Defined ∷ [])
   Change : (session version : ℕ) (text : List ℕ) (params : List SentParam) (count : ℕ) → HasKinds (Execute session version text params) (Ended (Changed count) ∷ [])

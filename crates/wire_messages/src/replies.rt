@@ -1,7 +1,7 @@
 //! What the server answers.
 
 ghost use Rattle.std.specs.Prelude.{◌≡◌, ◌↔◌, IfOk, IfSome, IsSome};
-ghost use Rattle.wire_messages.specs.Messages as told;
+ghost use Rattle.wire_messages.specs.Messages as messages;
 ghost use Rattle.wire_messages.specs.Messages.{IsFew};
 
 use crate::columns::SentColumn;
@@ -35,13 +35,13 @@ impl<'a> Drop for Description<'a> {
 }
 
 impl<'a> Model for Description<'a> {
-    ghost use Rattle.wire_messages.specs.Messages as told;
+    ghost use Rattle.wire_messages.specs.Messages as messages;
 
-    ghost Value = { told.Description };
+    ghost Value = { messages.Description };
 
     ghost view = { λ d. record { version = d.version; keys = d.keys; params = d.params } };
 
-    ghost invariant = { λ d. told.IsDescription
+    ghost invariant = { λ d. messages.IsDescription
         (record { version = d.version; keys = d.keys; params = d.params }) };
 }
 
@@ -56,7 +56,7 @@ impl<'a> Description<'a> {
         ensures description { IfSome result
             (λ d. d ≡ record { version = version; keys = keys.entry; params = params.entry }) }
         ensures exactly { IsSome result
-            ↔ told.IsDescription
+            ↔ messages.IsDescription
             (record { version = version; keys = keys.entry; params = params.entry }) }
     {
         if !are_the_keys_of(params.as_slice(), keys.as_slice()) {
@@ -79,7 +79,7 @@ impl<'a> Description<'a> {
     /// The keys of the parameters.
     pub fn keys(&self) -> &[KeyPart<'a>]
         ensures keys { result.now ≡ self.now.keys }
-        ensures description { told.IsDescription self.now }
+        ensures description { messages.IsDescription self.now }
     {
         self.keys.as_slice()
     }
@@ -87,7 +87,7 @@ impl<'a> Description<'a> {
     /// The parameters that the statement uses.
     pub fn params(&self) -> &UsedParams<'a>
         ensures params { result.now ≡ self.now.params }
-        ensures description { told.IsDescription self.now }
+        ensures description { messages.IsDescription self.now }
     {
         &self.params
     }
@@ -96,7 +96,7 @@ impl<'a> Description<'a> {
     pub fn into_parts(self) -> (Seq<KeyPart<'a>>, UsedParams<'a>)
         ensures keys { result.0 ≡ self.entry.keys }
         ensures params { result.1 ≡ self.entry.params }
-        ensures description { told.IsDescription self.entry }
+        ensures description { messages.IsDescription self.entry }
     {
         let Description {
             version: _,
@@ -134,13 +134,13 @@ impl<'a> Drop for Header<'a> {
 }
 
 impl<'a> Model for Header<'a> {
-    ghost use Rattle.wire_messages.specs.Messages as told;
+    ghost use Rattle.wire_messages.specs.Messages as messages;
 
-    ghost Value = { told.Header };
+    ghost Value = { messages.Header };
 
     ghost view = { λ h. record { keys = h.keys; columns = h.columns } };
 
-    ghost invariant = { λ h. told.IsHeader (record { keys = h.keys; columns = h.columns }) };
+    ghost invariant = { λ h. messages.IsHeader (record { keys = h.keys; columns = h.columns }) };
 }
 
 impl<'a> Header<'a> {
@@ -150,7 +150,7 @@ impl<'a> Header<'a> {
         ensures header { IfSome result
             (λ h. h ≡ record { keys = keys.entry; columns = columns.entry }) }
         ensures exactly { IsSome result
-            ↔ told.IsHeader (record { keys = keys.entry; columns = columns.entry }) }
+            ↔ messages.IsHeader (record { keys = keys.entry; columns = columns.entry }) }
     {
         if columns.is_empty() || columns.len() > MOST_ANSWER_COLUMNS {
             return None;
@@ -164,7 +164,7 @@ impl<'a> Header<'a> {
     /// The keys of the columns.
     pub fn keys(&self) -> &[KeyPart<'a>]
         ensures keys { result.now ≡ self.now.keys }
-        ensures header { told.IsHeader self.now }
+        ensures header { messages.IsHeader self.now }
     {
         self.keys.as_slice()
     }
@@ -172,7 +172,7 @@ impl<'a> Header<'a> {
     /// The columns.
     pub fn columns(&self) -> &[SentColumn<'a>]
         ensures columns { result.now ≡ self.now.columns }
-        ensures header { told.IsHeader self.now }
+        ensures header { messages.IsHeader self.now }
     {
         self.columns.as_slice()
     }
@@ -181,7 +181,7 @@ impl<'a> Header<'a> {
     pub fn into_parts(self) -> (Seq<KeyPart<'a>>, Seq<SentColumn<'a>>)
         ensures keys { result.0 ≡ self.entry.keys }
         ensures columns { result.1 ≡ self.entry.columns }
-        ensures header { told.IsHeader self.entry }
+        ensures header { messages.IsHeader self.entry }
     {
         let Header { keys, columns } = self;
         (keys, columns)
@@ -256,9 +256,9 @@ impl<'a> RowParts<'a> {
 pub enum Done {
     /// A definition.
     Defined,
-    /// A change of so many rows.
+    /// A change of this many rows.
     Changed(u64),
-    /// An answer of so many rows.
+    /// An answer of this many rows.
     Answered(u64),
 }
 

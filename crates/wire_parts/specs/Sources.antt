@@ -1,4 +1,4 @@
--- What an own and a borrowed part stand for.
+-- What own and borrowed parts mean.
 use Rattle.std.specs.Prelude.{List, ℕ}
 use Rattle.std.specs.Str.{chars}
 use Rattle.wire_parts.specs.declared.parts.TxtSource.{TxtSource}

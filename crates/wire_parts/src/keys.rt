@@ -1,4 +1,4 @@
-//! What a client is told of column encryption keys.
+//! The descriptions of column encryption keys.
 
 ghost use Rattle.std.specs.Prelude.{◌≡◌, ◌↔◌, IfOk, IfSome, IsSome};
 ghost use Rattle.ae_base.specs.Keys.{IsWrappedKey};
@@ -111,7 +111,7 @@ impl<'a, 'b> ToOwn<ValuePart<'b>> for ValuePart<'a> {
     }
 }
 
-/// What a client is told of a column encryption key, which contracts see as a `KeyMeta`.
+/// The description of a column encryption key. Contracts see it as a `KeyMeta`.
 pub struct KeyPart<'a> {
     id: KeyId,
     name: NamePart<'a>,
@@ -137,7 +137,7 @@ impl<'a> Model for KeyPart<'a> {
 }
 
 impl<'a> KeyPart<'a> {
-    /// What is told of a key. It takes no memory.
+    /// The description of a key. It takes no memory.
     pub fn new(id: KeyId, name: NamePart<'a>, values: OneOrTwo<ValuePart<'a>>) -> KeyPart<'a>
         ensures { result ≡ record { id = id; name = name.entry; values = values.entry } }
     {

@@ -21,7 +21,7 @@ no_cr line h =
     let e : is_hex_digit 13 ≡ true = All-contains (λ c. is_hex_digit c ≡ true) (line ++ 13 ∷ []) 13 h (Contains-push line 13) in
     cc
 
--- CR LF is a CR, and behind it an LF
+-- CR LF is a CR, and after it an LF
 cr_lf : (line : List ℕ) → line ++ 13 ∷ 10 ∷ [] ≡ (line ++ 13 ∷ []) ++ 10 ∷ []
 cr_lf line = sym (append_assoc line (13 ∷ []) (10 ∷ []))
 
@@ -38,7 +38,7 @@ module _ (bytes digits : List ℕ) (hex : AllPass is_hex_digit digits) where
       let d : (digits ++ 13 ∷ []) ++ 10 ∷ [] ≡ (line ++ 13 ∷ []) ++ 10 ∷ [] = sym (cr_lf digits) ∙ ap (λ x. digits ++ x) (sym n) ∙ sym w ∙ e ∙ cr_lf line in
       (same_from_push digits line 13 13 (same_from_push (digits ++ 13 ∷ []) (line ++ 13 ∷ []) 10 10 d).0).0
 
-  with_lf : (line : List ℕ) → bytes ≡ line ++ 10 ∷ [] → ((front : List ℕ) → line ≡ front ++ 13 ∷ [] → ⊥) → (end : List ℕ) → bytes ≡ digits ++ end → IsLineEnd end → digits ≡ line
+  with_lf : (line : List ℕ) → bytes ≡ line ++ 10 ∷ [] → ((prefix : List ℕ) → line ≡ prefix ++ 13 ∷ [] → ⊥) → (end : List ℕ) → bytes ≡ digits ++ end → IsLineEnd end → digits ≡ line
   with_lf line e other end w (inl n) =
       let d : digits ≡ line ++ 10 ∷ [] = sym (append-nil digits) ∙ ap (λ x. digits ++ x) (sym n) ∙ sym w ∙ e in
       absurd (no_lf line (subst (AllPass is_hex_digit) d hex))
@@ -49,7 +49,7 @@ module _ (bytes digits : List ℕ) (hex : AllPass is_hex_digit digits) where
       let d : (digits ++ 13 ∷ []) ++ 10 ∷ [] ≡ line ++ 10 ∷ [] = sym (cr_lf digits) ∙ ap (λ x. digits ++ x) (sym n) ∙ sym w ∙ e in
       absurd (other digits (sym (same_from_push (digits ++ 13 ∷ []) line 10 10 d).0))
 
-  with_none : ((front : List ℕ) → bytes ≡ front ++ 10 ∷ [] → ⊥) → (end : List ℕ) → bytes ≡ digits ++ end → IsLineEnd end → digits ≡ bytes
+  with_none : ((prefix : List ℕ) → bytes ≡ prefix ++ 10 ∷ [] → ⊥) → (end : List ℕ) → bytes ≡ digits ++ end → IsLineEnd end → digits ≡ bytes
   with_none other end w (inl n) = sym (append-nil digits) ∙ ap (λ x. digits ++ x) (sym n) ∙ sym w
   with_none other end w (inr (inl n)) = absurd (other digits (w ∙ ap (λ x. digits ++ x) n))
   with_none other end w (inr (inr n)) = absurd (other (digits ++ 13 ∷ []) (w ∙ ap (λ x. digits ++ x) n ∙ cr_lf digits))
@@ -59,9 +59,9 @@ digits_are_line : (line bytes : List ℕ) → EndsLine line bytes → (digits : 
 digits_are_line line bytes (inl e) digits k = with_cr_lf bytes digits k.hexadecimal line e k.end k.whole k.ends
 digits_are_line line bytes (inr (inl e)) digits k = with_lf bytes digits k.hexadecimal line e.0 e.1 k.end k.whole k.ends
 digits_are_line line bytes (inr (inr e)) digits k =
-    with_none bytes digits k.hexadecimal (λ front f. e.1 front (sym e.0 ∙ f)) k.end k.whole k.ends ∙ e.0
+    with_none bytes digits k.hexadecimal (λ prefix f. e.1 prefix (sym e.0 ∙ f)) k.end k.whole k.ends ∙ e.0
 
--- what stands behind the line is an end of line
+-- what stands after the line is an end of line
 end_of : (line bytes : List ℕ) → EndsLine line bytes → (end : List ℕ) × (bytes ≡ line ++ end) × IsLineEnd end
 end_of line bytes (inl e) = (13 ∷ 10 ∷ [], e, inr (inr refl))
 end_of line bytes (inr (inl e)) = (10 ∷ [], e.0, inr (inl refl))

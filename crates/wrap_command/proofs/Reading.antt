@@ -4,13 +4,13 @@ use Rattle.std.proofs.lemmas.List.{append-nil}
 use Rattle.ae_edge.specs.Devices.{Calls, Device, Stays, WhereExposed}
 use Rattle.ae_edge.specs.Streams.{ReadsAll}
 use Rattle.ae_edge.specs.Vaults.{KeyMap}
-use Rattle.ae_edge.proofs.Interface.{told_map}
+use Rattle.ae_edge.proofs.Interface.{exposed_map}
 use Rattle.wrap_command.specs.Wrapping.{CountsInput, IsLineOf, IsRead, Makes, Puts, Takes, most_script_bytes}
-use Rattle.wrap_command.specs.declared.commands.Wrapped.{Wrapped}
-use Rattle.wrap_command.specs.declared.commands.Wrapped.TheVariants as ended
+use Rattle.wrap_command.specs.declared.commands.WrapEnding.{WrapEnding}
+use Rattle.wrap_command.specs.declared.commands.WrapEnding.TheVariants as ended
 
 -- all of it was taken
-takes : (r : Wrapped) (bytes xs left : List ℕ) → IsRead r → ReadsAll most_script_bytes (Ok bytes) xs left → Takes r xs left
+takes : (r : WrapEnding) (bytes xs left : List ℕ) → IsRead r → ReadsAll most_script_bytes (Ok bytes) xs left → Takes r xs left
 takes ended.Done bytes xs left w h = h.1
 takes ended.WriteFault bytes xs left w h = h.1
 takes ended.OutOfMemory bytes xs left w h =
@@ -22,7 +22,7 @@ takes ended.BadLine bytes xs left w h = h.1
 takes ended.VaultFault bytes xs left w h = h.1
 takes ended.NoMasterKey bytes xs left w h = h.1
 
-counts : (r : Wrapped) (n m : ℕ) → IsRead r → Stays n m → CountsInput r n m
+counts : (r : WrapEnding) (n m : ℕ) → IsRead r → Stays n m → CountsInput r n m
 counts ended.Done n m w h = h
 counts ended.WriteFault n m w h = h
 counts ended.OutOfMemory n m w h = h
@@ -32,17 +32,17 @@ counts ended.BadLine n m w h = h
 counts ended.VaultFault n m w h = h
 counts ended.NoMasterKey n m w h = h
 
-pub takes_whole : (r : Wrapped) (bytes : List ℕ) (old new : Device (List ℕ)) → IsRead r → Calls (WhereExposed (ReadsAll most_script_bytes (Ok bytes))) Stays old new
+pub takes_whole : (r : WrapEnding) (bytes : List ℕ) (old new : Device (List ℕ)) → IsRead r → Calls (WhereExposed (ReadsAll most_script_bytes (Ok bytes))) Stays old new
     → Calls (WhereExposed (Takes r)) (CountsInput r) old new
 takes_whole r bytes old new w h = record {
-  content = told_map (ReadsAll most_script_bytes (Ok bytes)) (Takes r) (λ x y p. takes r bytes x y w p) old.content new.content h.content;
+  content = exposed_map (ReadsAll most_script_bytes (Ok bytes)) (Takes r) (λ x y p. takes r bytes x y w p) old.content new.content h.content;
   count = h.count;
   counts = counts r old.faults new.faults w h.counts;
   same = h.same;
 }
 
--- as the line is put
-pub makes_line : (r : Wrapped) (path bytes line : List ℕ) (vault asked : Device KeyMap) (old new : Device (List ℕ)) → IsLineOf path bytes vault line → asked ≡ vault → Puts r line old new
+-- as the line is written
+pub makes_line : (r : WrapEnding) (path bytes line : List ℕ) (vault asked : Device KeyMap) (old new : Device (List ℕ)) → IsLineOf path bytes vault line → asked ≡ vault → Puts r line old new
     → Makes r path bytes vault asked old new
 makes_line ended.Done path bytes line vault asked old new i e p = (line, i, e, p)
 makes_line ended.WriteFault path bytes line vault asked old new i e p = (line, i, e, p)
@@ -53,7 +53,7 @@ makes_line ended.BadLine path bytes line vault asked old new i e p = absurd p
 makes_line ended.VaultFault path bytes line vault asked old new i e p = absurd p
 makes_line ended.NoMasterKey path bytes line vault asked old new i e p = absurd p
 
-pub is_read : (r : Wrapped) (line : List ℕ) (old new : Device (List ℕ)) → Puts r line old new → IsRead r
+pub is_read : (r : WrapEnding) (line : List ℕ) (old new : Device (List ℕ)) → Puts r line old new → IsRead r
 is_read ended.Done line old new p = tt
 is_read ended.WriteFault line old new p = tt
 is_read ended.OutOfMemory line old new p = tt

@@ -15,7 +15,7 @@ pub struct RngEntropy<T> {
 }
 
 impl<T: TryRng> RngEntropy<T> {
-    /// The generator as a random source, none of whose calls has failed yet.
+    /// The generator as a random source, before any call has failed.
     pub fn new(rng: T) -> RngEntropy<T>
         ensures rng { result.rng ≡ rng }
         ensures fresh { ⟦<RngEntropy<T> as Entropy>⟧.seen result ≡ silent 0 }

@@ -24,7 +24,7 @@ pub struct LazyFile<R, D> {
     closed: bool,
 }
 
-/// A file as a sink. It is made, or emptied where it is there, when the first bytes are put.
+/// A file as a sink. It is made, or emptied if it exists, when the first bytes are written.
 pub type FileSink<R> = LazyFile<R, StdSink<<R as Files>::File>>;
 
 /// A file as a source. It is opened when the first bytes are taken.
@@ -94,7 +94,7 @@ impl<R: Files + Drop> Sink for LazyFile<R, StdSink<R::File>> {
         ensures files { self.new.files ≡ self.old.files }
         ensures name { self.new.name ≡ self.old.name }
         ensures shut { self.new.file ≡ None → result ≡ Put.Failed }
-        // The file stays open once it is, and each piece is put behind what was put before.
+        // The file stays open once it is, and each piece is written after what was written before.
         ensures known { OpensThen
             (λ old new. PutsKnown bytes.now result (R.File.contents old.writer)
             (R.File.contents new.writer))
@@ -113,7 +113,7 @@ impl<R: Files + Drop> Sink for LazyFile<R, StdSink<R::File>> {
 }
 
 impl<R: Files + Drop> Close for LazyFile<R, StdSink<R::File>> {
-    // The file is let go. One that was never opened is opened first, so that it is emptied, and a
+    // The file is dropped. One that was never opened is opened first, so that it is emptied, and a
     // reader of a named pipe sees an end.
     fn close(&mut self) -> Closing
         ensures count { self.old.faults ≤ self.new.faults }
@@ -145,7 +145,7 @@ impl<R: Files + Drop> Source for LazyFile<R, StdSource<R::File>> {
         ensures files { self.new.files ≡ self.old.files }
         ensures name { self.new.name ≡ self.old.name }
         ensures shut { self.new.file ≡ None → result ≡ Taken.Failed }
-        // The file stays open once it is, and each piece comes behind those before it.
+        // The file stays open once it is, and each piece comes after those before it.
         ensures known { OpensThen
             (λ old new. TakesKnown result (R.File.remaining old.reader)
             (R.File.remaining new.reader))

@@ -17,7 +17,7 @@ use std::io::{ErrorKind, Read};
 use std::marker::Model;
 use std::rt::Files;
 
-// The most bytes behind a folder's name: `/`, a path of 64 characters, and `.key`.
+// The most bytes after a folder's name: `/`, a path of 64 characters, and `.key`.
 const MOST_BEHIND: usize = 69;
 
 /// A folder as a vault: the file `PATH.key` in it holds the master key at a path.

@@ -16,7 +16,7 @@ pub struct StdSink<W> {
 }
 
 impl<W: Write> StdSink<W> {
-    /// The writer as a sink, none of whose calls has failed yet.
+    /// The writer as a sink, before any call has failed.
     pub fn new(writer: W) -> StdSink<W>
         ensures writer { result.writer ≡ writer }
         ensures fresh { ⟦<StdSink<W> as Sink>⟧.seen result ≡ silent 0 }

@@ -21,7 +21,7 @@ pub struct StdSource<R> {
 }
 
 impl<R: Read> StdSource<R> {
-    /// The reader as a source, none of whose calls has failed yet.
+    /// The reader as a source, before any call has failed.
     pub fn new(reader: R) -> StdSource<R>
         ensures reader { result.reader ≡ reader }
         ensures fresh { ⟦<StdSource<R> as Source>⟧.seen result ≡ silent 0 }

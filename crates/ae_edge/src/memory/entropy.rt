@@ -1,7 +1,7 @@
 //! Random bytes out of memory.
 
 ghost use Rattle.std.specs.Prelude.{◌≡◌, ◌≤◌, ◌↔◌, ◌⊎◌};
-ghost use Rattle.ae_edge.specs.Devices.{telling};
+ghost use Rattle.ae_edge.specs.Devices.{exposing};
 ghost use Rattle.ae_edge.specs.Draws.{CountsDraw, Draws};
 ghost use Rattle.ae_edge.specs.Memory.{IsDry, IsListed, MemDraws, fresh};
 
@@ -51,7 +51,7 @@ impl MemEntropy {
 }
 
 impl Entropy for MemEntropy {
-    ghost seen = { λ e. telling e.to_come e.calls.faults };
+    ghost seen = { λ e. exposing e.to_come e.calls.faults };
 
     fn draw(&mut self) -> Draw
         ensures content { Draws result self.old.to_come self.new.to_come }

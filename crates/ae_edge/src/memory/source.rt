@@ -1,7 +1,7 @@
 //! A source of bytes in memory.
 
 ghost use Rattle.std.specs.Prelude.{◌≡◌, ◌≤◌, ◌↔◌};
-ghost use Rattle.ae_edge.specs.Devices.{telling};
+ghost use Rattle.ae_edge.specs.Devices.{exposing};
 ghost use Rattle.ae_edge.specs.Memory.{IsListed, MemTakes, fresh};
 ghost use Rattle.ae_edge.specs.Sources.{CountsTake, IsPiece, Takes};
 
@@ -37,7 +37,7 @@ impl Model for MemSource {
     ghost Value = { SourceState };
 
     ghost view = { λ s. record {
-      left = drop s.at s.bytes.items;
+      rest = drop s.at s.bytes.items;
       piece = s.piece;
       calls = s.calls;
     } };
@@ -50,7 +50,7 @@ impl MemSource {
     pub fn new(bytes: Vec<u8>, piece: usize, failing: Vec<u64>) -> MemSource
         requires { 1 ≤ piece }
         ensures { result
-            ≡ record { left = bytes.items; piece = piece; calls = fresh failing.items } }
+            ≡ record { rest = bytes.items; piece = piece; calls = fresh failing.items } }
     {
         MemSource {
             bytes,
@@ -62,12 +62,12 @@ impl MemSource {
 }
 
 impl Source for MemSource {
-    ghost seen = { λ s. telling s.left s.calls.faults };
+    ghost seen = { λ s. exposing s.rest s.calls.faults };
 
     fn take(&mut self, alloc: Global, max: usize) -> Taken
         requires { 1 ≤ max }
         ensures piece { IsPiece max result }
-        ensures content { Takes result self.old.left self.new.left }
+        ensures content { Takes result self.old.rest self.new.rest }
         ensures count { self.old.calls.faults ≤ self.new.calls.faults }
         ensures counts { CountsTake result self.old.calls.faults self.new.calls.faults }
         ensures listed { (result ≡ Taken.Failed) ↔ IsListed self.old.calls }

@@ -1,7 +1,7 @@
 //! A vault of keys in memory.
 
 ghost use Rattle.std.specs.Prelude.{◌≡◌, ◌≤◌, ◌↔◌};
-ghost use Rattle.ae_edge.specs.Devices.{telling};
+ghost use Rattle.ae_edge.specs.Devices.{exposing};
 ghost use Rattle.ae_edge.specs.Memory.{IsListed, MemFinds, fresh};
 ghost use Rattle.ae_edge.specs.Vaults.{CountsMaster, Finds, key_at};
 
@@ -54,7 +54,7 @@ fn key_at(keys: &[(Txt, [u8; 32])], path: &Txt) -> Option<[u8; 32]>
 }
 
 impl Vault for MemVault {
-    ghost seen = { λ v. telling v.keys v.calls.faults };
+    ghost seen = { λ v. exposing v.keys v.calls.faults };
 
     fn master(&mut self, path: &Txt) -> MasterKey
         ensures found { Finds path.now result self.old.keys }

@@ -9,13 +9,13 @@ returns-in-Ok-Run-false-default-clause-does g c =
     let is = c.in-Ok-Run-false-default in
     let e = c.run.ensures in
     did_run c.args.words.now _ _ _ _ (is.ensures ∙ ap Some (is.field-0-is ∙ ap (λ summary. command.Run summary is.version) is.field-0-0-test))
-    _ c.from-in-Ok-Run-false-default.ensures e.run e.awaited e.of_peer
+    _ c.from-in-Ok-Run-false-default.ensures e.run e.expected e.of_peer
 
 pub returns-in-Ok-Run-true-default-clause-does : goal.returns-in-Ok-Run-true-default-clause-does
 returns-in-Ok-Run-true-default-clause-does g c =
     let is = c.in-Ok-Run-true-default in
     let e = c.summarize.ensures in
-    did_summary c.args.words.now _ _ _ _ (is.ensures ∙ ap Some (is.field-0-is ∙ ap (λ summary. command.Run summary is.version) is.field-0-0-test)) _ c.from.ensures e.summary e.awaited e.of_peer
+    did_summary c.args.words.now _ _ _ _ (is.ensures ∙ ap Some (is.field-0-is ∙ ap (λ summary. command.Run summary is.version) is.field-0-0-test)) _ c.from.ensures e.summary e.expected e.of_peer
 
 pub returns-in-Ok-Drive-clause-does : goal.returns-in-Ok-Drive-clause-does
 returns-in-Ok-Drive-clause-does g c =

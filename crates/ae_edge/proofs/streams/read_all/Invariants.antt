@@ -5,7 +5,7 @@ use Rattle.ae_edge.proofs.streams.read_all.Given as goal
 
 abbrev pub invariant-pieces : goal.invariant-pieces
 invariant-pieces g l = record {
-  told : Removes l.bytes.items (g.S.Source.seen l.fn.source).content (g.S.Source.seen l.source).content;
+  exposed : Removes l.bytes.items (g.S.Source.seen l.fn.source).content (g.S.Source.seen l.source).content;
   count : (g.S.Source.seen l.source).faults ≡ (g.S.Source.seen l.fn.source).faults;
   same : (g.S.Source.seen l.source).names ≡ (g.S.Source.seen l.fn.source).names;
   within : vec_len l.bytes ≤ l.limit + 1;

@@ -1,4 +1,4 @@
--- The first name behind a comma, and then the rest.
+-- The first name after a comma, and then the rest.
 use Rattle.std.proofs.Common.{◌∙◌}
 use Rattle.column_rotate.proofs.Spelled.{names_at}
 use Rattle.column_rotate.proofs.texts.+push_more_names.Goals as goal

@@ -1,4 +1,4 @@
--- The first parameter behind a comma, and then the rest.
+-- The first parameter after a comma, and then the rest.
 use Rattle.std.proofs.Common.{arith}
 use Rattle.column_rotate.proofs.Spelled.{placeholders_at}
 use Rattle.column_rotate.proofs.texts.+push_more_placeholders.Goals as goal

@@ -1,4 +1,4 @@
--- The table, its columns and the parameters stand behind their words.
+-- The table, its columns and the parameters stand after their words.
 use Rattle.std.proofs.Common.{◌∙◌, codes, refl, sym}
 use Rattle.std.specs.Str.{chars}
 use Rattle.column_rotate.specs.Texts.{in_brackets, names, placeholders}

@@ -1,4 +1,4 @@
--- The name stands behind the words.
+-- The name stands after the words.
 use Rattle.std.proofs.Common.{◌∙◌, codes, refl, sym}
 use Rattle.std.specs.Str.{chars}
 use Rattle.column_rotate.specs.Texts.{in_brackets}

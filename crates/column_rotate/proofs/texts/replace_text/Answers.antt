@@ -1,4 +1,4 @@
--- Each name stands behind its words.
+-- Each name stands after its words.
 use Rattle.std.proofs.Common.{◌∙◌, codes, refl, sym}
 use Rattle.std.specs.Str.{chars}
 use Rattle.column_rotate.specs.Texts.{in_brackets}

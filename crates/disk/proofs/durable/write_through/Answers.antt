@@ -1,11 +1,11 @@
 use Rattle.std.proofs.Common.{rules}
-use Rattle.disk.proofs.Syncing.{write_failed_told, write_unasked_told, write_synced_told}
+use Rattle.disk.proofs.Syncing.{write_failed_exposed, write_unasked_exposed, write_synced_exposed}
 use Rattle.disk.proofs.durable.write_through.Goals as goal
 
 pub returns-in-Done : goal.returns-in-Done
 returns-in-Done g c =
     record {
-      content = write_synced_told c.sync.result c.args.at c.args.bytes.now _ _ _ c.requires.kept c.in-Done.ensures.content c.sync.ensures.content;
+      content = write_synced_exposed c.sync.result c.args.at c.args.bytes.now _ _ _ c.requires.kept c.in-Done.ensures.content c.sync.ensures.content;
       count = search rules;
       counts = search rules;
       same = search rules;
@@ -14,7 +14,7 @@ returns-in-Done g c =
 pub returns-in-Failed : goal.returns-in-Failed
 returns-in-Failed g c =
     record {
-      content = write_failed_told c.args.at c.args.bytes.now _ _ c.requires.kept c.in-Failed.ensures.content;
+      content = write_failed_exposed c.args.at c.args.bytes.now _ _ c.requires.kept c.in-Failed.ensures.content;
       count = search rules;
       counts = search rules;
       same = search rules;
@@ -23,7 +23,7 @@ returns-in-Failed g c =
 pub returns-in-OutOfMemory : goal.returns-in-OutOfMemory
 returns-in-OutOfMemory g c =
     record {
-      content = write_unasked_told c.args.at c.args.bytes.now _ _ c.requires.kept c.in-OutOfMemory.ensures.content;
+      content = write_unasked_exposed c.args.at c.args.bytes.now _ _ c.requires.kept c.in-OutOfMemory.ensures.content;
       count = search rules;
       counts = search rules;
       same = search rules;

@@ -1,4 +1,4 @@
--- The next part puts its rules behind those that are there.
+-- The next part puts its rules after those that are there.
 use Rattle.std.proofs.Common.{refl, arith}
 use Rattle.std.specs.List.{flat_map}
 use Rattle.enc_types.proofs.Walks.{walk_more, walk_all}

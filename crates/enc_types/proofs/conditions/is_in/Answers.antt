@@ -1,4 +1,4 @@
--- The next operand puts its rule behind those that are there, and the rule of the left side stands behind all.
+-- The next operand puts its rule after those that are there, and the rule of the left side stands after all.
 use Rattle.std.proofs.Common.{◌++◌, ◌∷◌, [], map, refl, arith, rules}
 use Rattle.sql_tree.specs.Operands.{operand_of}
 use Rattle.enc_types.specs.Sites.{site_of}

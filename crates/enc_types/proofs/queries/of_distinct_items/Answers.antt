@@ -1,4 +1,4 @@
--- The next item puts its rule behind those that are there.
+-- The next item puts its rule after those that are there.
 use Rattle.std.proofs.Common.{◌∷◌, [], map, refl, arith, rules}
 use Rattle.sql_tree.specs.Bound.{item_of, item_value_of}
 use Rattle.enc_types.specs.Rules.{site_of_item}

@@ -1,4 +1,4 @@
--- GROUP BY and ORDER BY ask behind the rest.
+-- GROUP BY and ORDER BY ask after the rest.
 use Rattle.std.proofs.Common.{refl, ap, ◌∙◌, ◌∷◌, []}
 use Rattle.std.specs.List.{flat_map}
 use Rattle.std.proofs.lemmas.List.Concat.{flat_map_single}

@@ -1,4 +1,4 @@
--- What stands in front of GROUP BY asks what DISTINCT, the items, the joins and the filter ask.
+-- What stands before GROUP BY asks what DISTINCT, the items, the joins and the filter ask.
 use Rattle.std.proofs.Common.{refl, ap, ◌∙◌, map}
 use Rattle.std.specs.List.{flat_map}
 use Rattle.sql_tree.specs.Bound.{item_of, join_of}

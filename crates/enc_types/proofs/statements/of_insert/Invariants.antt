@@ -7,4 +7,4 @@ use Rattle.enc_types.proofs.statements.of_insert.Given as goal
 
 abbrev pub invariant-loop-row : goal.invariant-loop-row
 invariant-loop-row l =
-    l.rules ++ flat_map (row_rules l.insert.named) (map row_of (drop l.row-index l.insert.rows)) ≡ l.initial.rules ++ flat_map (row_rules l.insert.named) (map row_of l.insert.rows)
+    l.rules ++ flat_map (row_rules l.insert.columns) (map row_of (drop l.row-index l.insert.rows)) ≡ l.initial.rules ++ flat_map (row_rules l.insert.columns) (map row_of l.insert.rows)

@@ -1,4 +1,4 @@
--- The filter asks behind the assignments.
+-- The filter asks after the assignments.
 use Rattle.std.proofs.Common.{refl, ap, ◌∙◌}
 use Rattle.std.specs.List.{flat_map}
 use Rattle.sql_tree.specs.Bound.{assignment_of}

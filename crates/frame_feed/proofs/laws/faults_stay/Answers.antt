@@ -1,7 +1,7 @@
 -- No call changes what a feed answers after a fault.
 use Rattle.frame_feed.proofs.Faults.{refusal_kept}
 use Rattle.frame_feed.proofs.Histories.{fault_kept}
-use Rattle.frame_feed.proofs.Ways.{messages_once}
+use Rattle.frame_feed.proofs.Directions.{messages_once}
 use Rattle.frame_feed.proofs.laws.faults_stay.Goals as goal
 
 pub returns-clause-given : goal.returns-clause-given

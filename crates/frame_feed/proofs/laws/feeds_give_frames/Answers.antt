@@ -1,6 +1,6 @@
 -- Each call keeps that the messages given and the bytes held are all that was fed.
 use Rattle.frame_feed.proofs.Histories.{frames_given}
-use Rattle.frame_feed.proofs.Ways.{same_given}
+use Rattle.frame_feed.proofs.Directions.{same_given}
 use Rattle.frame_feed.proofs.laws.feeds_give_frames.Goals as goal
 
 pub returns-clause-frames : goal.returns-clause-frames

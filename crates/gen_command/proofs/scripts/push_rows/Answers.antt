@@ -1,4 +1,4 @@
--- Each row's batch stands behind those before.
+-- Each row's batch stands after those before.
 use Rattle.std.proofs.Common.{sym, ap, ◌∙◌, arith}
 use Rattle.gen_command.specs.Script.{number_after}
 use Rattle.gen_command.proofs.Lines.{more_rows, next_number}

@@ -1,4 +1,4 @@
--- The rows so far stand behind what was there, and the number is that of the last of them.
+-- The rows so far stand after what was there, and the number is that of the last of them.
 use Rattle.std.proofs.Common.{◌≡◌, ◌<◌, ◌^◌, ◌++◌, string_bytes}
 use Rattle.gen_command.specs.Script.{all_row_lines, number_at, text_of}
 use Rattle.gen_command.proofs.scripts.push_rows.Given as goal

@@ -5,5 +5,5 @@ use Rattle.sql_tree.specs.Bound.{assignment_of}
 use Rattle.indexed_tables.specs.Updates.{is_set}
 use Rattle.indexed_tables.proofs.keys_set.sets_one.Given as goal
 
-abbrev pub invariant-loop-place : goal.invariant-loop-place
-invariant-loop-place l = list_any (is_set (map assignment_of l.assignments)) l.places ≡ list_any (is_set (map assignment_of l.assignments)) (drop l.place-index l.places)
+abbrev pub invariant-loop-ordinal : goal.invariant-loop-ordinal
+invariant-loop-ordinal l = list_any (is_set (map assignment_of l.assignments)) l.ordinals ≡ list_any (is_set (map assignment_of l.assignments)) (drop l.ordinal-index l.ordinals)

@@ -10,10 +10,10 @@ use Rattle.indexed_tables.proofs.Keeping.{indexes_kept, answer_kept}
 use Rattle.indexed_tables.proofs.tables.admit.Goals as goal
 
 pub make_writable-requires : goal.make_writable-requires
-make_writable-requires g c = rw (c.as_slice.ensures.value, c.in_ok-places.ensures) c.requires.placed
+make_writable-requires g c = rw (c.as_slice.ensures.value, c.in_ok-positions.ensures) c.requires.placed
 
 pub returns-then-not-sets_a_key-clause-own : goal.returns-then-not-sets_a_key-clause-own
-returns-then-not-sets_a_key-clause-own g c = rw (c.as_slice.ensures.value, c.in_ok-places.ensures) at c.in_ok-make_writable.ensures.own
+returns-then-not-sets_a_key-clause-own g c = rw (c.as_slice.ensures.value, c.in_ok-positions.ensures) at c.in_ok-make_writable.ensures.own
 
 pub returns-then-not-sets_a_key-clause-answer : goal.returns-then-not-sets_a_key-clause-answer
 returns-then-not-sets_a_key-clause-answer g c =
@@ -31,8 +31,8 @@ returns-then-not-sets_a_key-clause-ok g c =
     let t = c.args.stored.now in
     indexes_kept sets indexes t.numbers t.rows (written t.rows c.args.changes.now) none c.requires.kept c.requires.indexed
 
-pub exchange_changed-requires-clause-places : goal.exchange_changed-requires-clause-places
-exchange_changed-requires-clause-places g c = c.as_slice-3.ensures.value ∙ c.in_ok-places.ensures
+pub exchange_changed-requires-clause-positions : goal.exchange_changed-requires-clause-positions
+exchange_changed-requires-clause-positions g c = c.as_slice-3.ensures.value ∙ c.in_ok-positions.ensures
 
 pub exchange_changed-requires-clause-placed : goal.exchange_changed-requires-clause-placed
 exchange_changed-requires-clause-placed g c = rw c.make_writable.ensures.rows c.requires.placed
@@ -45,7 +45,7 @@ exchange_changed-requires-clause-indexed g c = rw (c.make_writable.ensures.rows,
 
 pub returns-clause-own : goal.returns-clause-own
 returns-clause-own g c =
-    let own = rw (c.as_slice.ensures.value, c.in_ok-places.ensures) at c.in_ok-make_writable.ensures.own in
+    let own = rw (c.as_slice.ensures.value, c.in_ok-positions.ensures) at c.in_ok-make_writable.ensures.own in
     on_ok_weaker c.exchange_changed.result (λ _. own) c.exchange_changed.ensures.ok
 
 pub returns-clause-answer : goal.returns-clause-answer

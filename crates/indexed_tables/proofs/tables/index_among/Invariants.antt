@@ -5,4 +5,4 @@ use Rattle.unique_keys.specs.Indexes.{keys_of}
 use Rattle.indexed_tables.proofs.tables.index_among.Given as goal
 
 abbrev pub invariant-loop-index : goal.invariant-loop-index
-invariant-loop-index g l = Contains (keys_of (drop l.index-index l.indexes)) l.places
+invariant-loop-index g l = Contains (keys_of (drop l.index-index l.indexes)) l.ordinals

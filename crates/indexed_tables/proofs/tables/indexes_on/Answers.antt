@@ -11,6 +11,6 @@ loop-key-preserved g c =
     let made = c.loop-key.indexes.items in
     let new = c.new.result in
     rw c.in_ok-push.ensures.items (record {
-      keys = key_more made c.args.keys.now c.loop-key.key-index c.key-item.result new c.loop-key-test.true c.key-item.is h.keys (c.new.ensures.places ∙ c.in_ok-copy.ensures);
+      keys = key_more made c.args.keys.now c.loop-key.key-index c.key-item.result new c.loop-key-test.true c.key-item.is h.keys (c.new.ensures.ordinals ∙ c.in_ok-copy.ensures);
       indexed = All-push (IndexesRows [] []) made new h.indexed c.new.ensures.rows;
     })

@@ -1,4 +1,4 @@
--- There is room, the rows are those that were there, and then the new ones stand behind them.
+-- There is room, the rows are those that were there, and then the new ones stand after them.
 use Rattle.indexed_tables.proofs.tables.insert_into.Goals as goal
 
 pub put_in-requires-clause-distinct : goal.put_in-requires-clause-distinct

@@ -1,4 +1,4 @@
--- A rule of one site stands behind the way to it.
+-- A rule of one site stands after the way to it.
 use Rattle.std.proofs.Common.{◌≡◌, List, IfOk, subst}
 use Rattle.enc_types.specs.declared.rules.Rule.{Rule}
 use Rattle.inference.specs.Reached.{typing_of}

@@ -18,7 +18,7 @@ returns-in-Served-clause-serves g c =
 pub returns-in-Refused-clause-serves : goal.returns-in-Refused-clause-serves
 returns-in-Refused-clause-serves g c =
     let r = rw c.new-server.ensures at c.in-Refused.ensures.call.content in
-    (record { untaken = refl; unput = refl; stays = still_of (λ entries. RefusesAt empty_state entries c.in-Refused.place) c.args.journal.gate _ _ r }, r)
+    (record { untaken = refl; unput = refl; stays = still_of (λ entries. RefusesAt empty_state entries c.in-Refused.offset) c.args.journal.gate _ _ r }, r)
 
 pub returns-in-DiskFault-clause-serves : goal.returns-in-DiskFault-clause-serves
 returns-in-DiskFault-clause-serves g c = inr (record { untaken = refl; unput = refl; stays = c.in-DiskFault.ensures.call.content })

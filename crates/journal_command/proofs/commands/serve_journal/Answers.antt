@@ -1,4 +1,4 @@
--- Files that such runs leave, and what was put of a whole input.
+-- Files that such runs leave, and what was written of a whole input.
 use Rattle.journal_command.proofs.Exactly.{serves_exactly}
 use Rattle.journal_command.proofs.Servable.{isnt_damaged, stays_servable}
 use Rattle.journal_command.proofs.commands.serve_journal.Goals as goal

@@ -19,7 +19,7 @@ entries-preserved g c = record {
   served =
       search (
         rules,
-        served_more c.args.journal.now.gate c.entries.place c.args.server.now c.entries.server _ _ c.entries.invariant.served c.in-Next.entry c.serve_entry.new.server _ c.in-Next.ensures.call.content
+        served_more c.args.journal.now.gate c.entries.offset c.args.server.now c.entries.server _ _ c.entries.invariant.served c.in-Next.entry c.serve_entry.new.server _ c.in-Next.ensures.call.content
             (rw c.as_slice.ensures at c.in-Served.ensures),
       );
   inside = search rules;
@@ -31,7 +31,7 @@ entries-preserved g c = record {
 pub returns-in-End-clause-call : goal.returns-in-End-clause-call
 returns-in-End-clause-call g c =
     record {
-      content = served_all c.args.journal.now.gate c.entries.place c.args.server.now c.entries.server _ _ c.entries.invariant.served _ c.in-End.ensures.inside c.in-End.ensures.call.content;
+      content = served_all c.args.journal.now.gate c.entries.offset c.args.server.now c.entries.server _ _ c.entries.invariant.served _ c.in-End.ensures.inside c.in-End.ensures.call.content;
       count = search rules;
       counts = search rules;
       same = search rules;
@@ -40,7 +40,7 @@ returns-in-End-clause-call g c =
 pub returns-in-Refused-clause-call : goal.returns-in-Refused-clause-call
 returns-in-Refused-clause-call g c =
     record {
-      content = served_not c.args.journal.now.gate c.entries.place c.args.server.now c.entries.server _ _
+      content = served_not c.args.journal.now.gate c.entries.offset c.args.server.now c.entries.server _ _
           c.entries.invariant.served c.in-Next.entry _ c.in-Next.ensures.call.content (rw c.as_slice.ensures at c.in-Refused.ensures);
       count = search rules;
       counts = search rules;
@@ -50,7 +50,7 @@ returns-in-Refused-clause-call g c =
 pub returns-in-Other-clause-call : goal.returns-in-Other-clause-call
 returns-in-Other-clause-call g c =
     record {
-      content = served_other c.args.journal.now.gate c.entries.place c.args.server.now c.entries.server _ _ c.entries.invariant.served _ c.in-Other.ensures.call.content;
+      content = served_other c.args.journal.now.gate c.entries.offset c.args.server.now c.entries.server _ _ c.entries.invariant.served _ c.in-Other.ensures.call.content;
       count = search rules;
       counts = search rules;
       same = search rules;
@@ -59,7 +59,7 @@ returns-in-Other-clause-call g c =
 pub returns-in-OutOfMemory-serve_entry-clause-call : goal.returns-in-OutOfMemory-serve_entry-clause-call
 returns-in-OutOfMemory-serve_entry-clause-call g c =
     record {
-      content = served_stays c.args.journal.now.gate c.entries.place c.args.server.now c.entries.server _ _ c.entries.invariant.served (entry.Next c.in-Next.entry) _ c.in-Next.ensures.call.content;
+      content = served_stays c.args.journal.now.gate c.entries.offset c.args.server.now c.entries.server _ _ c.entries.invariant.served (entry.Next c.in-Next.entry) _ c.in-Next.ensures.call.content;
       count = search rules;
       counts = search rules;
       same = search rules;
@@ -68,7 +68,7 @@ returns-in-OutOfMemory-serve_entry-clause-call g c =
 pub returns-in-Failed-clause-call : goal.returns-in-Failed-clause-call
 returns-in-Failed-clause-call g c =
     record {
-      content = served_stays c.args.journal.now.gate c.entries.place c.args.server.now c.entries.server _ _ c.entries.invariant.served entry.Failed _ c.in-Failed.ensures.call.content;
+      content = served_stays c.args.journal.now.gate c.entries.offset c.args.server.now c.entries.server _ _ c.entries.invariant.served entry.Failed _ c.in-Failed.ensures.call.content;
       count = search rules;
       counts = search rules;
       same = search rules;
@@ -77,7 +77,7 @@ returns-in-Failed-clause-call g c =
 pub returns-in-OutOfMemory-clause-call : goal.returns-in-OutOfMemory-clause-call
 returns-in-OutOfMemory-clause-call g c =
     record {
-      content = served_stays c.args.journal.now.gate c.entries.place c.args.server.now c.entries.server _ _ c.entries.invariant.served entry.OutOfMemory _ c.in-OutOfMemory.ensures.call.content;
+      content = served_stays c.args.journal.now.gate c.entries.offset c.args.server.now c.entries.server _ _ c.entries.invariant.served entry.OutOfMemory _ c.in-OutOfMemory.ensures.call.content;
       count = search rules;
       counts = search rules;
       same = search rules;

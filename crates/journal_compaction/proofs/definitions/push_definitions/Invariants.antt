@@ -8,7 +8,7 @@ use Rattle.journal_compaction.proofs.definitions.push_definitions.Given as goal
 
 abbrev pub invariant-entries : goal.invariant-entries
 invariant-entries g l = record {
-  inside : l.place ≤ l.journal.gate;
+  inside : l.offset ≤ l.journal.gate;
   mounted : IfSome (g.D.Disk.seen l.disk).content (IsMounted l.journal.gate);
   stays : WhereExposed StaysKept (g.D.Disk.seen l.fn.disk).content (g.D.Disk.seen l.disk).content;
   counts : (g.D.Disk.seen l.disk).faults ≡ (g.D.Disk.seen l.fn.disk).faults;
@@ -16,4 +16,4 @@ invariant-entries g l = record {
 }
 
 abbrev pub decreases-entries : goal.decreases-entries
-decreases-entries g l = l.journal.gate - l.place
+decreases-entries g l = l.journal.gate - l.offset

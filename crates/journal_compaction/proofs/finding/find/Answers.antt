@@ -14,7 +14,7 @@ pub returns-in-Ready-clause-counts : goal.returns-in-Ready-clause-counts
 returns-in-Ready-clause-counts g c = subst (λ (n : ℕ). CountsFound c.serve_found.result n (g.D.Disk.seen c.serve_found.new.disk).faults) c.in-Ready.ensures.call.counts c.serve_found.ensures.counts
 
 pub returns-in-Damaged-clause-content : goal.returns-in-Damaged-clause-content
-returns-in-Damaged-clause-content g c = damaged_so c.in-Damaged.place _ _ c.in-Damaged.ensures.call.content
+returns-in-Damaged-clause-content g c = damaged_so c.in-Damaged.offset _ _ c.in-Damaged.ensures.call.content
 
 pub returns-in-Damaged-clause-untouched : goal.returns-in-Damaged-clause-untouched
-returns-in-Damaged-clause-untouched g c = damaged_untouched c.in-Damaged.place _ _ c.in-Damaged.ensures.call.content
+returns-in-Damaged-clause-untouched g c = damaged_untouched c.in-Damaged.offset _ _ c.in-Damaged.ensures.call.content

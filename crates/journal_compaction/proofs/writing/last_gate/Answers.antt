@@ -1,6 +1,6 @@
--- The place behind one record more, or past the end of a file.
+-- The offset after one record more, or past the end of a file.
 use Rattle.std.proofs.Common.{[], ◌∷◌, take, arith}
-use Rattle.journal_compaction.proofs.Putting.{place_append, taken, within}
+use Rattle.journal_compaction.proofs.Putting.{offset_append, taken, within}
 use Rattle.journal_compaction.proofs.writing.last_gate.Goals as goal
 
 pub returns-then-gate-gt-MOST_BYTES : goal.returns-then-gate-gt-MOST_BYTES
@@ -17,4 +17,4 @@ pub records-preserved : goal.records-preserved
 records-preserved c =
     let i = c.records.entry-index in
     let x = c.entry-item.result in
-    rw (taken c.args.records.now i x c.records-test.true c.entry-item.is) (omega (arith, c.records.invariant, c.len-len.ensures, place_append (take i c.args.records.now) (x ∷ [])))
+    rw (taken c.args.records.now i x c.records-test.true c.entry-item.is) (omega (arith, c.records.invariant, c.len-len.ensures, offset_append (take i c.args.records.now) (x ∷ [])))

@@ -1,4 +1,4 @@
--- The records, and a closed gate behind them.
+-- The records, and a closed gate after them.
 use Rattle.std.proofs.Common.{[], ◌∷◌, ◌++◌}
 use Rattle.journal_compaction.specs.Writing.{opened}
 use Rattle.journal_compaction.proofs.Putting.{ends_at, put_failed, put_then, put_unmade}

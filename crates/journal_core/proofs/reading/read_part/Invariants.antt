@@ -1,4 +1,4 @@
--- The bytes so far stand from the place on, and the disk stands as it stood.
+-- The bytes so far stand from the offset on, and the disk stands as it stood.
 use Rattle.std.proofs.Common.{◌≡◌, ◌≤◌, ◌-◌, length}
 use Rattle.ae_edge.specs.Devices.{WhereExposed}
 use Rattle.journal_core.proofs.Parts.{HasPart}

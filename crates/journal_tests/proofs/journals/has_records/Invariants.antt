@@ -5,6 +5,6 @@ use Rattle.journal_tests.proofs.journals.has_records.Given as goal
 
 abbrev pub invariant-records : goal.invariant-records
 invariant-records g l = record {
-  inside : l.place ≤ l.journal.gate;
+  inside : l.offset ≤ l.journal.gate;
   mounted : IfSome (g.D.Disk.seen l.disk).content (IsMounted l.journal.gate);
 }

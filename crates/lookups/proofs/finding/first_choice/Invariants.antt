@@ -5,4 +5,4 @@ use Rattle.lookups.specs.Lookups.{first_choice}
 use Rattle.lookups.proofs.finding.first_choice.Given as goal
 
 abbrev pub invariant-loop-condition : goal.invariant-loop-condition
-invariant-loop-condition l = first_choice l.width l.place (lent l.conditions) ≡ first_choice l.width l.place (lent (drop l.condition-index l.conditions))
+invariant-loop-condition l = first_choice l.width l.ordinal (lent l.conditions) ≡ first_choice l.width l.ordinal (lent (drop l.condition-index l.conditions))

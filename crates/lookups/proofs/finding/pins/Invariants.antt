@@ -6,5 +6,5 @@ use Rattle.lookups.specs.Lent.{operands_lent}
 use Rattle.lookups.specs.Lookups.{pins}
 use Rattle.lookups.proofs.finding.pins.Given as goal
 
-abbrev pub invariant-loop-place : goal.invariant-loop-place
-invariant-loop-place l = pins l.width (lent l.conditions) l.places ≡ option_map (λ vs. operands_lent l.values ++ vs) (pins l.width (lent l.conditions) (drop l.place-index l.places))
+abbrev pub invariant-loop-ordinal : goal.invariant-loop-ordinal
+invariant-loop-ordinal l = pins l.width (lent l.conditions) l.ordinals ≡ option_map (λ vs. operands_lent l.values ++ vs) (pins l.width (lent l.conditions) (drop l.ordinal-index l.ordinals))

@@ -1,4 +1,4 @@
--- The digits of all bytes stand behind 0x.
+-- The digits of all bytes stand after 0x.
 use Rattle.std.proofs.Common.{◌<◌, ◌++◌, ap, ◌∙◌, append_assoc, arith, codes, string_bytes}
 use Rattle.std.proofs.lemmas.List.Elements.{All-from_get_or}
 use Rattle.outcome_text.proofs.Printed.{digits_printed}

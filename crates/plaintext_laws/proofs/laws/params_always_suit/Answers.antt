@@ -1,4 +1,4 @@
-use Rattle.plaintext_laws.proofs.Awaited.{params_always_suit}
+use Rattle.plaintext_laws.proofs.Expected.{params_always_suit}
 use Rattle.plaintext_laws.proofs.laws.params_always_suit.Goals as goal
 
 pub returns : goal.returns

@@ -1,4 +1,4 @@
--- An assignment is bound behind those before it.
+-- An assignment is bound after those before it.
 use Rattle.std.proofs.Common.{arith, map}
 use Rattle.std.proofs.lemmas.Result.{err_from_is_err_and}
 use Rattle.sql_tree.specs.Bound as bound

@@ -1,4 +1,4 @@
--- A join's table is in scope at its ON and behind it.
+-- A join's table is in scope at its ON and after it.
 use Rattle.std.proofs.Common.{arith}
 use Rattle.expression_binding.specs.Seen.{scope_seen}
 use Rattle.resolve.proofs.Joins.{joins_more}

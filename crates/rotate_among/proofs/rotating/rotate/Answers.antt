@@ -7,7 +7,7 @@ use Rattle.driver.specs.Clients.{session_of}
 use Rattle.run_command.specs.Queues.{all_placed}
 use Rattle.script_run.specs.Onward.{Leaves}
 use Rattle.rotate_among.specs.Beside.{Standing}
-use Rattle.rotate_among.specs.Coming.{Comes, IfEnded, IsBy, Kept, Lent}
+use Rattle.rotate_among.specs.Coming.{Comes, IfEnded, IsBy, RotationState, Lent}
 use Rattle.rotate_among.proofs.Came.{comes_so, ended_so, kept_so, no_stream}
 use Rattle.rotate_among.proofs.rotating.rotate.Goals as goal
 
@@ -33,7 +33,7 @@ returns-clause-comes g c =
       vault = g.V.Vault.seen env.vault.now;
       state = wire.stand.state;
     } in
-    let kept : Kept = record {
+    let kept : RotationState = record {
       text = env.out.now;
       frames = wire.tap.now;
       waiting = all_placed wire.waiting.now.replies.items;
@@ -48,7 +48,8 @@ returns-clause-comes g c =
     let by : IsBy c.rotated_by.result c.rotate_lent-ended.result wire.tap.now c.into_peer-peer.result.others = search (rules, c.rotated_by.ensures) in
     subst (λ (w : Lent). Comes c.rotated_by.result (rotating trusted number c.args.old.now c.args.new.now first) last c.args.version c.args.between.now a w) (search rules)
     (comes_so c.rotated_by.result c.rotate_lent-ended.result trusted number c.args.old.now c.args.new.now first last c.args.version c.args.between.now a b
-    c.new-stand.result.told wire.stand.told c.into_peer-peer.result.others _ _ _ kept by c.into_peer-peer.ensures.stands begun (ap (λ (s : Standing). s.told) stand) c.rotate_lent-ended.ensures.leads)
+    c.new-stand.result.exposed wire.stand.exposed c.into_peer-peer.result.others _ _ _ kept by c.into_peer-peer.ensures.stands begun
+    (ap (λ (s : Standing). s.exposed) stand) c.rotate_lent-ended.ensures.leads)
 
 pub returns-clause-leaves : goal.returns-clause-leaves
 returns-clause-leaves g c =

@@ -11,26 +11,26 @@ pub returns-in-Err-clause-changes : goal.returns-in-Err-clause-changes
 returns-in-Err-clause-changes g c =
     let R = map (λ row. row.now) c.args.rows.now in
     let f = row_to_update c.args.columns.now (update_of c.args.update.now) c.args.params.now in
-    let i = c.loop-place.place in
-    let lt : i < length R = omega (arith, c.loop-place-test.true, length-map c.args.rows.now (λ row. row.now)) in
-    let is = read_mapped (λ row. row.now) c.args.rows.now i c.index-rows-place.result c.loop-place-test.true c.index-rows-place.is in
-    change_failed f (λ changes. all_changed R (spread 0 (length c.args.rows.now) changes)) R i c.index-rows-place.result.now
-    (all_changed (take i R) (spread 0 i c.loop-place.changes)) lt is c.loop-place.invariant.so_far c.in-Err.refusal
-    (tested_with c.index-rows-place.result.now) c.in-Err.ensures
+    let i = c.loop-position.position in
+    let lt : i < length R = omega (arith, c.loop-position-test.true, length-map c.args.rows.now (λ row. row.now)) in
+    let is = read_mapped (λ row. row.now) c.args.rows.now i c.index-rows-position.result c.loop-position-test.true c.index-rows-position.is in
+    change_failed f (λ changes. all_changed R (spread 0 (length c.args.rows.now) changes)) R i c.index-rows-position.result.now
+    (all_changed (take i R) (spread 0 i c.loop-position.changes)) lt is c.loop-position.invariant.so_far c.in-Err.refusal
+    (tested_with c.index-rows-position.result.now) c.in-Err.ensures
 
-pub loop-place-preserved : goal.loop-place-preserved
-loop-place-preserved g c =
+pub loop-position-preserved : goal.loop-position-preserved
+loop-position-preserved g c =
     let R = map (λ row. row.now) c.args.rows.now in
     let f = row_to_update c.args.columns.now (update_of c.args.update.now) c.args.params.now in
-    let i = c.loop-place.place in
-    let lt : i < length R = omega (arith, c.loop-place-test.true, length-map c.args.rows.now (λ row. row.now)) in
-    let is = read_mapped (λ row. row.now) c.args.rows.now i c.index-rows-place.result c.loop-place-test.true c.index-rows-place.is in
-    rw c.in_ok-note-in-Ok.ensures (changing_more f R i c.index-rows-place.result.now c.loop-place.changes lt is c.loop-place.invariant c.in-Ok.new c.in-Ok.ensures)
+    let i = c.loop-position.position in
+    let lt : i < length R = omega (arith, c.loop-position-test.true, length-map c.args.rows.now (λ row. row.now)) in
+    let is = read_mapped (λ row. row.now) c.args.rows.now i c.index-rows-position.result c.loop-position-test.true c.index-rows-position.is in
+    rw c.in_ok-note-in-Ok.ensures (changing_more f R i c.index-rows-position.result.now c.loop-position.changes lt is c.loop-position.invariant c.in-Ok.new c.in-Ok.ensures)
 
 pub returns-clause-changes : goal.returns-clause-changes
 returns-clause-changes g c =
     let R = map (λ row. row.now) c.args.rows.now in
     let f = row_to_update c.args.columns.now (update_of c.args.update.now) c.args.params.now in
-    let over : c.loop-place.place ≡ length c.args.rows.now = omega (arith, c.loop-place-test.false, c.loop-place.auto.place-end) in
+    let over : c.loop-position.position ≡ length c.args.rows.now = omega (arith, c.loop-position-test.false, c.loop-position.auto.position-end) in
     let long : length c.args.rows.now ≡ length R = sym (length-map c.args.rows.now (λ row. row.now)) in
-    changing_done f R c.loop-place.place (length c.args.rows.now) c.loop-place.changes c.loop-place.invariant over long
+    changing_done f R c.loop-position.position (length c.args.rows.now) c.loop-position.changes c.loop-position.invariant over long

@@ -5,5 +5,5 @@ use Rattle.row_changes.specs.Changes.{row_to_update}
 use Rattle.row_changes.proofs.Spreading.{AreChanging}
 use Rattle.row_changes.proofs.updates.changes.Given as goal
 
-abbrev pub invariant-loop-place : goal.invariant-loop-place
-invariant-loop-place g l = AreChanging (row_to_update l.columns (update_of l.update) l.params) (map (λ row. row.now) l.rows) l.place l.changes
+abbrev pub invariant-loop-position : goal.invariant-loop-position
+invariant-loop-position g l = AreChanging (row_to_update l.columns (update_of l.update) l.params) (map (λ row. row.now) l.rows) l.position l.changes

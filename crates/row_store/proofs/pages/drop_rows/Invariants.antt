@@ -6,11 +6,11 @@ use Rattle.row_store.proofs.pages.drop_rows.Given as goal
 
 abbrev pub invariant-loop-at : goal.invariant-loop-at
 invariant-loop-at g l = record {
-  so_far : unhit l.fn.rows.items (marked l.first (length l.fn.rows.items) l.places)
-      ≡ take l.kept l.rows.items ++ unhit (drop l.at l.rows.items) (drop l.at (marked l.first (length l.fn.rows.items) l.places));
+  so_far : unhit l.fn.rows.items (marked l.first (length l.fn.rows.items) l.positions)
+      ≡ take l.kept l.rows.items ++ unhit (drop l.at l.rows.items) (drop l.at (marked l.first (length l.fn.rows.items) l.positions));
   behind : l.kept ≤ l.at;
   long : length l.rows.items ≡ length l.fn.rows.items;
-  past : IsPast l.first l.at l.places l.used;
-  few : l.used ≤ length l.places;
+  past : IsPast l.first l.at l.positions l.used;
+  few : l.used ≤ length l.positions;
   capacity : vec_capacity l.rows ≡ vec_capacity l.fn.rows;
 }

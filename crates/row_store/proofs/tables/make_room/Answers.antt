@@ -1,4 +1,4 @@
--- The last page is the table's own, and others are ready behind it.
+-- The last page is the table's own, and others are ready after it.
 use Rattle.std.proofs.Common.{◌≡◌, ◌+◌, ◌-◌, ◌*◌, ◌/◌, ◌≤◌, length, arith, ap, ◌∙◌}
 use Rattle.row_store.specs.Paged.{values}
 use Rattle.row_store.proofs.Owned.{kept_same, on_any, on_ok}

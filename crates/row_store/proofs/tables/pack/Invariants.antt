@@ -1,4 +1,4 @@
--- The pages behind share one where they fit.
+-- The pages after share one where they fit.
 use Rattle.std.proofs.Common.{◌≡◌, ◌≤◌, ◌++◌, take, drop, length}
 use Rattle.std.specs.Vec.{vec_capacity}
 use Rattle.row_store.specs.Paged.{AreReady, compaction, values}

@@ -3,7 +3,7 @@ use Rattle.std.proofs.Common.{◌≡◌, ◌+◌, ◌-◌, ◌<◌, ◌++◌, �
 use Rattle.std.specs.List.{All}
 use Rattle.row_store.specs.Paged.{IsEmpty, Owned, joined, sizes, values, lengths, last_room, own_at, IsPaged}
 use Rattle.row_store.proofs.Owned.{own_here, own_pushed, own_there, value_at, values_length, values_push, values_set}
-use Rattle.row_store.proofs.Packing.{some_page, last_short, last_flat, last_grown, flat_push, page_pushed, room_pushed, set_length, all_front, all_last}
+use Rattle.row_store.proofs.Packing.{some_page, last_short, last_flat, last_grown, flat_push, page_pushed, room_pushed, set_length, all_prefix, all_last}
 use Rattle.row_store.proofs.tables.push.Goals as goal
 
 pub push-requires-clause-room : goal.push-requires-clause-room
@@ -76,21 +76,21 @@ returns-then-last_room-gt0-clause-own g c =
 
 pub push-requires-2-clause-room : goal.push-requires-2-clause-room
 push-requires-2-clause-room g c =
-    let front = rw c.unwrap-page.ensures at c.pop.ensures.items in
-    let empty = all_last IsEmpty c.pop.new.self.items c.unwrap-page.result (subst (All IsEmpty) front c.requires.kept.ready) in
+    let prefix = rw c.unwrap-page.ensures at c.pop.ensures.items in
+    let empty = all_last IsEmpty c.pop.new.self.items c.unwrap-page.result (subst (All IsEmpty) prefix c.requires.kept.ready) in
     omega (arith, ap (λ (p : Owned _). length p.value) empty)
 
 pub push-requires-2-clause-own : goal.push-requires-2-clause-own
 push-requires-2-clause-own g c =
-    let front = rw c.unwrap-page.ensures at c.pop.ensures.items in
-    let empty = all_last IsEmpty c.pop.new.self.items c.unwrap-page.result (subst (All IsEmpty) front c.requires.kept.ready) in
+    let prefix = rw c.unwrap-page.ensures at c.pop.ensures.items in
+    let empty = all_last IsEmpty c.pop.new.self.items c.unwrap-page.result (subst (All IsEmpty) prefix c.requires.kept.ready) in
     ap (λ (p : Owned _). p.own) empty
 
 pub returns-clause-rows : goal.returns-clause-rows
 returns-clause-rows g c =
     let pages = c.args.pages.now.items in
-    let front = rw c.unwrap-page.ensures at c.pop.ensures.items in
-    let empty = all_last IsEmpty c.pop.new.self.items c.unwrap-page.result (subst (All IsEmpty) front c.requires.kept.ready) in
+    let prefix = rw c.unwrap-page.ensures at c.pop.ensures.items in
+    let empty = all_last IsEmpty c.pop.new.self.items c.unwrap-page.result (subst (All IsEmpty) prefix c.requires.kept.ready) in
     let one : c.push-2.new.self.value ≡ c.args.row ∷ [] = ap (λ (p : Owned _). p.value) c.push-2.ensures ∙ ap (λ (p : Owned _). p.value ++ c.args.row ∷ []) empty in
     let new = ap values c.push_reserved.ensures.items ∙ values_push pages c.push-2.new.self ∙ ap (λ v. values pages ++ v ∷ []) one in
     ap joined new ∙ flat_push (values pages) (c.args.row ∷ [])
@@ -98,31 +98,31 @@ returns-clause-rows g c =
 pub returns-clause-kept : goal.returns-clause-kept
 returns-clause-kept g c =
     let pages = c.args.pages.now.items in
-    let front = rw c.unwrap-page.ensures at c.pop.ensures.items in
-    let ready = subst (All IsEmpty) front c.requires.kept.ready in
+    let prefix = rw c.unwrap-page.ensures at c.pop.ensures.items in
+    let ready = subst (All IsEmpty) prefix c.requires.kept.ready in
     let empty = all_last IsEmpty c.pop.new.self.items c.unwrap-page.result ready in
     let one : c.push-2.new.self.value ≡ c.args.row ∷ [] = ap (λ (p : Owned _). p.value) c.push-2.ensures ∙ ap (λ (p : Owned _). p.value ++ c.args.row ∷ []) empty in
     let new = ap values c.push_reserved.ensures.items ∙ values_push pages c.push-2.new.self ∙ ap (λ v. values pages ++ v ∷ []) one in
     let room = rw c.as_slice.ensures.value at c.last_room.ensures in
     let zero : last_room (lengths pages) ≡ 0 = omega (arith, room, c.if-last_room-gt0.false) in
-    let less = ap length front ∙ length-append c.pop.new.self.items (c.unwrap-page.result ∷ []) in
+    let less = ap length prefix ∙ length-append c.pop.new.self.items (c.unwrap-page.result ∷ []) in
     let more = ap length c.push_reserved.ensures.items ∙ length-append pages (c.push-2.new.self ∷ []) in
     record {
       paged = subst (λ vs. IsPaged (sizes vs)) (sym new) (page_pushed (values pages) c.args.row zero c.requires.kept.paged);
-      ready = all_front IsEmpty c.pop.new.self.items c.unwrap-page.result ready;
+      ready = all_prefix IsEmpty c.pop.new.self.items c.unwrap-page.result ready;
       room = omega (arith, c.requires.kept.room, less, more, c.push_reserved.ensures.capacity);
     }
 
 pub returns-clause-room : goal.returns-clause-room
 returns-clause-room g c =
     let pages = c.args.pages.now.items in
-    let front = rw c.unwrap-page.ensures at c.pop.ensures.items in
-    let empty = all_last IsEmpty c.pop.new.self.items c.unwrap-page.result (subst (All IsEmpty) front c.requires.kept.ready) in
+    let prefix = rw c.unwrap-page.ensures at c.pop.ensures.items in
+    let empty = all_last IsEmpty c.pop.new.self.items c.unwrap-page.result (subst (All IsEmpty) prefix c.requires.kept.ready) in
     let one : c.push-2.new.self.value ≡ c.args.row ∷ [] = ap (λ (p : Owned _). p.value) c.push-2.ensures ∙ ap (λ (p : Owned _). p.value ++ c.args.row ∷ []) empty in
     let new = ap values c.push_reserved.ensures.items ∙ values_push pages c.push-2.new.self ∙ ap (λ v. values pages ++ v ∷ []) one in
     let room = rw c.as_slice.ensures.value at c.last_room.ensures in
     let zero : last_room (lengths pages) ≡ 0 = omega (arith, room, c.if-last_room-gt0.false) in
-    let less = ap length front ∙ length-append c.pop.new.self.items (c.unwrap-page.result ∷ []) in
+    let less = ap length prefix ∙ length-append c.pop.new.self.items (c.unwrap-page.result ∷ []) in
     let begun : last_room (lengths c.push_reserved.new.self.items) ≡ 255 = ap (λ vs. last_room (sizes vs)) new ∙ room_pushed (values pages) c.args.row in
     omega (arith, less, begun, zero)
 

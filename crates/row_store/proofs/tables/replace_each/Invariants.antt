@@ -9,7 +9,7 @@ use Rattle.row_store.proofs.tables.replace_each.Given as goal
 abbrev pub invariant-loop-change : goal.invariant-loop-change
 invariant-loop-change g l = record {
   writing : AreWriting (values l.fn.pages.items) (values l.pages.items) l.fn.changes l.change-iterator.rest.items l.near.page l.near.before;
-  left : All (λ change. IsWritable l.fn.pages.items change.place) l.change-iterator.rest.items;
+  left : All (λ change. IsWritable l.fn.pages.items change.position) l.change-iterator.rest.items;
   own : (page : ℕ) → own_at page l.fn.pages.items ≡ true → own_at page l.pages.items ≡ true;
   capacity : vec_capacity l.pages ≡ vec_capacity l.fn.pages;
 }

@@ -1,4 +1,4 @@
--- Behind all that ask nothing, one asks its request.
+-- After all that ask nothing, one asks its request.
 use Rattle.run_tests.proofs.Asking.{one_asks}
 use Rattle.run_tests.proofs.among.between.Goals as goal
 

@@ -2,7 +2,7 @@
 use Rattle.std.proofs.Common.{ap, ◌∙◌}
 use Rattle.driver.specs.Clients.{session_of}
 use Rattle.column_rotate.specs.Moves.{Rotating}
-use Rattle.column_rotate.specs.Rotating.{heard, told_of}
+use Rattle.column_rotate.specs.Rotating.{heard, driver_outcome}
 use Rattle.script_run.proofs.Going.{stay, breaks_between, goes_then, fails_then}
 use Rattle.script_run.proofs.Leaving.{others_same, others_then}
 use Rattle.script_run.proofs.Rotating.{heard_blind, now_on}
@@ -32,10 +32,10 @@ batches-preserved g c = record {
   into = c.in-Ok-Send.ensures.into ∙ c.batches.invariant.into;
   goes = λ k.
       let r = c.in-Ok-run.ensures.leads
-      (λ comes columns after. heard c.args.driver.now.trusted c.args.number c.args.old.now c.args.new.now k c.next_of.new.rotation.sent columns (told_of comes) after)
+      (λ comes columns after. heard c.args.driver.now.trusted c.args.number c.args.old.now c.args.new.now k c.next_of.new.rotation.sent columns (driver_outcome comes) after)
       (heard_blind c.args.driver.now.trusted c.args.number c.args.old.now c.args.new.now k c.next_of.new.rotation.sent) in
       let e = c.batches.invariant.others.1 in
-      let t = c.told_of.ensures in
+      let t = c.driver_outcome.ensures in
       rw t (goes_then _ _ _ _ _ _
       (now_on c.args.driver.now.trusted c.args.number _ c.args.old.now _ c.args.new.now _ k c.batches.driver
       c.batches.invariant.session c.batches.invariant.from c.batches.invariant.into _ _ _ _ _ _ _ _
@@ -58,7 +58,7 @@ returns-in-Err-next_of-clause-leads g c = λ k. breaks_between _ _ _ _ (c.batche
 pub returns-in-Err-run-clause-leads : goal.returns-in-Err-run-clause-leads
 returns-in-Err-run-clause-leads g c = λ k.
     let r = c.in-Err-run.ensures.leads
-    (λ comes columns after. heard c.args.driver.now.trusted c.args.number c.args.old.now c.args.new.now k c.next_of.new.rotation.sent columns (told_of comes) after)
+    (λ comes columns after. heard c.args.driver.now.trusted c.args.number c.args.old.now c.args.new.now k c.next_of.new.rotation.sent columns (driver_outcome comes) after)
     (heard_blind c.args.driver.now.trusted c.args.number c.args.old.now c.args.new.now k c.next_of.new.rotation.sent) in
     let e = c.batches.invariant.others.1 in
     fails_then _ _ _ _ _ _

@@ -1,8 +1,8 @@
--- So many batches were run, and the rotation stands behind the last one's outcome.
+-- So many batches were run, and the rotation stands after the last one's outcome.
 use Rattle.std.proofs.Common.{◌≡◌}
 use Rattle.driver.specs.Clients.{IsOfVault, columns_of, session_of}
 use Rattle.column_rotate.specs.Rotating.{Ends, beginning}
-use Rattle.script_run.specs.Ways.{Proceeds}
+use Rattle.script_run.specs.Progress.{Proceeds}
 use Rattle.script_run.specs.Onward.{IsApart}
 use Rattle.script_run.specs.Rotations.{standing}
 use Rattle.script_run.proofs.rotations.run_rotation.Given as goal

@@ -1,7 +1,7 @@
 -- The steps that are left are to come.
 use Rattle.ae_edge.specs.Devices.{lent}
 use Rattle.driver.specs.Clients.{IsOfVault}
-use Rattle.script_run.specs.Ways.{Proceeds}
+use Rattle.script_run.specs.Progress.{Proceeds}
 use Rattle.script_talk.specs.Steps.{talk}
 use Rattle.script_run.proofs.runs.run_lent.Given as goal
 

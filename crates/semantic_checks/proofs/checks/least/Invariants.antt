@@ -5,4 +5,4 @@ use Rattle.semantic_checks.proofs.checks.least.Given as goal
 
 abbrev pub invariant-loop-at : goal.invariant-loop-at
 invariant-loop-at l =
-    least_from l.found (drop l.at-index l.places) ≡ least l.places
+    least_from l.found (drop l.at-index l.offsets) ≡ least l.offsets

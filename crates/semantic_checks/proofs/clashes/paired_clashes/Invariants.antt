@@ -7,7 +7,7 @@ use Rattle.semantic_checks.proofs.clashes.paired_clashes.Given as goal
 
 abbrev pub invariant-loop-left : goal.invariant-loop-left
 invariant-loop-left l =
-    l.found ++ paired_clashes (types_seen l.types) l.places (map operand_of l.left) ≡ l.fn.found ++ paired_clashes (types_seen l.types) l.named (map operand_of l.values)
+    l.found ++ paired_clashes (types_seen l.types) l.offsets (map operand_of l.left) ≡ l.fn.found ++ paired_clashes (types_seen l.types) l.named (map operand_of l.values)
 
 abbrev pub decreases-loop-left : goal.decreases-loop-left
 decreases-loop-left l = length l.left

@@ -7,4 +7,4 @@ use Rattle.semantic_checks.proofs.grouping.is_selected.Given as goal
 
 abbrev pub invariant-loop-item : goal.invariant-loop-item
 invariant-loop-item l =
-    list_any (selects l.place) (map bound.item_of l.items) ≡ list_any (selects l.place) (map bound.item_of (drop l.item-index l.items))
+    list_any (selects l.ordinal) (map bound.item_of l.items) ≡ list_any (selects l.ordinal) (map bound.item_of (drop l.item-index l.items))

@@ -6,4 +6,4 @@ use Rattle.semantic_checks.proofs.uses.+uses_in_condition.Given as goal
 
 abbrev pub invariant-uses_in_conditions-loop-condition : goal.invariant-uses_in_conditions-loop-condition
 invariant-uses_in_conditions-loop-condition l =
-    uses_in_conditions l.place (conditions_listed l.conditions) ≡ uses_in_conditions l.place (conditions_listed (drop l.condition-index l.conditions))
+    uses_in_conditions l.ordinal (conditions_listed l.conditions) ≡ uses_in_conditions l.ordinal (conditions_listed (drop l.condition-index l.conditions))

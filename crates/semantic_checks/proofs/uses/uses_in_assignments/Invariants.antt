@@ -6,5 +6,5 @@ use Rattle.sql_tree.specs.Uses.{uses_in_assignment}
 use Rattle.semantic_checks.proofs.uses.uses_in_assignments.Given as goal
 
 abbrev pub invariant-loop-assignment : goal.invariant-loop-assignment
-invariant-loop-assignment l = list_any (uses_in_assignment l.place) (map assignment_of l.assignments) ≡ list_any
-    (uses_in_assignment l.place) (map assignment_of (drop l.assignment-index l.assignments))
+invariant-loop-assignment l = list_any (uses_in_assignment l.ordinal) (map assignment_of l.assignments) ≡ list_any
+    (uses_in_assignment l.ordinal) (map assignment_of (drop l.assignment-index l.assignments))

@@ -6,4 +6,4 @@ use Rattle.sql_tree.specs.Uses.{uses_in_join}
 use Rattle.semantic_checks.proofs.uses.uses_in_joins.Given as goal
 
 abbrev pub invariant-loop-join : goal.invariant-loop-join
-invariant-loop-join l = list_any (uses_in_join l.place) (map join_of l.joins) ≡ list_any (uses_in_join l.place) (map join_of (drop l.join-index l.joins))
+invariant-loop-join l = list_any (uses_in_join l.ordinal) (map join_of l.joins) ≡ list_any (uses_in_join l.ordinal) (map join_of (drop l.join-index l.joins))

@@ -7,4 +7,4 @@ use Rattle.semantic_checks.proofs.uses.uses_in_list.Given as goal
 
 abbrev pub invariant-loop-operand : goal.invariant-loop-operand
 invariant-loop-operand l =
-    list_any (uses_in l.place) (map operand_of l.operands) ≡ list_any (uses_in l.place) (map operand_of (drop l.operand-index l.operands))
+    list_any (uses_in l.ordinal) (map operand_of l.operands) ≡ list_any (uses_in l.ordinal) (map operand_of (drop l.operand-index l.operands))

@@ -6,4 +6,4 @@ use Rattle.sql_tree.specs.Uses.{uses_in_row}
 use Rattle.semantic_checks.proofs.uses.uses_in_rows.Given as goal
 
 abbrev pub invariant-loop-row : goal.invariant-loop-row
-invariant-loop-row l = list_any (uses_in_row l.place) (map row_of l.rows) ≡ list_any (uses_in_row l.place) (map row_of (drop l.row-index l.rows))
+invariant-loop-row l = list_any (uses_in_row l.ordinal) (map row_of l.rows) ≡ list_any (uses_in_row l.ordinal) (map row_of (drop l.row-index l.rows))

@@ -1,4 +1,4 @@
--- A full buffer was put, and emptied.
+-- A full buffer was written, and emptied.
 use Rattle.std.proofs.Common.{List, ℕ, rules, subst}
 use Rattle.ae_edge.specs.Streams.{PutsAll}
 use Rattle.serve_command.proofs.Putting.{put_or_kept}

@@ -2,18 +2,18 @@
 use Rattle.std.proofs.Common.{◌≡◌, ◌∙◌, ◌+◌, ℕ, List, length, drop, subst, arith, rules, length-drop}
 use Rattle.std.proofs.lemmas.Result.{err_from_is_err_and}
 use Rattle.ae_edge.specs.Streams.{PutsAll}
-use Rattle.serve_command.proofs.Putting.{next_within, frame_next, front_put, stops_in_buffer, all_put}
+use Rattle.serve_command.proofs.Putting.{next_within, frame_next, prefix_put, stops_in_buffer, all_put}
 use Rattle.serve_command.proofs.answers.put_replies.Goals as goal
 
 pub frames-preserved : goal.frames-preserved
 frames-preserved g c =
     let replies = c.args.replies.now in
-    let p = c.in-Ok.ensures.front in
-    let s = frame_next c.args.version replies c.frames.done c.in-Ok.count c.frames.frames.items c.push_front.new.out.items
+    let p = c.in-Ok.ensures.prefix in
+    let s = frame_next c.args.version replies c.frames.done c.in-Ok.count c.frames.frames.items c.push_prefix.new.out.items
     p (g.W.Sink.seen c.args.out.now).content (g.W.Sink.seen c.frames.out).content c.frames.invariant.so_far in
     record {
-      within = next_within c.args.version replies c.frames.done c.in-Ok.count c.frames.frames.items c.push_front.new.out.items p c.frames.invariant.within;
-      so_far = front_put c.args.version replies (drop (c.frames.done + c.in-Ok.count) replies) c.push_front.new.out.items
+      within = next_within c.args.version replies c.frames.done c.in-Ok.count c.frames.frames.items c.push_prefix.new.out.items p c.frames.invariant.within;
+      so_far = prefix_put c.args.version replies (drop (c.frames.done + c.in-Ok.count) replies) c.push_prefix.new.out.items
           (g.W.Sink.seen c.args.out.now).content (g.W.Sink.seen c.frames.out).content s c.put_full.new.frames.items (g.W.Sink.seen c.put_full.new.out).content c.in_ok-put_full.ensures.call.content;
       count = c.in_ok-put_full.ensures.call.counts ∙ c.frames.invariant.count;
       same = c.in_ok-put_full.ensures.call.same ∙ c.frames.invariant.same;
@@ -22,12 +22,12 @@ frames-preserved g c =
 pub returns-in_err-put_full : goal.returns-in_err-put_full
 returns-in_err-put_full g c =
     let replies = c.args.replies.now in
-    let s = frame_next c.args.version replies c.frames.done c.in-Ok.count c.frames.frames.items c.push_front.new.out.items
-    c.in-Ok.ensures.front (g.W.Sink.seen c.args.out.now).content (g.W.Sink.seen c.frames.out).content c.frames.invariant.so_far in
+    let s = frame_next c.args.version replies c.frames.done c.in-Ok.count c.frames.frames.items c.push_prefix.new.out.items
+    c.in-Ok.ensures.prefix (g.W.Sink.seen c.args.out.now).content (g.W.Sink.seen c.frames.out).content c.frames.invariant.so_far in
     let p = err_from_is_err_and c.from_residual.result c.from_residual.ensures.1 in
     rw (p.1, p.2) (record {
       content = stops_in_buffer c.args.version replies (drop (c.frames.done + c.in-Ok.count) replies)
-          c.push_front.new.out.items (g.W.Sink.seen c.args.out.now).content (g.W.Sink.seen c.frames.out).content s (g.W.Sink.seen c.put_full.new.out).content c.in_err-put_full.ensures.call.content;
+          c.push_prefix.new.out.items (g.W.Sink.seen c.args.out.now).content (g.W.Sink.seen c.frames.out).content s (g.W.Sink.seen c.put_full.new.out).content c.in_err-put_full.ensures.call.content;
       count = search rules;
       counts = search rules;
       same = search rules;

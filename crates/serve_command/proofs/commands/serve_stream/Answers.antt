@@ -1,4 +1,4 @@
--- What the server put for the requests of the input; and of an input that is told, what was put is of its frames within the limit.
+-- What the server wrote for the requests of the input; and of an input that is exposed, what was written is of its frames within the limit.
 use Rattle.std.proofs.Common.{sym, ◌∙◌}
 use Rattle.serve_command.specs.Servers.{ServerView}
 use Rattle.serve_command.proofs.Exactly.{exactly}

@@ -25,7 +25,7 @@ returns-in-Refused-clause-serves g c =
     let p = c.in-Bytes.ensures.piece in
     let fits : length c.in-Bytes.piece ≤ c.pieces.left = omega (arith, p.1) in
     ends_refused g.A.Answering.answers g.A.Answering.stops _ _ _ _ _ _ c.pieces.invariant.goes c.in-Bytes.piece
-    (g.S.Source.seen c.take.new.self).content c.in-Bytes.ensures.call.content fits c.in-Refused.place _ c.in-Refused.ensures.drains
+    (g.S.Source.seen c.take.new.self).content c.in-Bytes.ensures.call.content fits c.in-Refused.offset _ c.in-Refused.ensures.drains
 
 pub returns-in-OutOfMemory-answer_piece-clause-serves :
     goal.returns-in-OutOfMemory-answer_piece-clause-serves

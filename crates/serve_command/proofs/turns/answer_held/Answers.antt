@@ -6,13 +6,13 @@ use Rattle.serve_command.proofs.turns.answer_held.Goals as goal
 pub advance-requires : goal.advance-requires
 advance-requires g c =
     let a = c.in-Answered.ensures.turns in
-    record { waits = a.waits; whole = stands_whole c.requests.feed a.request c.in-Answered.used c.requests.invariant.way a.next }
+    record { waits = a.waits; whole = stands_whole c.requests.feed a.request c.in-Answered.used c.requests.invariant.direction a.next }
 
 pub requests-preserved : goal.requests-preserved
 requests-preserved g c =
     let e = c.advance.ensures in
     record {
-      way = rw e c.requests.invariant.way;
+      direction = rw e c.requests.invariant.direction;
       stands = λ taken first short s. rw e
           (stands_more g.A.Answering.answers taken c.requests.feed first _ (c.requests.invariant.stands taken first short s) c.in-Answered.used _ short c.in-Answered.ensures.turns);
       ready = c.in-Answered.ensures.ready;
@@ -26,7 +26,7 @@ returns-in-Waits-clause-drains g c = λ taken first short s.
 
 pub returns-in-Refused-clause-drains : goal.returns-in-Refused-clause-drains
 returns-in-Refused-clause-drains g c = λ taken first short s. drains_refused g.A.Answering.answers g.A.Answering.stops
-    taken c.requests.feed first _ _ (c.requests.invariant.stands taken first short s) c.in-Refused.place c.in-Refused.ensures.turns
+    taken c.requests.feed first _ _ (c.requests.invariant.stands taken first short s) c.in-Refused.offset c.in-Refused.ensures.turns
 
 pub returns-in-OutOfMemory-clause-drains : goal.returns-in-OutOfMemory-clause-drains
 returns-in-OutOfMemory-clause-drains g c = λ taken first short s. drains_unread g.A.Answering.answers g.A.Answering.stops

@@ -7,7 +7,7 @@ use Rattle.server_core.proofs.columns.header.Goals as goal
 
 pub headed-requires-clause-keys : goal.headed-requires-clause-keys
 headed-requires-clause-keys c =
-    header_keys c.args.catalog.now c.args.columns c.in_ok-columns.columns c.in_ok-keys.keys c.requires.catalog c.keys_are_told.ensures.told c.requires.keys c.in_ok-columns.ensures.exact
+    header_keys c.args.catalog.now c.args.columns c.in_ok-columns.columns c.in_ok-keys.keys c.requires.catalog c.keys_are_described.ensures.described c.requires.keys c.in_ok-columns.ensures.exact
     (c.in_ok-keys.ensures ∙ ap (λ (columns : List SentColumn). keys_of c.args.catalog.now (encs_of columns)) c.as_slice.ensures)
 
 pub headed-requires-clause-few : goal.headed-requires-clause-few

@@ -1,4 +1,4 @@
--- The session's catalog is one, behind the statement too.
+-- The session's catalog is one, after the statement too.
 use Rattle.std.proofs.Common.{sym, subst}
 use Rattle.catalog.specs.WellFormed.{IsCatalog}
 use Rattle.server_core.proofs.Readiness.{seen_catalog}

@@ -1,6 +1,6 @@
 use Rattle.std.proofs.Common.{◌≡◌, ◌<◌, ◌≤◌, subst, sym, ◌∙◌, ap, length, drop, arith, List, ℕ}
 use Rattle.std.proofs.lemmas.List.{take_rest, length-drop}
-use Rattle.sql_tree.specs.Tokens.{front, passed_over, tokens_of}
+use Rattle.sql_tree.specs.Tokens.{next_token, passed_over, tokens_of}
 use Rattle.sql_tree.specs.Reading.{IsToken, IsWide}
 use Rattle.sql_tree.proofs.Progress.{so_far_token, so_far_wide, so_far_gap, so_far_nothing}
 use Rattle.sql_tree.proofs.tokens.tokens.Goals as goal
@@ -24,8 +24,8 @@ loop-at-preserved-in-Token c =
     let at = c.loop-at.at in
     let h = rw c.in-Token.is at c.in_ok-lexeme.ensures in
     let none : passed_over (drop at bytes) ≡ 0 = sym (c.passed_over-gap.ensures.gap ∙ ap passed_over (take_rest bytes at)) ∙ omega arith in
-    let f : IsToken c.args.most (drop at bytes) (front (drop at bytes)) c.in-Token.lexeme c.in-Token.len =
-    subst (λ (rest : List ℕ). IsToken c.args.most rest (front rest) c.in-Token.lexeme c.in-Token.len) (take_rest bytes at) h in
+    let f : IsToken c.args.most (drop at bytes) (next_token (drop at bytes)) c.in-Token.lexeme c.in-Token.len =
+    subst (λ (rest : List ℕ). IsToken c.args.most rest (next_token rest) c.in-Token.lexeme c.in-Token.len) (take_rest bytes at) h in
     let s = so_far_token c.args.most bytes at c.loop-at.tokens c.loop-at.wide c.in-Token.lexeme c.in-Token.len c.loop-at.invariant.so_far c.loop-at-test.true none f in
     record { so_far = rw c.in_ok-push-in-Token.ensures.ok s; within = omega (arith, f.within, length-drop at bytes) }
 
@@ -35,8 +35,8 @@ loop-at-preserved c =
     let at = c.loop-at.at in
     let h = rw c.in-Wide.is at c.in_ok-lexeme.ensures in
     let none : passed_over (drop at bytes) ≡ 0 = sym (c.passed_over-gap.ensures.gap ∙ ap passed_over (take_rest bytes at)) ∙ omega arith in
-    let f : IsWide c.args.most (drop at bytes) (front (drop at bytes)) c.in-Wide.len =
-    subst (λ (rest : List ℕ). IsWide c.args.most rest (front rest) c.in-Wide.len) (take_rest bytes at) h in
+    let f : IsWide c.args.most (drop at bytes) (next_token (drop at bytes)) c.in-Wide.len =
+    subst (λ (rest : List ℕ). IsWide c.args.most rest (next_token rest) c.in-Wide.len) (take_rest bytes at) h in
     let s = so_far_wide c.args.most bytes at c.loop-at.tokens c.loop-at.wide c.in-Wide.len c.loop-at.invariant.so_far c.loop-at-test.true none f in
     record { so_far = rw c.or-wide.ensures s; within = omega (arith, f.within, length-drop at bytes) }
 
@@ -47,4 +47,4 @@ returns-in-Nothing c =
     let h = rw c.in-Nothing.is at c.in_ok-lexeme.ensures in
     let none : passed_over (drop at bytes) ≡ 0 = sym (c.passed_over-gap.ensures.gap ∙ ap passed_over (take_rest bytes at)) ∙ omega arith in
     ap tokens_of (sym c.as_bytes-bytes.ensures.value) ∙ so_far_nothing c.args.most bytes at c.loop-at.tokens
-    c.loop-at.wide c.loop-at.invariant.so_far c.loop-at-test.true none (sym (ap front (take_rest bytes at)) ∙ h)
+    c.loop-at.wide c.loop-at.invariant.so_far c.loop-at-test.true none (sym (ap next_token (take_rest bytes at)) ∙ h)

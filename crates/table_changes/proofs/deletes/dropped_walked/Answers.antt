@@ -23,7 +23,7 @@ returns-in-Ok-clause-hits g c =
     let read = map (λ row. row.now) c.as_slice.result.now in
     let f = row_to_delete (option_map condition_of c.args.filter.now) c.args.params.now in
     let is : read ≡ c.args.table.now.rows = ap (map (λ row. row.now)) c.as_slice.ensures ∙ c.in_ok-rows.ensures ∙ c.rows.ensures in
-    rw (c.in_ok-places_hit-in-Ok.ensures, c.as_slice-in-Ok.ensures)
+    rw (c.in_ok-positions_hit-in-Ok.ensures, c.as_slice-in-Ok.ensures)
     (all_walked f read c.args.table.now.rows is c.in-Ok.hits (c.in-Ok.ensures.each ∙ sym (length-map c.as_slice.result.now (λ row. row.now))) c.in-Ok.ensures.hits).tested
 
 pub returns-in-Ok-clause-rising : goal.returns-in-Ok-clause-rising
@@ -31,7 +31,7 @@ returns-in-Ok-clause-rising g c =
     let read = map (λ row. row.now) c.as_slice.result.now in
     let f = row_to_delete (option_map condition_of c.args.filter.now) c.args.params.now in
     let is : read ≡ c.args.table.now.rows = ap (map (λ row. row.now)) c.as_slice.ensures ∙ c.in_ok-rows.ensures ∙ c.rows.ensures in
-    rw (c.in_ok-places_hit-in-Ok.ensures, c.as_slice-in-Ok.ensures)
+    rw (c.in_ok-positions_hit-in-Ok.ensures, c.as_slice-in-Ok.ensures)
     (all_walked f read c.args.table.now.rows is c.in-Ok.hits (c.in-Ok.ensures.each ∙ sym (length-map c.as_slice.result.now (λ row. row.now))) c.in-Ok.ensures.hits).rise
 
 pub returns-clause-hits : goal.returns-clause-hits
@@ -40,4 +40,4 @@ returns-clause-hits g c =
     let rows = c.args.table.now.rows in
     let f = row_to_delete (option_map condition_of c.args.filter.now) c.args.params.now in
     let is : read ≡ rows = ap (map (λ row. row.now)) c.as_slice.ensures ∙ c.in_ok-rows.ensures ∙ c.rows.ensures in
-    walked_failed f read rows is (λ (hits : List Bool). all_tested read hits) (λ (places : List ℕ). all_tested rows (marked 0 (length rows) places)) c.in-Err.refusal c.in-Err.ensures.hits
+    walked_failed f read rows is (λ (hits : List Bool). all_tested read hits) (λ (positions : List ℕ). all_tested rows (marked 0 (length rows) positions)) c.in-Err.refusal c.in-Err.ensures.hits

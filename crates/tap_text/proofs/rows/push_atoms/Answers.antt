@@ -3,7 +3,7 @@ use Rattle.std.proofs.Common.{◌+◌, ◌∙◌, ap, string_bytes, subst, sym, 
 use Rattle.std.proofs.lemmas.List.{length-take-le, take_all}
 use Rattle.scalar.specs.Classes.{Class}
 use Rattle.tap_listing.specs.Frames.{atom_spots, row_spots}
-use Rattle.tap_text.specs.Text.{place_text, row_text}
+use Rattle.tap_text.specs.Text.{spot_text, row_text}
 use Rattle.tap_text.specs.Writing.{Writes}
 use Rattle.tap_text.proofs.Rowwise.{atom_behind, all_written, one_more}
 use Rattle.tap_text.proofs.rows.push_atoms.Goals as goal
@@ -15,13 +15,13 @@ loop-atom-preserved c =
     let a = c.atom-item.result in
     let inv = c.loop-atom.invariant in
     record {
-      place = ap (λ n. n + 1) inv.place;
-      writes = atom_behind c.args.page c.args.numbers.now c.loop-atom.numbers c.push_place.new.numbers
-          (string_bytes c.args.text.now) (string_bytes c.loop-atom.text) (string_bytes c.push_place.new.text)
-          c.args.classes.now (take i all) (take (i + 1) all) a c.loop-atom.place (one_more all i a c.loop-atom-test.true c.atom-item.is)
-          (inv.place ∙ sym (length-take-le i all c.loop-atom.auto.atom-index-end)) inv.writes
-          (subst (λ (d : Class). Writes (place_text c.args.page d a) (atom_spots d a) c.loop-atom.numbers
-          c.push_place.new.numbers (string_bytes c.loop-atom.text) (string_bytes c.push_place.new.text)) c.class_at-class.ensures c.in_ok-push_place.ensures);
+      ordinal = ap (λ n. n + 1) inv.ordinal;
+      writes = atom_behind c.args.page c.args.numbers.now c.loop-atom.numbers c.push_spot.new.numbers
+          (string_bytes c.args.text.now) (string_bytes c.loop-atom.text) (string_bytes c.push_spot.new.text)
+          c.args.classes.now (take i all) (take (i + 1) all) a c.loop-atom.ordinal (one_more all i a c.loop-atom-test.true c.atom-item.is)
+          (inv.ordinal ∙ sym (length-take-le i all c.loop-atom.auto.atom-index-end)) inv.writes
+          (subst (λ (d : Class). Writes (spot_text c.args.page d a) (atom_spots d a) c.loop-atom.numbers
+          c.push_spot.new.numbers (string_bytes c.loop-atom.text) (string_bytes c.push_spot.new.text)) c.class_at-class.ensures c.in_ok-push_spot.ensures);
     }
 
 pub returns : goal.returns

@@ -7,6 +7,6 @@ use Rattle.tap_text.proofs.rows.push_atoms.Given as goal
 
 abbrev pub invariant-loop-atom : goal.invariant-loop-atom
 invariant-loop-atom l = record {
-  place : l.place ≡ l.atom-index;
+  ordinal : l.ordinal ≡ l.atom-index;
   writes : Writes (row_text l.page l.classes (take l.atom-index l.atoms)) (row_spots l.classes (take l.atom-index l.atoms)) l.fn.numbers l.numbers (string_bytes l.fn.text) (string_bytes l.text);
 }

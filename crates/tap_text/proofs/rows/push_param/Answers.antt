@@ -1,4 +1,4 @@
--- The atom stands behind the name, the type and the encryption.
+-- The atom stands after the name, the type and the encryption.
 use Rattle.std.proofs.Common.{[], ◌∷◌, ◌++◌, ◌∙◌, ap, codes, subst, string_bytes}
 use Rattle.scalar.specs.Classes.{Class, class_of}
 use Rattle.tap_listing.specs.Frames.{atom_spots}

@@ -1,4 +1,4 @@
--- The characters so far stand behind the first quote.
+-- The characters so far stand after the first quote.
 use Rattle.std.proofs.Common.{◌≡◌, ◌++◌, codes, flat_map, string_bytes}
 use Rattle.tap_text.specs.Text.{quoted_char}
 use Rattle.tap_text.proofs.signs.push_quoted.Given as goal

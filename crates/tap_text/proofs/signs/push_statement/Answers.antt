@@ -1,4 +1,4 @@
--- The characters that were given are those of the statement, and the line ends behind them.
+-- The characters that were given are those of the statement, and the line ends after them.
 use Rattle.std.proofs.Common.{◌++◌, ◌∷◌, [], ◌∙◌, ap, append_assoc, codes, flat_map, map-id, string_bytes}
 use Rattle.std.proofs.lemmas.Iterator.{YieldsList-from_chars}
 use Rattle.std.proofs.lemmas.Iterator.Consumers.{YieldsList-end}

@@ -1,4 +1,4 @@
--- The characters so far stand behind the first spaces.
+-- The characters so far stand after the first spaces.
 use Rattle.std.proofs.Common.{◌≡◌, ◌++◌, codes, flat_map, string_bytes}
 use Rattle.tap_text.specs.Text.{statement_char}
 use Rattle.tap_text.proofs.signs.push_statement.Given as goal

@@ -1,4 +1,4 @@
--- The keys and the parameters stand behind the version.
+-- The keys and the parameters stand after the version.
 use Rattle.std.proofs.Common.{◌++◌, ◌∷◌, [], ◌∙◌, ap, append_assoc, codes, decimal, flat_map, string_bytes}
 use Rattle.tap_text.specs.Text.{key_text, used_text}
 use Rattle.tap_text.proofs.Past.{on_ok}

@@ -1,4 +1,4 @@
--- One reply as it is, or rows behind their word.
+-- One reply as it is, or rows after their word.
 use Rattle.std.proofs.Common.{List, [], ◌∷◌, OnOk, ◌++◌, codes, string_bytes, subst, sym}
 use Rattle.ae_base.specs.Atoms.{Atom}
 use Rattle.wire_payloads.specs.declared.payloads.Payload.{Payload}
@@ -6,7 +6,7 @@ use Rattle.tap_listing.specs.Frames.{payload_spots, rows_spots}
 use Rattle.tap_text.specs.Text.{payload_text, rows_text}
 use Rattle.tap_text.specs.Writing.{Writes}
 use Rattle.tap_text.proofs.Past.{on_ok}
-use Rattle.tap_text.proofs.Rowwise.{behind_front}
+use Rattle.tap_text.proofs.Rowwise.{behind_prefix}
 use Rattle.tap_text.proofs.texts.push_payload.Goals as goal
 
 pub returns-in-One : goal.returns-in-One
@@ -28,6 +28,6 @@ returns-in_ok-push_str-in-Rows c =
     subst (λ (p : Payload). OnOk c.push_rows.result (Writes (payload_text page classes p) (payload_spots classes p) old new before after))
     (sym c.in-Rows.is)
     (on_ok _ _ c.push_rows.result
-    (λ h. behind_front old new before start after (codes "rows" ++ 10 ∷ []) (rows_text page classes c.in-Rows.batch) (rows_spots classes c.in-Rows.batch) c.in_ok-push_str-in-Rows.ensures.bytes
+    (λ h. behind_prefix old new before start after (codes "rows" ++ 10 ∷ []) (rows_text page classes c.in-Rows.batch) (rows_spots classes c.in-Rows.batch) c.in_ok-push_str-in-Rows.ensures.bytes
     (subst (λ (l : List (List Atom)). Writes (rows_text page classes l) (rows_spots classes l) old new start after) c.rows.ensures.rows h))
     c.push_rows.ensures)

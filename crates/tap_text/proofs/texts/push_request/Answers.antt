@@ -1,4 +1,4 @@
--- The parameters stand behind the statement.
+-- The parameters stand after the statement.
 use Rattle.std.proofs.Common.{List, [], ◌∷◌, OnOk, ◌++◌, ◌∙◌, ap, append_assoc, codes, decimal, string_bytes, subst, sym}
 use Rattle.wire_messages.specs.declared.params.SentParam.{SentParam}
 use Rattle.wire_messages.specs.declared.requests.Request.{Request}
@@ -6,7 +6,7 @@ use Rattle.tap_listing.specs.Frames.{params_spots, request_spots}
 use Rattle.tap_text.specs.Text.{params_text, request_text, statement_text}
 use Rattle.tap_text.specs.Writing.{Writes}
 use Rattle.tap_text.proofs.Past.{on_ok}
-use Rattle.tap_text.proofs.Rowwise.{behind_front}
+use Rattle.tap_text.proofs.Rowwise.{behind_prefix}
 use Rattle.tap_text.proofs.Shown.{line_texts}
 use Rattle.tap_text.proofs.texts.push_request.Goals as goal
 
@@ -23,7 +23,7 @@ returns-in_ok-push_statement-in-Execute c =
     subst (λ (r : Request). OnOk c.push_params.result (Writes (request_text page r) (request_spots r) old new before after))
     (sym e.is)
     (on_ok _ _ c.push_params.result
-    (λ h. behind_front old new before start after (head ++ 10 ∷ statement_text page e.statement) (params_text page e.params) (params_spots e.params)
+    (λ h. behind_prefix old new before start after (head ++ 10 ∷ statement_text page e.statement) (params_text page e.params) (params_spots e.params)
     (line_texts before head (statement_text page e.statement) (string_bytes c.write-in-Execute.new.self) start 10
     (c.in_ok-write-in-Execute.ensures.bytes ∙ ap (λ n. before ++ (codes "session " ++ (decimal n ++ (codes " execute at version " ++ (decimal e.version ++ 10 ∷ [])))))
     c.number-in-Execute.ensures.value ∙ simp append_assoc)

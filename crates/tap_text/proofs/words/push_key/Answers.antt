@@ -1,4 +1,4 @@
--- The name stands behind the number, and the values behind both.
+-- The name stands after the number, and the values after both.
 use Rattle.std.proofs.Common.{◌++◌, ◌∙◌, ap, codes, decimal, string_bytes}
 use Rattle.tap_text.specs.Text.{chars_text, key_value_text, second_value_text}
 use Rattle.tap_text.proofs.Past.{on_ok}

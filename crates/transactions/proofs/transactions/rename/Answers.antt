@@ -7,10 +7,10 @@ use Rattle.transactions.proofs.transactions.rename.Goals as goal
 
 pub returns-in-Some : goal.returns-in-Some
 returns-in-Some c =
-    renamed_there c.args.old c.args.new.now c.args.names.now.items c.leave_out.new.names.items c.in-Some.place c.requires c.leave_out.ensures
-    (ap (position (λ n. bytes_eq n c.args.new.now)) (sym c.deref.ensures.value) ∙ sym c.place_among.ensures ∙ c.in-Some.is)
+    renamed_there c.args.old c.args.new.now c.args.names.now.items c.leave_out.new.names.items c.in-Some.index c.requires c.leave_out.ensures
+    (ap (position (λ n. bytes_eq n c.args.new.now)) (sym c.deref.ensures.value) ∙ sym c.position_among.ensures ∙ c.in-Some.is)
 
 pub returns-in_default : goal.returns-in_default
 returns-in_default c =
     renamed_nowhere c.args.old c.args.new.now c.args.names.now.items c.leave_out.new.names.items c.leave_out.ensures
-    (ap (position (λ n. bytes_eq n c.args.new.now)) (sym c.deref.ensures.value) ∙ sym c.place_among.ensures ∙ c.in_default.is)
+    (ap (position (λ n. bytes_eq n c.args.new.now)) (sym c.deref.ensures.value) ∙ sym c.position_among.ensures ∙ c.in_default.is)

@@ -8,5 +8,5 @@ abbrev pub invariant-loop-further : goal.invariant-loop-further
 invariant-loop-further g l = record {
   whole : with_uses l.own l.used.items (map (λ source. source.table) (map (λ join. join.source) (map join_of (drop l.further-index l.joins))))
       ≡ with_uses l.own l.initial.used.items (map (λ source. source.table) (map (λ join. join.source) (map join_of l.joins)));
-  front : take (length l.initial.used.items) l.used.items ≡ l.initial.used.items;
+  prefix : take (length l.initial.used.items) l.used.items ≡ l.initial.used.items;
 }

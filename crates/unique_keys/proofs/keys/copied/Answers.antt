@@ -11,7 +11,7 @@ loop-index-preserved g c =
     let i = c.loop-index.index-index in
     let index = c.index-item.result in
     rw c.in_ok-push.ensures.items (record {
-      keys = copied_keys indexes c.loop-index.copy.items i index c.in_ok-new.new c.loop-index-test.true c.index-item.is h.keys c.in_ok-new.ensures.places;
+      keys = copied_keys indexes c.loop-index.copy.items i index c.in_ok-new.new c.loop-index-test.true c.index-item.is h.keys c.in_ok-new.ensures.ordinals;
       indexed = λ numbers rows a.
           all_push (IndexesRows numbers rows) c.loop-index.copy.items c.in_ok-new.new (h.indexed numbers rows a)
           (c.in_ok-new.ensures.rows numbers rows (one_indexed numbers rows [] indexes i index c.loop-index-test.true c.index-item.is a));

@@ -13,7 +13,7 @@ use Rattle.unique_keys.proofs.keys.exchange.Goals as goal
 pub take_out_each-requires-clause-each : goal.take_out_each-requires-clause-each
 take_out_each-requires-clause-each g c =
     let old_keys = rw c.as_slice.ensures.value at c.in_ok-old_keys.ensures in
-    keys_there c.args.indexes.now.items c.make_ready.new.indexes.items _ c.in_ok-old_keys.old_keys c.make_ready.ensures.places old_keys
+    keys_there c.args.indexes.now.items c.make_ready.new.indexes.items _ c.in_ok-old_keys.old_keys c.make_ready.ensures.ordinals old_keys
 
 pub take_out_each-requires-clause-room : goal.take_out_each-requires-clause-room
 take_out_each-requires-clause-room g c =
@@ -25,7 +25,7 @@ take_out_each-requires-clause-room g c =
 
 pub put_in_each-requires-clause-each : goal.put_in_each-requires-clause-each
 put_in_each-requires-clause-each g c =
-    keys_there c.args.indexes.now.items c.take_out_each.new.indexes.items _ c.in_ok-new_keys.new_keys (c.take_out_each.ensures.places ∙ c.make_ready.ensures.places) c.in_ok-new_keys.ensures.keys
+    keys_there c.args.indexes.now.items c.take_out_each.new.indexes.items _ c.in_ok-new_keys.new_keys (c.take_out_each.ensures.ordinals ∙ c.make_ready.ensures.ordinals) c.in_ok-new_keys.ensures.keys
 
 pub put_in_each-requires-clause-numbered : goal.put_in_each-requires-clause-numbered
 put_in_each-requires-clause-numbered g c =
@@ -47,7 +47,7 @@ returns-in_err-new_keys g c = λ known there hits to e r i d k o.
     let p = err_from_is_err_and c.from_residual-in_err-new_keys.result c.from_residual-in_err-new_keys.ensures.1 in
     let ready = c.make_ready.ensures in
     rw (p.1, p.2)
-    (refused_same known there hits c.args.numbers.now (map (λ row. row.now) c.args.new.now) c.in_err-new_keys.field-0.0 _ c.args.indexes.now.items c.make_ready.new.indexes.items ready.places
+    (refused_same known there hits c.args.numbers.now (map (λ row. row.now) c.args.new.now) c.in_err-new_keys.field-0.0 _ c.args.indexes.now.items c.make_ready.new.indexes.items ready.ordinals
     (c.in_err-new_keys.ensures.answer known there hits to e r i d k) (ready.same known there i))
 
 pub returns : goal.returns
@@ -58,8 +58,8 @@ returns g c = λ known there hits to e r i d k o.
     let taken = c.take_out_each.ensures in
     let old_keys = rw c.as_slice.ensures.value at c.in_ok-old_keys.ensures in
     let none = none_alike _ _ _ (c.in_ok-new_keys.ensures.answer known there hits to e r i d k) in
-    let go = rw ready.places at taken.rows in
-    let come = rw (taken.places, ready.places) at c.put_in_each.ensures.rows in
-    all_exchanged known there hits c.args.numbers.now new before c.put_in_each.new.indexes.items none (c.put_in_each.ensures.places ∙ taken.places ∙ ready.places)
+    let go = rw ready.ordinals at taken.rows in
+    let come = rw (taken.ordinals, ready.ordinals) at c.put_in_each.ensures.rows in
+    all_exchanged known there hits c.args.numbers.now new before c.put_in_each.new.indexes.items none (c.put_in_each.ensures.ordinals ∙ taken.ordinals ∙ ready.ordinals)
     (come (unhit known hits) (unhit there hits) new (unhit_each known there hits e)
     (go known there hits e (ready.same known there i) d (rw o at old_keys)) c.in_ok-new_keys.ensures.keys (all_differ 1 (keys_of before) _ none))

@@ -7,4 +7,4 @@ pub loop-index-preserved : goal.loop-index-preserved
 loop-index-preserved g c =
     c.in_ok-push.ensures.ok
     ∙ keys_more [] [] [] c.args.indexes.now c.loop-index.index-index c.index-item.result c.loop-index-test.true
-    c.index-item.is c.loop-index.all _ c.in_ok-keys_of.field-0 c.loop-index.invariant (rw c.places.ensures at c.in_ok-keys_of.ensures)
+    c.index-item.is c.loop-index.all _ c.in_ok-keys_of.field-0 c.loop-index.invariant (rw c.ordinals.ensures at c.in_ok-keys_of.ensures)

@@ -47,12 +47,12 @@ loop-keys-preserved g c =
     record {
       are_put = put_more c.args.numbers.now c.args.keys c.next.new.self.rest.items c.loop-keys.i c.args.indexes.now.items
           c.loop-keys.indexes.items c.in-Some.keys c.requires.each first h.are_put c.index_mut.result.now c.put_in.new.self c.index_mut.ensures.value
-          c.put_in.ensures.places c.put_in.ensures.rows;
+          c.put_in.ensures.ordinals c.put_in.ensures.rows;
       left = left_over c.args.keys c.next.new.self.rest.items c.loop-keys.i c.args.indexes.now.items c.loop-keys.indexes.items c.in-Some.keys c.requires.each first h.are_put.visited;
     }
 
-pub returns-clause-places : goal.returns-clause-places
-returns-clause-places g c = c.loop-keys.invariant.are_put.visited.keys
+pub returns-clause-ordinals : goal.returns-clause-ordinals
+returns-clause-ordinals g c = c.loop-keys.invariant.are_put.visited.keys
 
 pub returns-clause-rows : goal.returns-clause-rows
 returns-clause-rows g c = λ known there rows e i k d.

@@ -13,7 +13,7 @@ loop-i-preserved g c =
     let now = c.loop-i.indexes.items in
     let lt : c.loop-i.i < length now = omega (arith, c.loop-i-test.true, c.len-i-end.ensures, c.args.indexes.now.ok.0, h.long) in
     record {
-      kept = kept_more c.args.indexes.now.items now c.loop-i.i c.index_mut.result.now c.seal.new.self lt c.index_mut.ensures.value h.kept c.seal.ensures.places c.seal.ensures.rows;
+      kept = kept_more c.args.indexes.now.items now c.loop-i.i c.index_mut.result.now c.seal.new.self lt c.index_mut.ensures.value h.kept c.seal.ensures.ordinals c.seal.ensures.rows;
       long = length-set now c.loop-i.i c.seal.new.self ∙ h.long;
     }
 

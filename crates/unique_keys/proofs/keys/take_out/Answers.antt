@@ -9,7 +9,7 @@ use Rattle.unique_keys.proofs.keys.take_out.Goals as goal
 pub take_out_each-requires-clause-each : goal.take_out_each-requires-clause-each
 take_out_each-requires-clause-each g c =
     let keys = rw c.as_slice.ensures.value at c.in_ok-keys.ensures in
-    keys_there c.args.indexes.now.items c.reserve_each.new.indexes.items _ c.in_ok-keys.keys c.reserve_each.ensures.places keys
+    keys_there c.args.indexes.now.items c.reserve_each.new.indexes.items _ c.in_ok-keys.keys c.reserve_each.ensures.ordinals keys
 
 pub take_out_each-requires-clause-room : goal.take_out_each-requires-clause-room
 take_out_each-requires-clause-room g c =
@@ -24,10 +24,10 @@ returns-in_err-reserve_each-clause-err g c = λ known there i.
     rw p.1 (c.reserve_each.ensures.same known there i)
 
 pub returns-clause-keys : goal.returns-clause-keys
-returns-clause-keys g c = c.take_out_each.ensures.places ∙ c.reserve_each.ensures.places
+returns-clause-keys g c = c.take_out_each.ensures.ordinals ∙ c.reserve_each.ensures.ordinals
 
 pub returns-clause-ok : goal.returns-clause-ok
 returns-clause-ok g c = λ known there hits e i d k.
     let keys = rw c.as_slice.ensures.value at c.in_ok-keys.ensures in
-    let rows = rw c.reserve_each.ensures.places at c.take_out_each.ensures.rows in
+    let rows = rw c.reserve_each.ensures.ordinals at c.take_out_each.ensures.rows in
     rows known there hits e (c.reserve_each.ensures.same known there i) d (rw k at keys)

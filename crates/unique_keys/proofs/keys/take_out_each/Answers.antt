@@ -41,12 +41,12 @@ loop-keys-preserved g c =
     record {
       taken = taken_more c.args.keys c.next.new.self.rest.items c.loop-keys.i c.args.indexes.now.items
           c.loop-keys.indexes.items c.in-Some.keys c.requires.each first h.taken c.index_mut.result.now c.take_out.new.self c.index_mut.ensures.value
-          c.take_out.ensures.places c.take_out.ensures.rows c.take_out.ensures.room;
+          c.take_out.ensures.ordinals c.take_out.ensures.rows c.take_out.ensures.room;
       left = left_over c.args.keys c.next.new.self.rest.items c.loop-keys.i c.args.indexes.now.items c.loop-keys.indexes.items c.in-Some.keys c.requires.each first h.taken.visited;
     }
 
-pub returns-clause-places : goal.returns-clause-places
-returns-clause-places g c = c.loop-keys.invariant.taken.visited.keys
+pub returns-clause-ordinals : goal.returns-clause-ordinals
+returns-clause-ordinals g c = c.loop-keys.invariant.taken.visited.keys
 
 pub returns-clause-rows : goal.returns-clause-rows
 returns-clause-rows g c = λ known there hits e i d k.

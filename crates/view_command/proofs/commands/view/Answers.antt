@@ -2,22 +2,22 @@
 use Rattle.std.proofs.Common.{List, ℕ, ◌∙◌, subst, sym}
 use Rattle.ae_edge.specs.Devices.{Adds, AddsPrefix}
 use Rattle.tap_text.specs.Text.{mark}
-use Rattle.view_command.specs.declared.commands.Viewed.TheVariants as ended
-use Rattle.view_command.proofs.Paged.{head_front, listed, listed_in_part, unlisted}
+use Rattle.view_command.specs.declared.commands.ViewEnding.TheVariants as ended
+use Rattle.view_command.proofs.Paged.{head_prefix, listed, listed_in_part, unlisted}
 use Rattle.view_command.proofs.commands.view.Goals as goal
 
 pub returns-in-Err-Failed-clause-content : goal.returns-in-Err-Failed-clause-content
 returns-in-Err-Failed-clause-content g c =
     let first = (g.W.Sink.seen c.args.out.now).content in
     let mid = (g.W.Sink.seen c.put_mark.new.out).content in
-    head_front c.args.page (g.S.Source.seen c.args.input.now).content first mid
+    head_prefix c.args.page (g.S.Source.seen c.args.input.now).content first mid
     (subst (λ (l : List ℕ). AddsPrefix (mark c.args.page l) first mid) c.head.ensures c.in-Err-Failed.ensures.content) ended.WriteFault tt
 
 pub returns-in-Err-OutOfMemory-clause-content : goal.returns-in-Err-OutOfMemory-clause-content
 returns-in-Err-OutOfMemory-clause-content g c =
     let first = (g.W.Sink.seen c.args.out.now).content in
     let mid = (g.W.Sink.seen c.put_mark.new.out).content in
-    head_front c.args.page (g.S.Source.seen c.args.input.now).content first mid
+    head_prefix c.args.page (g.S.Source.seen c.args.input.now).content first mid
     (subst (λ (l : List ℕ). AddsPrefix (mark c.args.page l) first mid) c.head.ensures c.in-Err-OutOfMemory.ensures.content) ended.OutOfMemory tt
 
 pub returns-then-not-is_listed-clause-content : goal.returns-then-not-is_listed-clause-content

@@ -1,4 +1,4 @@
--- One frame more was put, or what is held ends there.
+-- One frame more was written, or what is held ends there.
 use Rattle.std.proofs.Common.{◌∙◌, ap, length, arith, length-drop, refl}
 use Rattle.view_command.proofs.Standing.{stands_more, stops_bad, stops_unheld, stops_unput, stops_waiting}
 use Rattle.view_command.proofs.held.put_held.Goals as goal

@@ -1,4 +1,4 @@
--- The frames so far were put.
+-- The frames so far were written.
 use Rattle.std.proofs.Common.{◌≡◌, ◌+◌, ◌<◌, ◌^◌, ℕ, List, length}
 use Rattle.std.specs.Prelude.{Option}
 use Rattle.view_command.specs.Streaming.{Stands}

@@ -1,4 +1,4 @@
--- The frames that are whole with the piece were put.
+-- The frames that are whole with the piece were written.
 use Rattle.std.proofs.Common.{rules, [], ◌++◌, refl}
 use Rattle.view_command.proofs.Standing.{shows_more, shows_so_far, stands_fed}
 use Rattle.view_command.proofs.held.put_piece.Goals as goal

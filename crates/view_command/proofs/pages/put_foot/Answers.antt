@@ -1,4 +1,4 @@
--- The foot was put.
+-- The foot was written.
 use Rattle.std.proofs.Common.{List, ℕ, ◌∙◌, subst}
 use Rattle.ae_edge.specs.Devices.{Calls}
 use Rattle.ae_edge.specs.Streams.{CountsPutAll, PutsAll}

@@ -30,7 +30,7 @@ pub returns-in-Bad-clause-content : goal.returns-in-Bad-clause-content
 returns-in-Bad-clause-content g c =
     let p = c.in-Bytes.ensures.piece in
     let fits : length c.in-Bytes.piece ≤ c.pieces.left = omega (arith, p.1) in
-    ends_refused _ _ _ _ _ _ _ _ c.pieces.invariant.goes c.in-Bytes.piece (g.S.Source.seen c.take.new.self).content c.in-Bytes.ensures.call.content fits c.in-Bad.place _ _ c.in-Bad.ensures.comes
+    ends_refused _ _ _ _ _ _ _ _ c.pieces.invariant.goes c.in-Bytes.piece (g.S.Source.seen c.take.new.self).content c.in-Bytes.ensures.call.content fits c.in-Bad.offset _ _ c.in-Bad.ensures.comes
 
 pub returns-in-WriteFault-clause-content : goal.returns-in-WriteFault-clause-content
 returns-in-WriteFault-clause-content g c =

@@ -1,4 +1,4 @@
--- So much was taken, and its frames were put.
+-- So much was taken, and its frames were written.
 use Rattle.std.proofs.Common.{◌≡◌}
 use Rattle.view_command.proofs.Taking.{Going}
 use Rattle.view_command.proofs.pieces.put_pieces.Given as goal

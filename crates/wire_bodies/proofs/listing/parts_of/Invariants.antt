@@ -1,4 +1,4 @@
--- The parts so far stand at the front, before the rest.
+-- The parts so far stand at the start, before the rest.
 use Rattle.std.proofs.Common.{◌≡◌, length}
 use Rattle.wire_bodies.proofs.PartsRead.{AreRead}
 use Rattle.wire_bodies.proofs.listing.parts_of.Given as goal

@@ -1,4 +1,4 @@
--- The rows so far stand at the front, before the rest.
+-- The rows so far stand at the start, before the rest.
 use Rattle.std.proofs.Common.{◌≡◌, length}
 use Rattle.wire_decoding.specs.Reading.{shared_row_at}
 use Rattle.wire_bodies.proofs.PartsRead.{AreRead}

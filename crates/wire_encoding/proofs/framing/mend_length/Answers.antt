@@ -1,4 +1,4 @@
--- The four bytes stand behind the version and the kind.
+-- The four bytes stand after the version and the kind.
 use Rattle.std.proofs.Common.{◌≡◌, ◌∙◌, ◌-◌, [], ◌∷◌, ◌++◌, arith, length, length-append, append_assoc, ap, refl}
 use Rattle.std.specs.Int.{w32, to_be_bytes}
 use Rattle.wire_encoding.proofs.Mending.{mended}

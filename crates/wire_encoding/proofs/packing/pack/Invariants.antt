@@ -1,4 +1,4 @@
--- The frames of the other replies come behind those so far.
+-- The frames of the other replies come after those so far.
 use Rattle.std.proofs.Common.{◌≡◌, ◌≤◌, ◌-◌, ◌++◌, drop, length}
 use Rattle.std.specs.List.{All}
 use Rattle.wire_encoding.specs.Packing.{HasFrame, packed, payloads_of}

@@ -1,4 +1,4 @@
--- The next bytes stand behind those that came.
+-- The next bytes stand after those that came.
 use Rattle.std.proofs.Common.{arith, ℕ, ◌≡◌, ◌-◌, length, length-take, length-drop}
 use Rattle.ae_edge.proofs.Reading.{fill_more, length-put_mid}
 use Rattle.ae_edge.proofs.adapters.folder.fill.Goals as goal

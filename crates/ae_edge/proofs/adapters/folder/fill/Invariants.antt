@@ -1,4 +1,4 @@
--- What came so far stands at the front of the buffer.
+-- What came so far stands at the start of the buffer.
 use Rattle.std.proofs.Common.{◌-◌, ◌≤◌, length, take}
 use Rattle.std.specs.Io.KnownBytes.{Consumes}
 use Rattle.ae_edge.proofs.adapters.folder.fill.Given as goal

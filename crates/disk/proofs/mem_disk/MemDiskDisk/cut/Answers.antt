@@ -12,7 +12,7 @@ pub invariant_of-self : goal.invariant_of-self
 invariant_of-self c =
     let next : c.truncate.new.self.items ≡ take c.args.len c.self.inside.bytes.items = search rules in
     order_done c.self.inside.first.items c.self.inside.log c.note.new.self (Cut c.args.len) c.self.inside.bytes.items
-    c.self.invariant c.in-Succeeds.ensures.noted (subst (λ (d : DiskState). c.args.len ≤ length d.told.now.seen) (sym c.self.view_is) c.requires.inside) c.truncate.new.self.items
+    c.self.invariant c.in-Succeeds.ensures.noted (subst (λ (d : DiskState). c.args.len ≤ length d.exposed.now.seen) (sym c.self.view_is) c.requires.inside) c.truncate.new.self.items
     (ap (λ (w : List ℕ). take c.args.len w) c.self.invariant.0 ∙ sym next)
 
 pub invariant_of-self-in-Fails : goal.invariant_of-self-in-Fails
@@ -21,13 +21,13 @@ invariant_of-self-in-Fails c = order_failed c.self.inside.first.items c.self.ins
 pub returns-in-Succeeds-clause-content : goal.returns-in-Succeeds-clause-content
 returns-in-Succeeds-clause-content c =
     passes_done c.self.inside.first.items c.self.inside.log c.note.new.self (Cut c.args.len) c.self.inside.bytes.items
-    c.self.invariant c.in-Succeeds.ensures.noted (subst (λ (d : DiskState). c.args.len ≤ length d.told.now.seen) (sym c.self.view_is) c.requires.inside)
-    (λ old new. new ≡ with_length c.args.len old) c.args.self.now.told (ap (λ (d : DiskState). d.told) (sym c.self.view_is)) refl
+    c.self.invariant c.in-Succeeds.ensures.noted (subst (λ (d : DiskState). c.args.len ≤ length d.exposed.now.seen) (sym c.self.view_is) c.requires.inside)
+    (λ old new. new ≡ with_length c.args.len old) c.args.self.now.exposed (ap (λ (d : DiskState). d.exposed) (sym c.self.view_is)) refl
 
 pub returns-in-Fails-clause-content : goal.returns-in-Fails-clause-content
 returns-in-Fails-clause-content c =
     passes_failed c.self.inside.first.items c.self.inside.log c.note.new.self (Cut c.args.len) c.self.inside.bytes.items
-    c.self.invariant c.in-Fails.ensures.noted (WasAsked (Length c.args.len)) c.args.self.now.told (ap (λ (d : DiskState). d.told) (sym c.self.view_is)) (refl, refl)
+    c.self.invariant c.in-Fails.ensures.noted (WasAsked (Length c.args.len)) c.args.self.now.exposed (ap (λ (d : DiskState). d.exposed) (sym c.self.view_is)) (refl, refl)
 
 pub returns-in-Succeeds-clause-noted : goal.returns-in-Succeeds-clause-noted
 returns-in-Succeeds-clause-noted c = has_made c.self.inside.first.items c.self.inside.log c.note.new.self (Cut c.args.len) c.args.self.now c.self.view_is c.in-Succeeds.ensures.noted

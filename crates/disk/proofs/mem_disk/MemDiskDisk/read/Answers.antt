@@ -14,7 +14,7 @@ invariant_of-self c = order_noted c.self.inside.first.items c.self.inside.log c.
 
 pub returns-clause-content : goal.returns-clause-content
 returns-clause-content c =
-    let told = (ap (λ (d : DiskState). d.told) (sym c.self.view_is)) in
+    let exposed = (ap (λ (d : DiskState). d.exposed) (sym c.self.view_is)) in
     let file = c.self.inside.bytes.items in
     let s : c.min-start.result ≡ min c.args.at (length file) = search rules in
     let n : c.min-count.result ≡ min c.args.max (length file - c.min-start.result) = search rules in
@@ -23,14 +23,14 @@ returns-clause-content c =
     elim c.match-note.branch [
       | in-Succeeds w ↦ rw w.result-is
           (passes_done c.self.inside.first.items c.self.inside.log c.note.new.self (Read c.args.at c.args.max) c.self.inside.bytes.items c.self.invariant w.in-Succeeds.ensures.noted tt
-          (λ before after. (after ≡ before) × IsPart c.args.at c.in-Ok.part before.seen) c.args.self.now.told told
+          (λ before after. (after ≡ before) × IsPart c.args.at c.in-Ok.part before.seen) c.args.self.now.exposed exposed
           (refl, subst (IsPart c.args.at c.in-Ok.part) (sym c.self.invariant.0) part))
       | in-Fails w ↦ rw w.result-is
           (passes_failed c.self.inside.first.items c.self.inside.log c.note.new.self (Read c.args.at c.args.max)
-          c.self.inside.bytes.items c.self.invariant w.in-Fails.ensures.noted StaysSynced c.args.self.now.told told (refl, refl))
+          c.self.inside.bytes.items c.self.invariant w.in-Fails.ensures.noted StaysSynced c.args.self.now.exposed exposed (refl, refl))
       | in-OutOfMemory w ↦ rw w.result-is
           (unnoted c.self.inside.first.items c.self.inside.log c.note.new.self (Read c.args.at c.args.max)
-          c.self.inside.bytes.items c.self.invariant w.in-OutOfMemory.ensures.noted c.args.self.now.told told)
+          c.self.inside.bytes.items c.self.invariant w.in-OutOfMemory.ensures.noted c.args.self.now.exposed exposed)
     ]
 
 pub returns-clause-noted : goal.returns-clause-noted

@@ -13,17 +13,17 @@ invariant_of-self c = order_noted c.self.inside.first.items c.self.inside.log c.
 
 pub returns-clause-content : goal.returns-clause-content
 returns-clause-content c =
-    let told = (ap (λ (d : DiskState). d.told) (sym c.self.view_is)) in
+    let exposed = (ap (λ (d : DiskState). d.exposed) (sym c.self.view_is)) in
     elim c.match-note.branch [
       | in-Succeeds w ↦
           let n : w.len.result ≡ length c.self.inside.bytes.items = search rules in
           rw w.result-is (passes_done c.self.inside.first.items c.self.inside.log c.note.new.self Size c.self.inside.bytes.items c.self.invariant w.in-Succeeds.ensures.noted tt
-          (λ before after. (after ≡ before) × (w.len.result ≡ length before.seen)) c.args.self.now.told told (refl, n ∙ ap length (sym c.self.invariant.0)))
+          (λ before after. (after ≡ before) × (w.len.result ≡ length before.seen)) c.args.self.now.exposed exposed (refl, n ∙ ap length (sym c.self.invariant.0)))
       | in-Fails w ↦ rw w.result-is
           (passes_failed c.self.inside.first.items c.self.inside.log c.note.new.self Size c.self.inside.bytes.items
-          c.self.invariant w.in-Fails.ensures.noted StaysSynced c.args.self.now.told told (refl, refl))
+          c.self.invariant w.in-Fails.ensures.noted StaysSynced c.args.self.now.exposed exposed (refl, refl))
       | in-OutOfMemory w ↦ rw w.result-is
-          (unnoted c.self.inside.first.items c.self.inside.log c.note.new.self Size c.self.inside.bytes.items c.self.invariant w.in-OutOfMemory.ensures.noted c.args.self.now.told told)
+          (unnoted c.self.inside.first.items c.self.inside.log c.note.new.self Size c.self.inside.bytes.items c.self.invariant w.in-OutOfMemory.ensures.noted c.args.self.now.exposed exposed)
     ]
 
 pub returns-clause-noted : goal.returns-clause-noted

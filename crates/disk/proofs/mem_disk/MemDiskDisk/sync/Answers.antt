@@ -14,16 +14,16 @@ invariant_of-self c = order_noted c.self.inside.first.items c.self.inside.log c.
 
 pub returns-clause-content : goal.returns-clause-content
 returns-clause-content c =
-    let told = (ap (λ (d : DiskState). d.told) (sym c.self.view_is)) in
+    let exposed = (ap (λ (d : DiskState). d.exposed) (sym c.self.view_is)) in
     elim c.match-note.branch [
       | in-Succeeds w ↦ rw w.result-is
           (passes_done c.self.inside.first.items c.self.inside.log c.note.new.self Sync c.self.inside.bytes.items
-          c.self.invariant w.in-Succeeds.ensures.noted tt (λ before after. after ≡ kept before.seen) c.args.self.now.told told refl)
+          c.self.invariant w.in-Succeeds.ensures.noted tt (λ before after. after ≡ kept before.seen) c.args.self.now.exposed exposed refl)
       | in-Fails w ↦ rw w.result-is
           (passes_failed c.self.inside.first.items c.self.inside.log c.note.new.self Sync c.self.inside.bytes.items
-          c.self.invariant w.in-Fails.ensures.noted StaysSynced c.args.self.now.told told (refl, refl))
+          c.self.invariant w.in-Fails.ensures.noted StaysSynced c.args.self.now.exposed exposed (refl, refl))
       | in-OutOfMemory w ↦ rw w.result-is
-          (unnoted c.self.inside.first.items c.self.inside.log c.note.new.self Sync c.self.inside.bytes.items c.self.invariant w.in-OutOfMemory.ensures.noted c.args.self.now.told told)
+          (unnoted c.self.inside.first.items c.self.inside.log c.note.new.self Sync c.self.inside.bytes.items c.self.invariant w.in-OutOfMemory.ensures.noted c.args.self.now.exposed exposed)
     ]
 
 pub returns-clause-noted : goal.returns-clause-noted

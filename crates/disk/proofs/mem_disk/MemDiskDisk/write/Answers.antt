@@ -15,7 +15,7 @@ invariant_of-self c =
     let copy : c.in-Ok.copy ≡ c.args.bytes.now = c.in-Ok.ensures in
     order_done c.self.inside.first.items c.self.inside.log c.note.new.self (Write c.args.at c.in-Ok.copy)
     c.self.inside.bytes.items c.self.invariant c.in-Succeeds.ensures.noted
-    (subst (λ (d : DiskState). c.args.at ≤ length d.told.now.seen) (sym c.self.view_is) c.requires.inside) c.in-Ok-with_bytes.next.items
+    (subst (λ (d : DiskState). c.args.at ≤ length d.exposed.now.seen) (sym c.self.view_is) c.requires.inside) c.in-Ok-with_bytes.next.items
     ((λ i. written (c.self.invariant.0 i) c.args.at (copy i)) ∙ sym next)
 
 pub invariant_of-self-in-Fails-1 : goal.invariant_of-self-in-Fails-1
@@ -27,8 +27,9 @@ returns-in-Succeeds-clause-content c =
     let copy : c.in-Ok.copy ≡ c.args.bytes.now = c.in-Ok.ensures in
     let before = (moments_of c.self.inside.first.items c.self.inside.log.made).now in
     passes_done c.self.inside.first.items c.self.inside.log c.note.new.self (Write c.args.at c.in-Ok.copy)
-    c.self.inside.bytes.items c.self.invariant c.in-Succeeds.ensures.noted (subst (λ (d : DiskState). c.args.at ≤ length d.told.now.seen) (sym c.self.view_is) c.requires.inside)
-    (λ old new. new ≡ with_bytes c.args.at c.args.bytes.now old) c.args.self.now.told (ap (λ (d : DiskState). d.told) (sym c.self.view_is)) (ap (λ (w : List ℕ). with_bytes c.args.at w before) copy)
+    c.self.inside.bytes.items c.self.invariant c.in-Succeeds.ensures.noted (subst (λ (d : DiskState). c.args.at ≤ length d.exposed.now.seen) (sym c.self.view_is) c.requires.inside)
+    (λ old new. new ≡ with_bytes c.args.at c.args.bytes.now old) c.args.self.now.exposed (ap (λ (d : DiskState). d.exposed) (sym c.self.view_is))
+    (ap (λ (w : List ℕ). with_bytes c.args.at w before) copy)
 
 pub returns-in-Fails-clause-content : goal.returns-in-Fails-clause-content
 returns-in-Fails-clause-content c =
@@ -36,7 +37,7 @@ returns-in-Fails-clause-content c =
     let before = (moments_of c.self.inside.first.items c.self.inside.log.made).now in
     passes_failed c.self.inside.first.items c.self.inside.log c.note.new.self (Write c.args.at c.in-Ok.copy)
     c.self.inside.bytes.items c.self.invariant c.in-Fails.ensures.noted (WasAsked (Range c.args.at (length c.args.bytes.now)))
-    c.args.self.now.told (ap (λ (d : DiskState). d.told) (sym c.self.view_is))
+    c.args.self.now.exposed (ap (λ (d : DiskState). d.exposed) (sym c.self.view_is))
     (refl, ap (λ (w : List ℕ). Range c.args.at (length w) ∷ before.asked) copy)
 
 pub returns-in-Succeeds-clause-noted : goal.returns-in-Succeeds-clause-noted

@@ -1,7 +1,7 @@
 -- The rows, their numbers and the keys stay.
 use Rattle.std.proofs.Common.{ap, ◌∙◌}
 use Rattle.unique_keys.specs.Indexes.{keys_of}
-use Rattle.indexed_tables.specs.Tables.{Held}
+use Rattle.indexed_tables.specs.Tables.{TableState}
 use Rattle.indexed_tables.proofs.tables.Table.seal.Goals as goal
 
 pub invariant_of-self : goal.invariant_of-self
@@ -15,6 +15,6 @@ invariant_of-self g c =
 
 pub returns : goal.returns
 returns g c =
-    ap (λ keys. let held : Held = record { keys = keys; rows = c.seal.new.self.rows } in held) c.seal_each.ensures.keys
-    ∙ ap (λ rows. let held : Held = record { keys = keys_of c.self.inside.indexes.items; rows = rows } in held) c.seal.ensures.rows
+    ap (λ keys. let held : TableState = record { keys = keys; rows = c.seal.new.self.rows } in held) c.seal_each.ensures.keys
+    ∙ ap (λ rows. let held : TableState = record { keys = keys_of c.self.inside.indexes.items; rows = rows } in held) c.seal.ensures.rows
     ∙ c.self.view_is

@@ -2,7 +2,7 @@
 use Rattle.unique_keys.specs.Indexes.{keys_of}
 use Rattle.row_store.specs.Changes.{written}
 use Rattle.indexed_tables.proofs.Exchanging.{distinct_said}
-use Rattle.indexed_tables.proofs.Lent.{places_within}
+use Rattle.indexed_tables.proofs.Lent.{positions_within}
 use Rattle.indexed_tables.proofs.tables.Table.update.Goals as goal
 
 pub admit-requires-clause-placed : goal.admit-requires-clause-placed
@@ -13,7 +13,7 @@ admit-requires-clause-kept g c = rw c.as_slice.ensures (rw (← c.self.view_is) 
 
 pub replace_all-requires-clause-placed : goal.replace_all-requires-clause-placed
 replace_all-requires-clause-placed g c =
-    rw c.in-Ok.ensures.rows (places_within 0 _ c.args.changes (rw (← c.self.view_is) at c.requires.placed))
+    rw c.in-Ok.ensures.rows (positions_within 0 _ c.args.changes (rw (← c.self.view_is) at c.requires.placed))
 
 pub replace_all-requires-clause-own : goal.replace_all-requires-clause-own
 replace_all-requires-clause-own g c = rw c.as_slice.ensures at c.in-Ok.ensures.own

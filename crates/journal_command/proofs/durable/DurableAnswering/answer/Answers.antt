@@ -1,4 +1,4 @@
--- Its record was added, and the replies were put; or nothing was done yet.
+-- Its record was added, and the replies were written; or nothing was done yet.
 use Rattle.std.proofs.Common.{sym, subst}
 use Rattle.std.specs.Prelude.{option_to_list}
 use Rattle.journal_core.specs.States.{JournalState}
@@ -21,15 +21,15 @@ returns-in-Ok-clause-answered g c =
     let out = (g.W.Sink.seen c.args.out.now).content in
     let disk_after = (g.D.Disk.seen c.append_and_put.new.disk).content in
     let out_after = (g.W.Sink.seen c.append_and_put.new.out).content in
-    let put = subst (λ (j : JournalState). PutsBy result (packed c.args.asked.now.version replies) (option_to_list entry) (outside j.gate disk out) (outside new.journal.gate disk_after out_after))
+    let put = subst (λ (j : JournalState). PutsBy result (packed c.args.request.now.version replies) (option_to_list entry) (outside j.gate disk out) (outside new.journal.gate disk_after out_after))
     c.in-Ok.ensures.journal c.append_and_put.ensures.put in
-    answers_so result c.args.asked.now c.serve.new.self (record { durable = c.args.self.now; disk = disk; out = out })
+    answers_so result c.args.request.now c.serve.new.self (record { durable = c.args.self.now; disk = disk; out = out })
     (record { durable = new; disk = disk_after; out = out_after }) replies entry c.in-Ok.ensures.served c.append_and_put.ensures.kept put
 
 pub returns-in-Err-clause-answered : goal.returns-in-Err-clause-answered
 returns-in-Err-clause-answered g c = λ held e.
-    let frames = answer_frames c.args.self.now.state c.args.asked.now in
-    let more = entries_of (keeping c.args.self.now.state held c.args.asked.now).records in
+    let frames = answer_frames c.args.self.now.state c.args.request.now in
+    let more = entries_of (keeping c.args.self.now.state held c.args.request.now).records in
     let disk = (g.D.Disk.seen c.args.disk.now).content in
     let out = (g.W.Sink.seen c.args.out.now).content in
     subst (λ (j : JournalState). StopsBy stops.OutOfMemory frames more (outside c.args.self.now.journal.gate disk out) (outside j.gate disk out)) (sym c.serve.ensures.journal)

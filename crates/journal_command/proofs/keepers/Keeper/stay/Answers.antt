@@ -9,5 +9,5 @@ pub returns : goal.returns
 returns c = λ held h.
     let keeper = c.self.inside.sessions.items in
     let after = c.take.new.self in
-    is_closed held c.args.session keeper (set keeper c.place_of.result after) after (c.self.view_is ∙ h) (ap (λ n. set keeper n after) c.place_of.ensures.value) c.take.ensures.none
+    is_closed held c.args.session keeper (set keeper c.slot_index_of.result after) after (c.self.view_is ∙ h) (ap (λ n. set keeper n after) c.slot_index_of.ensures.value) c.take.ensures.none
     ∙ ap (λ b. map frames_of (with_held held c.args.session (kept_where b (held_at held c.args.session)).held)) (sym c.if-stays.false)

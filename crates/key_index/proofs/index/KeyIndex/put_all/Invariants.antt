@@ -1,4 +1,4 @@
--- The keys so far have their numbers, and the others come behind them.
+-- The keys so far have their numbers, and the others come after them.
 use Rattle.std.proofs.Common.{◌≡◌, ◌+◌, ◌≤◌, List, drop, length}
 use Rattle.ae_base.specs.Atoms.{Atom}
 use Rattle.key_index.specs.Numbers.{number_at, put_in}

@@ -1,4 +1,4 @@
--- The keys so far are taken out, and the others come behind them.
+-- The keys so far are taken out, and the others come after them.
 use Rattle.std.proofs.Common.{◌≡◌, ◌+◌, ◌≤◌, List, length}
 use Rattle.ae_base.specs.Atoms.{Atom}
 use Rattle.key_index.specs.Numbers.{number_at, taken_out}

@@ -1,10 +1,10 @@
--- It was asked behind those of the others, or it wasn't.
+-- It was asked after those of the others, or it wasn't.
 use Rattle.std.proofs.Common.{Ok, Err, refl, ◌∙◌, ap, ◌++◌, ◌∷◌, []}
 use Rattle.std.proofs.lemmas.Result.{err_from_is_err_and}
 use Rattle.ae_edge.specs.Devices.{Stays}
 use Rattle.ae_edge.specs.declared.streams.WriteError.TheVariants as write
 use Rattle.run_command.specs.Queues.{all_placed}
-use Rattle.run_command.proofs.Interface.{all_front, places_behind, places_noted}
+use Rattle.run_command.proofs.Interface.{all_prefix, offsets_behind, offsets_noted}
 use Rattle.rotate_among.proofs.Asked.{sends_so, unasked}
 use Rattle.rotate_among.proofs.Tapped.{waits_so}
 use Rattle.rotate_among.proofs.among_connection.AmongConnectionConnection.ask.Goals as goal
@@ -23,16 +23,16 @@ returns-in_err-put_exchange g c =
 pub returns-in-Ok-join : goal.returns-in-Ok-join
 returns-in-Ok-join g c =
     let s = c.as_slice-answer.ensures in
-    let p = c.in_ok-put_exchange.ensures.places in
+    let p = c.in_ok-put_exchange.ensures.offsets in
     sends_so c.args.request.now _ _ refl refl _ c.in-Ok.ensures.asked _ (ap (λ names. names ∷ []) c.in-Ok.ensures.same) (Ok tt) _ _ _ (
       rw s at c.in_ok-put_exchange.ensures.call,
       waits_so c.args.self.now.version c.in-Ok.replies (all_placed c.args.self.now.waiting.now.replies.items) _ c.args.self.now.behind _
-          (c.in-Ok-join.ensures ∙ ap (λ w. all_placed c.args.self.now.waiting.now.replies.items ++ w) (places_noted _ _ _ _ _ _ s p c.new.ensures.items c.as_slice.ensures.value))
-          (places_behind _ _ _ _ _ s p),
+          (c.in-Ok-join.ensures ∙ ap (λ w. all_placed c.args.self.now.waiting.now.replies.items ++ w) (offsets_noted _ _ _ _ _ _ s p c.new.ensures.items c.as_slice.ensures.value))
+          (offsets_behind _ _ _ _ _ s p),
     )
 
 pub returns : goal.returns
 returns g c =
     let s = c.as_slice-answer.ensures in
     sends_so c.args.request.now _ _ refl refl _ c.in-Ok.ensures.asked _ (ap (λ names. names ∷ []) c.in-Ok.ensures.same) (Err write.OutOfMemory) _ _ _
-    (all_front _ Stays (g.T.Sink.seen c.args.self.now.tap) (g.T.Sink.seen c.put_exchange.new.tap) (rw s at c.in_ok-put_exchange.ensures.call))
+    (all_prefix _ Stays (g.T.Sink.seen c.args.self.now.tap) (g.T.Sink.seen c.put_exchange.new.tap) (rw s at c.in_ok-put_exchange.ensures.call))

@@ -10,11 +10,11 @@ invariant_of-self g c =
     let h = c.self.invariant in
     let numbers = c.self.inside.numbers.rows in
     let rows = c.self.inside.rows.rows in
-    let places = c.args.places.now in
+    let positions = c.args.positions.now in
     record {
-      each = ap length c.drop_at-2.ensures ∙ ap (λ n. length (unhit numbers (marked 0 n places))) h.each ∙
-          unhit_each numbers rows (marked 0 (length rows) places) h.each ∙ sym (ap length c.drop_at.ensures);
-      rising = subst (AreRising 0 c.self.inside.next) (sym c.drop_at-2.ensures) (rising_unhit 0 c.self.inside.next numbers (marked 0 (length numbers) places) h.rising);
+      each = ap length c.drop_at-2.ensures ∙ ap (λ n. length (unhit numbers (marked 0 n positions))) h.each ∙
+          unhit_each numbers rows (marked 0 (length rows) positions) h.each ∙ sym (ap length c.drop_at.ensures);
+      rising = subst (AreRising 0 c.self.inside.next) (sym c.drop_at-2.ensures) (rising_unhit 0 c.self.inside.next numbers (marked 0 (length numbers) positions) h.rising);
       room = (omega arith, omega arith);
       fits = omega (arith, h.fits);
     }

@@ -14,11 +14,11 @@ invariant_of-self g c =
     let mid = c.thin.new.pages.items in
     let new = c.pack.new.pages.items in
     let kept = c.self.invariant.kept in
-    let rows : flat new ≡ unhit (flat old) (marked 0 (length (flat old)) c.args.places.now) = ap joined c.pack.ensures.pages ∙ packed_flat (values mid) ∙ c.thin.ensures.rows in
+    let rows : flat new ≡ unhit (flat old) (marked 0 (length (flat old)) c.args.positions.now) = ap joined c.pack.ensures.pages ∙ packed_flat (values mid) ∙ c.thin.ensures.rows in
     let zero : length (flat old) ≡ 0 + length (flat old) = omega arith in
-    let within : AreRising 0 (0 + length (flat old)) c.args.places.now = subst (λ n. AreRising 0 n c.args.places.now) zero (rw (← c.self.view_is) at c.requires.rising) in
-    let n = marked_count (flat old) 0 (length (flat old)) c.args.places.now refl within in
-    let less = unhit_less (flat old) (marked 0 (length (flat old)) c.args.places.now) in
+    let within : AreRising 0 (0 + length (flat old)) c.args.positions.now = subst (λ n. AreRising 0 n c.args.positions.now) zero (rw (← c.self.view_is) at c.requires.rising) in
+    let n = marked_count (flat old) 0 (length (flat old)) c.args.positions.now refl within in
+    let less = unhit_less (flat old) (marked 0 (length (flat old)) c.args.positions.now) in
     record {
       kept = record {
         paged = subst (λ vs. IsPaged (sizes vs)) (sym c.pack.ensures.pages) (packed_paged (values mid) c.thin.ensures.small);
@@ -46,10 +46,11 @@ pub overflow_sub-self : goal.overflow_sub-self
 overflow_sub-self g c =
     let old = c.self.inside.pages.items in
     let zero : length (flat old) ≡ 0 + length (flat old) = omega arith in
-    let within : AreRising 0 (0 + length (flat old)) c.args.places.now = subst (λ n. AreRising 0 n c.args.places.now) zero (rw (← c.self.view_is) at c.requires.rising) in
-    let n = marked_count (flat old) 0 (length (flat old)) c.args.places.now refl within in
+    let within : AreRising 0 (0 + length (flat old)) c.args.positions.now = subst (λ n. AreRising 0 n c.args.positions.now) zero (rw (← c.self.view_is) at c.requires.rising) in
+    let n = marked_count (flat old) 0 (length (flat old)) c.args.positions.now refl within in
     omega (arith, n, c.self.invariant.count)
 
 pub returns : goal.returns
 returns g c =
-    ap joined c.pack.ensures.pages ∙ packed_flat (values c.thin.new.pages.items) ∙ c.thin.ensures.rows ∙ ap (λ (s : Stored _). unhit s.rows (marked 0 (length s.rows) c.args.places.now)) c.self.view_is
+    ap joined c.pack.ensures.pages ∙ packed_flat (values c.thin.new.pages.items) ∙ c.thin.ensures.rows
+    ∙ ap (λ (s : Stored _). unhit s.rows (marked 0 (length s.rows) c.args.positions.now)) c.self.view_is

@@ -1,4 +1,4 @@
--- The pages hold what they held, and there is room behind them.
+-- The pages hold what they held, and there is room after them.
 use Rattle.std.proofs.Common.{rules, ◌≡◌, ◌+◌, ◌*◌, ◌≤◌, length, arith, ap, sym, ◌∙◌}
 use Rattle.row_store.specs.Paged.{Stored, joined, last_room, sizes}
 use Rattle.row_store.proofs.Owned.{last_stays}

@@ -6,7 +6,7 @@ use Rattle.row_store.proofs.Rising.{rising_all}
 use Rattle.row_store.proofs.tables.Paged.make_removable.Goals as goal
 
 pub own_around-requires : goal.own_around-requires
-own_around-requires g c = rising_all 0 (length (flat c.self.inside.pages.items)) c.args.places.now (rw (← c.self.view_is) at c.requires)
+own_around-requires g c = rising_all 0 (length (flat c.self.inside.pages.items)) c.args.positions.now (rw (← c.self.view_is) at c.requires)
 
 pub invariant_of-self : goal.invariant_of-self
 invariant_of-self g c =

@@ -8,7 +8,7 @@ use Rattle.row_store.proofs.tables.Paged.replace_all.Goals as goal
 
 pub replace_each-requires-clause-own : goal.replace_each-requires-clause-own
 replace_each-requires-clause-own g c =
-    All_mapped (IsWritable c.self.inside.pages.items) (λ (change : Change _). change.place) c.args.changes (rw (← c.self.view_is) at c.requires.own)
+    All_mapped (IsWritable c.self.inside.pages.items) (λ (change : Change _). change.position) c.args.changes (rw (← c.self.view_is) at c.requires.own)
 
 pub invariant_of-self : goal.invariant_of-self
 invariant_of-self g c =

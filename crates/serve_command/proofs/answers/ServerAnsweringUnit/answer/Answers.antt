@@ -1,4 +1,4 @@
--- The request was served, and frames of its replies were put.
+-- The request was served, and frames of its replies were written.
 use Rattle.std.proofs.Common.{List, subst}
 use Rattle.ae_edge.specs.Streams.{PutsAll}
 use Rattle.wire_encoding.specs.Packing.{packed}
@@ -10,8 +10,8 @@ pub returns-in-Ok-clause-answered : goal.returns-in-Ok-clause-answered
 returns-in-Ok-clause-answered g c =
     let out = (g.W.Sink.seen c.args.out.now).content in
     let out_after = (g.W.Sink.seen c.put_replies.new.out).content in
-    let put = subst (λ (l : List Reply). PutsAll (packed c.args.asked.now.version l) c.put_replies.result out out_after) c.as_slice.ensures c.put_replies.ensures.content in
-    answers_put c.put_replies.result c.args.asked.now (record { state = c.args.self.now; out = out }) (record { state = c.serve.new.self; out = out_after }) c.in-Ok.replies
+    let put = subst (λ (l : List Reply). PutsAll (packed c.args.request.now.version l) c.put_replies.result out out_after) c.as_slice.ensures c.put_replies.ensures.content in
+    answers_put c.put_replies.result c.args.request.now (record { state = c.args.self.now; out = out }) (record { state = c.serve.new.self; out = out_after }) c.in-Ok.replies
     c.in-Ok.ensures.served put
 
 pub returns-in-Ok-clause-counts : goal.returns-in-Ok-clause-counts

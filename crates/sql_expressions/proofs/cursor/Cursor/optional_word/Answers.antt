@@ -6,4 +6,4 @@ pub returns-then-not-next_is : goal.returns-then-not-next_is
 returns-then-not-next_is c = no_word c.args.keyword c.args.self.now (sym c.next_is.ensures ∙ c.if-not-next_is.true)
 
 pub returns : goal.returns
-returns c = one_word c.args.keyword c.args.self.now c.place.new.self c.in_ok-place.field-0 (sym c.next_is.ensures ∙ c.if-not-next_is.false) c.in_ok-place.ensures
+returns c = one_word c.args.keyword c.args.self.now c.offset.new.self c.in_ok-offset.field-0 (sym c.next_is.ensures ∙ c.if-not-next_is.false) c.in_ok-offset.ensures

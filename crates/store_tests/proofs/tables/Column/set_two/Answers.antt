@@ -7,6 +7,6 @@ use Rattle.store_tests.proofs.tables.Column.set_two.Goals as goal
 
 pub update-requires-clause-kept : goal.update-requires-clause-kept
 update-requires-clause-kept c =
-    let sets : List BoundAssignment = record { at = 0; place = 0; value = operands.Column 0 0 } ∷ [] in
+    let sets : List BoundAssignment = record { at = 0; position = 0; value = operands.Column 0 0 } ∷ [] in
     let two = two_changed _ _ _ _ _ c.new-changes.ensures c.in_ok-push.ensures.ok c.in_ok-push-2.ensures.ok c.in_ok-first.ensures c.in_ok-second.ensures in
     are_kept sets refl c.self.inside.table.rows c.push-2.new.self c.self.invariant.narrow two

@@ -1,7 +1,7 @@
 -- There is one count a table.
 use Rattle.std.proofs.Common.{◌≡◌, false, sym, ap, ◌∙◌}
 use Rattle.sql_tree.specs.Bound.{bound_of, statement_of}
-use Rattle.sql_tree.specs.Sorts.{target}
+use Rattle.sql_tree.specs.Kinds.{target}
 use Rattle.catalog.specs.Definitions.{followed}
 use Rattle.catalog.specs.declared.effects.Effect.{Effect}
 use Rattle.engine.specs.Answers.{answer_of}

@@ -8,6 +8,6 @@ pub returns : goal.returns
 returns g c =
     let held = c.self.inside.held.items in
     let reached = ap (λ (s : Slots). s.reached) c.self.view_is in
-    let lt : c.place_of.result < length held = omega (arith, reached, c.requires, c.place_of.ensures.value) in
-    padded_set held c.place_of.result (Some c.args.transaction) lt ∙ ap (λ k. set (slots_of held) k (Some c.args.transaction)) c.place_of.ensures.value
+    let lt : c.slot_index_of.result < length held = omega (arith, reached, c.requires, c.slot_index_of.ensures.value) in
+    padded_set held c.slot_index_of.result (Some c.args.transaction) lt ∙ ap (λ k. set (slots_of held) k (Some c.args.transaction)) c.slot_index_of.ensures.value
     ∙ ap (λ (s : Slots). set s.transactions (c.args.session - 1) (Some c.args.transaction)) c.self.view_is

@@ -9,7 +9,7 @@ pub returns-then-is_some-clause-new : goal.returns-then-is_some-clause-new
 returns-then-is_some-clause-new g c = λ known there hits to e h i d k.
     let ks = rw c.as_slice.ensures at c.in_ok-keys.ensures in
     let found = ap is_some c.in_ok-first_uncounted.ensures ∙ ap (λ k. is_some (first_alike c.args.gone.now c.self.inside.index k)) (c.as_slice-2.ensures ∙ ks) in
-    let twins = twins_found known c.args.gone.now there _ hits to (record { places = c.self.inside.places; keyed = c.self.inside.index })
+    let twins = twins_found known c.args.gone.now there _ hits to (record { ordinals = c.self.inside.ordinals; keyed = c.self.inside.index })
     e h (rw (← c.self.view_is) at i) (rw (← c.self.view_is) at d) k in
     rw (← c.self.view_is) (sym (found ∙ twins) ∙ sym c.is_some.ensures ∙ c.if-is_some.true)
 
@@ -17,6 +17,6 @@ pub returns-clause-new : goal.returns-clause-new
 returns-clause-new g c = λ known there hits to e h i d k.
     let ks = rw c.as_slice.ensures at c.in_ok-keys.ensures in
     let found = ap is_some c.in_ok-first_uncounted.ensures ∙ ap (λ k. is_some (first_alike c.args.gone.now c.self.inside.index k)) (c.as_slice-2.ensures ∙ ks) in
-    let twins = twins_found known c.args.gone.now there _ hits to (record { places = c.self.inside.places; keyed = c.self.inside.index })
+    let twins = twins_found known c.args.gone.now there _ hits to (record { ordinals = c.self.inside.ordinals; keyed = c.self.inside.index })
     e h (rw (← c.self.view_is) at i) (rw (← c.self.view_is) at d) k in
     rw (← c.self.view_is) (sym (found ∙ twins) ∙ sym c.is_some.ensures ∙ c.if-is_some.false)

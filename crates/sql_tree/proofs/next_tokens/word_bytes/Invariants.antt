@@ -1,0 +1,9 @@
+use Rattle.std.proofs.Common.{◌≡◌, ℕ, ◌-◌, ◌<◌, ◌≤◌, true, length, get_or}
+use Rattle.sql_tree.specs.Tokens.{is_word_byte}
+use Rattle.sql_tree.proofs.next_tokens.word_bytes.Given as goal
+
+abbrev pub invariant-loop-len : goal.invariant-loop-len
+invariant-loop-len l = (l.len ≤ length l.bytes) × ((k : ℕ) → k < l.len → is_word_byte (get_or l.bytes k 0) ≡ true)
+
+abbrev pub decreases-loop-len : goal.decreases-loop-len
+decreases-loop-len l = length l.initial.bytes - l.len
