@@ -94,13 +94,13 @@ fn is_count(item: &Item) -> bool
     matches!(item.value, ItemValue::Count { .. })
 }
 
-#[tactic(auto, using(crate::proofs::Counts::counts))]
 fn count_among(items: &[Item]) -> bool
-    ensures { result ≡ list_any (λ item. is_count item.value) (map item_of items.now) }
+    ensures { result ≡ list_any (λ item. is_count (item_of item).value) items.now }
 {
     items.iter().any(|item| is_count(item))
 }
 
+#[tactic(auto, using(crate::proofs::Counts::counts))]
 fn has_count(items: &Items) -> bool
     ensures { result ≡ has_count (items_of items.now) }
 {

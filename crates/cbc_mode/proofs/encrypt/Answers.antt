@@ -15,7 +15,7 @@ returns-clause-value c =
     rw c.in_ok-extend_from_slice-2.ensures.items
     (IsChainedBelow-last _ _ _ _ _ _ _ _ c.loop-block.invariant (omega arith)
     (c.encrypt-last.ensures ∙ ap (λ (mixed : List ℕ). encryption c.args.key.now mixed) c.sum-2.ensures)
-    ∙ cbc-cut _ _ _ _ _ _ c.as_chunks.ensures.prefix c.as_chunks.ensures.back c.padded_block.ensures)
+    ∙ cbc-cut _ _ _ _ _ _ c.as_chunks.ensures.front c.as_chunks.ensures.back c.padded_block.ensures)
 
 pub returns-clause-len : goal.returns-clause-len
 returns-clause-len c =
