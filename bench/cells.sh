@@ -83,12 +83,12 @@ openssl_round() {
 }
 
 # The processor seconds of `ae drive` in the crates of the cipher, the hash and the cells, by 4,000 samples a second;
-# nothing where there are no samples. The compiler puts the decryption of eight blocks into a `replied` of the driver,
-# which does little else: it counts whole.
+# nothing where there are no samples. The compiler puts the decryption of eight blocks into an `answered` or `next_row`
+# of the driver, which does little else: it counts whole.
 cipher_seconds() {
     perf record -q -e cpu-clock -c 250000 -o counted "$top/ae" drive <script >/dev/null 2>&1 || return 0
     perf report -i counted --stdio -q --no-children -F sample,symbol 2>/dev/null |
-        awk '/ (aes_block|cbc_mode|sha2|hmac_kdf|cell_codec)::| driver::.*replied/ { sum += $1 }
+        awk '/ (aes_block|cbc_mode|sha2|hmac_kdf|cell_codec)::| driver::.*(answered|next_row)/ { sum += $1 }
             END { if (sum > 0) print sum / 4000 }'
 }
 

@@ -9,17 +9,17 @@ use Rattle.wire_messages.specs.declared.requests.Request.TheVariants.{Execute}
 use Rattle.conversation.specs.Devices.{Devices, AreOwn, IsAtDraw, IsAtKey}
 use Rattle.conversation.specs.Paths.{Event, Follows, stays, asks}
 use Rattle.conversation.specs.Pending.{Pending}
-use Rattle.conversation.specs.Sessions.{Tells, nobody, replied, session_at}
+use Rattle.conversation.specs.Sessions.{Tells, answered, nobody, session_at}
 use Rattle.conversation.specs.Talk.{Talk, Asks, Ends}
 use Rattle.conversation.specs.Turns.{execute}
-use Rattle.conversation.specs.declared.answers.ReplyAnswer.{ReplyAnswer}
+use Rattle.conversation.specs.declared.answers.ExecuteAnswer.{ExecuteAnswer}
 use Rattle.conversation.specs.declared.faults.DriverFault.{DriverFault}
 use Rattle.conversation.specs.declared.faults.Halt.{Halt}
 use Rattle.conversation.specs.declared.faults.Halt.TheVariants as halt
 use Rattle.conversation.specs.declared.outcomes.Outcome.{Outcome}
 use Rattle.conversation.specs.declared.sessions.Session.{Session}
 use Rattle.conversation.specs.declared.sessions.Session.TheVariants as session
-use Rattle.driver.specs.Calls.{Executes, Replies}
+use Rattle.driver.specs.Calls.{Answers, Executes}
 use Rattle.check_command.specs.Asked.{AnswersAs, IsUnused, OrShort, Says}
 
 -- ---- its sessions
@@ -77,23 +77,23 @@ module _ (trusted : List (List ℕ)) (number : ℕ) (s : Session) (unused : IsUn
 
 -- ---- the reply
 
-says_so : (trusted : List (List ℕ)) (after : Session) (old new : Devices) (comes : Outcome) (x : ReplyAnswer) (r : Result ReplyAnswer Halt) → Says comes x
-    → Replies trusted r (Tells x session.Idle) session.Sent after old new → OrShort (Says comes) r
-says_so trusted after old new comes x (Ok y) w h = subst (Says comes) (sym h.0) w
-says_so trusted after old new comes x (Err halt.BadReply) w h = let e = h.0 in absurd cc
-says_so trusted after old new comes x (Err halt.OutOfMemory) w h = tt
-says_so trusted after old new comes x (Err halt.EntropyFault) w h = absurd h
-says_so trusted after old new comes x (Err halt.VaultFault) w h = let e = h.1.0 in absurd cc
+says_so : (trusted : List (List ℕ)) (after : Session) (old new : Devices) (comes : Outcome) (r : Result ExecuteAnswer Halt)
+    → Answers trusted r (Tells comes) session.Sent after old new → OrShort (Says comes) r
+says_so trusted after old new comes (Ok y) h = h.0
+says_so trusted after old new comes (Err halt.BadReply) h = let e = h.0 in absurd cc
+says_so trusted after old new comes (Err halt.OutOfMemory) h = tt
+says_so trusted after old new comes (Err halt.EntropyFault) h = absurd h
+says_so trusted after old new comes (Err halt.VaultFault) h = let e = h.1.0 in absurd cc
 
-pub heard_as : (trusted : List (List ℕ)) (r : Result ReplyAnswer Halt) (s after : Session) → s ≡ session.Sent
+pub heard_as : (trusted : List (List ℕ)) (r : Result ExecuteAnswer Halt) (s after : Session) → s ≡ session.Sent
     → (a b : Device KeyMap) (replies : List Reply) (x : Reply) → x ≡ slice_index_or replies 0 x
-    → ((beside : Devices) → Replies trusted r (replied s x) s after (record beside { vault = a }) (record beside { vault = b }))
+    → ((beside : Devices) → Answers trusted r (answered s x) s after (record beside { vault = a }) (record beside { vault = b }))
     → (comes : Outcome) → AnswersAs replies comes → OrShort (Says comes) r
 heard_as trusted r s after e a b replies x i h comes w =
     let old : Devices = record { entropy = silent 0; vault = a } in
     let new : Devices = record { entropy = silent 0; vault = b } in
-    let one = w.2 in
+    let one = w.1 in
     let same : x ≡ w.0 = rw one at i in
-    let told : replied s x ≡ Tells w.1 session.Idle = rw (e, same) w.3 in
-    says_so trusted after old new comes w.1 r w.4
-    (subst (λ y. Replies trusted r (Tells w.1 session.Idle) y after old new) e (subst (λ t. Replies trusted r t s after old new) told (h old)))
+    let told : answered s x ≡ Tells comes = rw (e, same) w.2 in
+    says_so trusted after old new comes r
+    (subst (λ y. Answers trusted r (Tells comes) y after old new) e (subst (λ t. Answers trusted r t s after old new) told (h old)))

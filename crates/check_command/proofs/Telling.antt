@@ -32,7 +32,7 @@ use Rattle.plaintext_laws.proofs.Interface.{parts_of}
 use Rattle.check_command.proofs.Following.{bind_ok}
 use Rattle.conversation.specs.declared.faults.Halt.{Halt}
 use Rattle.conversation.specs.declared.faults.Halt.TheVariants as halt
-use Rattle.driver.specs.Calls.{Describes}
+use Rattle.driver.specs.Calls.{Takes}
 use Rattle.check_command.specs.Check.{HasNoTransaction, checked, defines}
 use Rattle.check_command.specs.Asked.{ComesTo, IsAsked, IsBegun, IsDefinition, OrShort, said_of, unforced}
 
@@ -87,7 +87,7 @@ module _ (bound : BoundStatementsAre) (typings : TypingsAreOfColumns) (state : S
       subst (λ y. IsHeardAs state number batch (held.described (session.Begun batch) y)) (sym i) (b.fit, e)
 
 answers_of : (state : State) (number : ℕ) (batch : Batch) (o : Option (Turn DescribeAnswer)) (r : Result DescribeAnswer Halt) (old after : Session)
-    → IsHeardAs state number batch o → Describes r o old after → OrShort (IsAsked state number batch after) r
+    → IsHeardAs state number batch o → Takes r o old after → OrShort (IsAsked state number batch after) r
 answers_of state number batch (Some turn) (Ok x) old after h e =
     let i : turn ≡ record { answer = x; after = after } = cc in
     subst (λ (t : Turn DescribeAnswer). IsAsked state number batch t.after t.answer) i h
@@ -98,7 +98,7 @@ answers_of state number batch (Some turn) (Err halt.EntropyFault) old after h e 
 answers_of state number batch (Some turn) (Err halt.VaultFault) old after h e = absurd e
 
 pub told_answers : BoundStatementsAre → TypingsAreOfColumns → (state : State) (number : ℕ) (batch : Batch) (s : Session) → IsBegun batch s → (x : Reply) → x ∷ [] ≡ said_of state number batch
-    → (r : Result DescribeAnswer Halt) (after : Session) → Describes r (held.described s x) s after → OrShort (IsAsked state number batch after) r
+    → (r : Result DescribeAnswer Halt) (after : Session) → Takes r (held.described s x) s after → OrShort (IsAsked state number batch after) r
 told_answers bound typings state number batch s b x t r after h =
     answers_of state number batch (held.described s x) r s after
     (subst (λ y. IsHeardAs state number batch (held.described y x)) (sym b.begun)

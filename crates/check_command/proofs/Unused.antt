@@ -37,7 +37,6 @@ use Rattle.wire_messages.specs.Exchanges.{Served}
 use Rattle.conversation.specs.declared.outcomes.Outcome as comes_to
 use Rattle.std.specs.declared.alloc.AllocError.{AllocError}
 use Rattle.conversation.specs.Pending.{Pending, Use, uses_in, uses_of}
-use Rattle.conversation.specs.declared.answers.ReplyAnswer.TheVariants as said
 use Rattle.conversation.specs.declared.sessions.Session.{Session}
 use Rattle.conversation.specs.declared.sessions.Session.TheVariants as session
 use Rattle.conversation.specs.Sessions.{encs_of, with_enc}
@@ -203,8 +202,8 @@ pub record ExecutesAs (state : State) (number : ℕ) (p : Pending) (c : Came) : 
 answers_so : (catalog : Catalog) (state : State) (t : Transacted) → IsDone state t
     → AnswersAs (answered catalog t.answer t.after).replies (plain.answered [] [] catalog t.answer) × (t.after ≡ (answered catalog t.answer t.after).after)
 answers_so catalog state t d = elim d.done [
-  | inl e ↦ rw e ((_, said.Defined, refl, refl, refl), refl)
-  | inr h ↦ let e = h.1 in rw e ((_, said.Refused h.0, refl, refl, refl), refl)
+  | inl e ↦ rw e ((_, refl, refl), refl)
+  | inr h ↦ let e = h.1 in rw e ((_, refl, refl), refl)
 ]
 
 module _ (law : PreparedAlone) (state : State) (number : ℕ) (batch : Batch) (meant : Meant) (idle : HasNoTransaction state) (defining : defines batch.text ≡ true)

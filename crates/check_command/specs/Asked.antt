@@ -14,8 +14,8 @@ use Rattle.conversation.specs.Sessions as held
 use Rattle.conversation.specs.Sessions.{described_params}
 use Rattle.conversation.specs.declared.answers.DescribeAnswer.{DescribeAnswer}
 use Rattle.conversation.specs.declared.answers.DescribeAnswer.TheVariants as answer
-use Rattle.conversation.specs.declared.answers.ReplyAnswer.{ReplyAnswer}
-use Rattle.conversation.specs.declared.answers.ReplyAnswer.TheVariants as replied
+use Rattle.conversation.specs.declared.answers.ExecuteAnswer.{ExecuteAnswer}
+use Rattle.conversation.specs.declared.answers.ExecuteAnswer.TheVariants as executed
 use Rattle.conversation.specs.declared.faults.Halt.{Halt}
 use Rattle.conversation.specs.declared.faults.Halt.TheVariants as halt
 use Rattle.conversation.specs.declared.outcomes.Outcome.{Outcome}
@@ -96,11 +96,9 @@ is_clash (outcome.Refused f) = code_of f == 30
 is_clash other = false
 
 -- what the driver says of a definition that is executed
-abbrev pub Says : Outcome → ReplyAnswer → Type 0
-Says comes replied.Defined = comes ≡ outcome.Defined
-Says comes (replied.Refused f) = comes ≡ outcome.Refused f
-Says comes other = ⊥
+abbrev pub Says : Outcome → ExecuteAnswer → Type 0
+Says comes said = said ≡ executed.Says comes
 
--- there is one reply, of which it says so, and the session is idle after it
+-- there is one reply, which tells it
 abbrev pub AnswersAs : List Reply → Outcome → Type 0
-AnswersAs replies comes = (x : Reply) × (said : ReplyAnswer) × (replies ≡ x ∷ []) × (held.replied session.Sent x ≡ held.Tells said session.Idle) × Says comes said
+AnswersAs replies comes = (x : Reply) × (replies ≡ x ∷ []) × (held.answered session.Sent x ≡ held.Tells comes)

@@ -14,7 +14,7 @@ ghost use Rattle.check_command.specs.Asked.{AnswersAs, ComesTo, IsDefinition, Is
 use ae_base::sessions::SessionId;
 use ae_edge::memory::entropy::MemEntropy;
 use ae_edge::memory::vault::MemVault;
-use conversation::answers::ReplyAnswer;
+use conversation::answers::ExecuteAnswer;
 use conversation::faults::Halt;
 use conversation::outcomes::Outcome;
 use driver::Driver;
@@ -85,17 +85,16 @@ fn told(
     ensures { (comes : Outcome) → AnswersAs replies.now comes → IfOk result (λ c. comes ≡ c) }
 {
     let [reply] = replies else { unreachable!() };
-    outcome_in(driver.replied(alloc, number, reply, vault))
+    outcome_in(driver.answered(alloc, number, reply, vault))
 }
 
 /// The result that the driver tells of a definition.
-fn outcome_in(said: Result<ReplyAnswer, Halt>) -> Result<Outcome, AllocError>
+fn outcome_in(said: Result<ExecuteAnswer, Halt>) -> Result<Outcome, AllocError>
     requires { (comes : Outcome) × OrShort (Says comes) said }
     ensures { (comes : Outcome) → OrShort (Says comes) said → IfOk result (λ c. comes ≡ c) }
 {
     match said {
-        Ok(ReplyAnswer::Defined) => Ok(Outcome::Defined),
-        Ok(ReplyAnswer::Refused(fault)) => Ok(Outcome::Refused(fault)),
+        Ok(ExecuteAnswer::Says(outcome)) => Ok(outcome),
         Err(Halt::OutOfMemory) => Err(AllocError),
         _ => unreachable!(),
     }

@@ -22,10 +22,12 @@ use Rattle.conversation.specs.declared.faults.DriverFault.TheVariants as fault
 use Rattle.conversation.specs.declared.outcomes.DescribedParam.{DescribedParam}
 use Rattle.conversation.specs.declared.outcomes.NamedEnc.{NamedEnc}
 use Rattle.conversation.specs.declared.outcomes.NamedEnc.TheVariants as named
+use Rattle.conversation.specs.declared.outcomes.Outcome.{Outcome}
+use Rattle.conversation.specs.declared.outcomes.Outcome.TheVariants as outcome
 use Rattle.conversation.specs.declared.answers.DescribeAnswer.{DescribeAnswer}
 use Rattle.conversation.specs.declared.answers.DescribeAnswer.TheVariants.{Ready, Refused, Failed}
-use Rattle.conversation.specs.declared.answers.ReplyAnswer.{ReplyAnswer}
-use Rattle.conversation.specs.declared.answers.ReplyAnswer.TheVariants as answer
+use Rattle.conversation.specs.declared.answers.RowAnswer.{RowAnswer}
+use Rattle.conversation.specs.declared.answers.RowAnswer.TheVariants as answer
 use Rattle.conversation.specs.declared.sessions.Turn.{Turn}
 use Rattle.conversation.specs.declared.sessions.ColumnType.{ColumnType}
 use Rattle.conversation.specs.declared.sessions.Session.{Session}
@@ -126,51 +128,51 @@ described Sent r = None
 described (Reading columns keys count) r = None
 described (Skipping columns count) r = None
 
--- ---- the answer to its execution
+-- ---- the first reply to its execution
 
--- a reply tells an answer and the session after it; or it shows columns, whose keys are opened first; or it isn't awaited, and leaves the session
+-- a reply tells an outcome, after which the session is idle; or it shows columns, whose keys are opened first; or it isn't awaited
 pub data Told : Type 0 where
-  Tells : (says : ReplyAnswer) (after : Session) → Told
+  Tells : (comes : Outcome) → Told
   Shows : (header : Header) → Told
   Stray : Told
 
 abbrev pub sent_ended : Done → Told
-sent_ended done.Defined = Tells answer.Defined Idle
-sent_ended (done.Changed count) = Tells (answer.Changed count) Idle
+sent_ended done.Defined = Tells outcome.Defined
+sent_ended (done.Changed count) = Tells (outcome.Changed count)
 sent_ended (done.Answered count) = Stray
 
+-- after Execute a Refused, the end of a definition or a change, or Columns is awaited
+abbrev pub answered : Session → Reply → Told
+answered Sent (reply.Columns header) = Shows header
+answered Sent (reply.Ended d) = sent_ended d
+answered Sent (reply.Refused f) = Tells (outcome.Refused f)
+answered Sent (reply.Row atoms) = Stray
+answered Sent (reply.Described description) = Stray
+answered other r = Stray
+
+-- ---- its rows
+
 -- the end of an answer has the number of rows that came
-abbrev pub rows_ended : ℕ → ReplyAnswer → Done → Told
-rows_ended count says done.Defined = Stray
-rows_ended count says (done.Changed n) = Stray
-rows_ended count says (done.Answered n) = if n == count then Tells says Idle else Stray
+abbrev pub rows_ended : ℕ → RowAnswer → Done → Option (Turn RowAnswer)
+rows_ended count says done.Defined = None
+rows_ended count says (done.Changed n) = None
+rows_ended count says (done.Answered n) = if n == count then Some (record { answer = says; after = Idle }) else None
 
-abbrev pub row_read : List ColumnType → List (Option Keys) → ℕ → Result (List Value) DriverFault → Told
-row_read columns keys count (Ok values) = Tells (answer.Row values) (Reading columns keys count)
-row_read columns keys count (Err f) = Tells (answer.Failed f) (Skipping columns count)
+abbrev pub row_read : List ColumnType → List (Option Keys) → ℕ → Result (List Value) DriverFault → Turn RowAnswer
+row_read columns keys count (Ok values) = record { answer = answer.Row values; after = Reading columns keys count }
+row_read columns keys count (Err f) = record { answer = answer.Failed f; after = Skipping columns count }
 
--- after Execute a Refused, the end of a definition or a change, or Columns is awaited; after Columns a Row with one atom for each column, or
--- the end with the number of rows that came
-abbrev pub replied : Session → Reply → Told
-replied Sent (reply.Columns header) = Shows header
-replied Sent (reply.Ended d) = sent_ended d
-replied Sent (reply.Refused f) = Tells (answer.Refused f) Idle
-replied Sent (reply.Row atoms) = Stray
-replied Sent (reply.Described description) = Stray
-replied (Reading columns keys count) (reply.Row atoms) =
-    if is_row_of columns atoms then row_read columns keys (count + 1) (read_atoms (count + 1) 1 columns keys atoms) else Stray
-replied (Reading columns keys count) (reply.Ended d) = rows_ended count (answer.Rows count) d
-replied (Reading columns keys count) (reply.Refused f) = Stray
-replied (Reading columns keys count) (reply.Columns header) = Stray
-replied (Reading columns keys count) (reply.Described description) = Stray
-replied (Skipping columns count) (reply.Row atoms) = if is_row_of columns atoms then Tells answer.Skipped (Skipping columns (count + 1)) else Stray
-replied (Skipping columns count) (reply.Ended d) = rows_ended count answer.Over d
-replied (Skipping columns count) (reply.Refused f) = Stray
-replied (Skipping columns count) (reply.Columns header) = Stray
-replied (Skipping columns count) (reply.Described description) = Stray
-replied Idle r = Stray
-replied (Begun batch) r = Stray
-replied (Pending pending) r = Stray
+-- after Columns a Row with one atom for each column is awaited, or the end with the number of rows that came; None stands for a reply that isn't
+abbrev pub next_row : Session → Reply → Option (Turn RowAnswer)
+next_row (Reading columns keys count) (reply.Row atoms) =
+    if is_row_of columns atoms then Some (row_read columns keys (count + 1) (read_atoms (count + 1) 1 columns keys atoms)) else None
+next_row (Reading columns keys count) (reply.Ended d) = rows_ended count (answer.Rows count) d
+next_row (Reading columns keys count) other = None
+next_row (Skipping columns count) (reply.Row atoms) =
+    if is_row_of columns atoms then Some (record { answer = answer.Skipped; after = Skipping columns (count + 1) }) else None
+next_row (Skipping columns count) (reply.Ended d) = rows_ended count answer.Over d
+next_row (Skipping columns count) other = None
+next_row other r = None
 
 abbrev pub titles_of : Header → List (List ℕ)
 titles_of header = map (λ c. c.title) header.columns

@@ -26,10 +26,10 @@ accepted_begun (Err e) old = old
 
 abbrev pub accepted_told : Told → Accepted → Accepted
 accepted_told (Shows header) old = Some header.columns
-accepted_told (Tells says after) old = old
+accepted_told (Tells comes) old = old
 accepted_told Stray old = old
 
 -- columns are accepted also where their keys can't be opened; what halts leaves what was accepted
-abbrev pub accepted_replied : {A E : Type 0} → Result A E → Told → Accepted → Accepted
-accepted_replied (Ok says) told old = accepted_told told old
-accepted_replied (Err halt) told old = old
+abbrev pub accepted_answered : {A E : Type 0} → Result A E → Told → Accepted → Accepted
+accepted_answered (Ok says) told old = accepted_told told old
+accepted_answered (Err halt) told old = old

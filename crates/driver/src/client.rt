@@ -7,14 +7,14 @@ ghost use Rattle.key_store.specs.Stores.{IsOf};
 ghost use Rattle.conversation.specs.Devices.{Devices};
 ghost use Rattle.conversation.specs.Sessions as held;
 ghost use Rattle.conversation.specs.Sessions.{nobody};
-ghost use Rattle.driver.specs.Calls.{Comes, Describes, Executes, IsSent, Replies, IsOnlyAt, is_pending, opens_keys};
-ghost use Rattle.driver.specs.Accepted.{accepted_begun, accepted_replied, IsAcceptedOnlyAt};
+ghost use Rattle.driver.specs.Calls.{Answers, Comes, Executes, IsOnlyAt, IsSent, Takes, is_pending, opens_keys};
+ghost use Rattle.driver.specs.Accepted.{accepted_answered, accepted_begun, IsAcceptedOnlyAt};
 ghost use Rattle.driver.specs.Accepted as accepted;
 ghost use Rattle.driver.specs.Clients.{session_of, columns_of};
 
 use crate::accepting::{Columns, forget_if_begun, none_accepted};
 use crate::executing::execute;
-use crate::replies::replied;
+use crate::replies::{answered, row_answered};
 use crate::starting::{begin, described};
 use ae_base::batches::Batch;
 use ae_base::keys::KeyPath;
@@ -22,7 +22,7 @@ use ae_base::lists::Seq;
 use ae_base::sessions::SessionId;
 use ae_edge::entropies::Entropy;
 use ae_edge::vaults::Vault;
-use conversation::answers::{DescribeAnswer, ReplyAnswer};
+use conversation::answers::{DescribeAnswer, ExecuteAnswer, RowAnswer};
 use conversation::faults::{DriverFault, Halt};
 use conversation::sessions::Session;
 use key_store::KeyStore;
@@ -148,7 +148,7 @@ impl Driver {
         number: SessionId,
         reply: &Reply<'_>,
     ) -> Result<DescribeAnswer, Halt>
-        ensures described { Describes result (held.described (session_of self.old number) reply.now)
+        ensures described { Takes result (held.described (session_of self.old number) reply.now)
             (session_of self.old number) (session_of self.new number) }
         ensures others { IsOnlyAt number self.old.sessions self.new.sessions }
         ensures columns { self.new.columns ≡ self.old.columns }
@@ -201,26 +201,25 @@ impl Driver {
         turn.answer
     }
 
-    /// Takes a reply to a session's request to execute a batch. A reply that isn't awaited leaves
-    /// the driver as it was. A vault that fails and out of memory leave the session as it was.
-    /// What is kept of keys changes only where columns are shown, whose keys are opened.
-    pub fn replied<V: Vault>(
+    /// Takes the first reply to a session's request to execute a batch. A reply that isn't awaited
+    /// leaves the driver as it was. A vault that fails and out of memory leave the session as it
+    /// was. What is kept of keys changes only where columns are shown, whose keys are opened.
+    pub fn answered<V: Vault>(
         &mut self,
         alloc: Global,
         number: SessionId,
         reply: &Reply<'_>,
         vault: &mut V,
-    ) -> Result<ReplyAnswer, Halt>
+    ) -> Result<ExecuteAnswer, Halt>
         requires { IsOf (V.seen vault.old).content self.old.kept }
-        ensures replied { (beside : Devices)
-            → Replies self.old.trusted result (held.replied (session_of self.old number) reply.now)
+        ensures answered { (beside : Devices) → Answers self.old.trusted result
+            (held.answered (session_of self.old number) reply.now)
             (session_of self.old number) (session_of self.new number)
             (record beside { vault = V.seen vault.old })
             (record beside { vault = V.seen vault.new }) }
         ensures others { IsOnlyAt number self.old.sessions self.new.sessions }
-        ensures columns { columns_of self.new number
-            ≡ accepted_replied result (held.replied (session_of self.old number) reply.now)
-            (columns_of self.old number) }
+        ensures columns { columns_of self.new number ≡ accepted_answered result
+            (held.answered (session_of self.old number) reply.now) (columns_of self.old number) }
         ensures other_columns { IsAcceptedOnlyAt number self.old.columns self.new.columns }
         ensures trusted { self.new.trusted ≡ self.old.trusted }
         ensures kept { opens_keys (session_of self.old number) reply.now ≡ false
@@ -230,7 +229,7 @@ impl Driver {
         let place = number.number() as usize - 1;
         let slot = &mut self.sessions[place];
         let session = mem::replace(slot, Session::Idle);
-        let turn = replied(
+        let turn = answered(
             alloc,
             &mut self.store,
             vault,
@@ -239,6 +238,27 @@ impl Driver {
             session,
             reply,
         );
+        put(slot, turn.after);
+        turn.answer
+    }
+
+    /// Takes the next reply to a session that reads or skips rows. A reply that isn't awaited
+    /// leaves the driver as it was, as it is left out of memory.
+    pub fn next_row(
+        &mut self,
+        alloc: Global,
+        number: SessionId,
+        reply: &Reply<'_>,
+    ) -> Result<RowAnswer, Halt>
+        ensures next_row { Takes result (held.next_row (session_of self.old number) reply.now)
+            (session_of self.old number) (session_of self.new number) }
+        ensures others { IsOnlyAt number self.old.sessions self.new.sessions }
+        ensures columns { self.new.columns ≡ self.old.columns }
+        ensures trusted { self.new.trusted ≡ self.old.trusted }
+        ensures kept { self.new.kept ≡ self.old.kept }
+    {
+        let slot = &mut self.sessions[number.number() as usize - 1];
+        let turn = row_answered(alloc, mem::replace(slot, Session::Idle), reply);
         put(slot, turn.after);
         turn.answer
     }

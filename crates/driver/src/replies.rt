@@ -1,12 +1,12 @@
-//! A session takes a reply to the execution of its batch.
+//! A session takes the replies to the execution of its batch: the first, and those with rows.
 
-ghost use Rattle.std.specs.Prelude.{◌≡◌, IfOk, Err, false, map};
+ghost use Rattle.std.specs.Prelude.{◌≡◌, IfOk, Err, List, false, map, ℕ};
 ghost use Rattle.key_store.specs.Stores.{IsOf};
 ghost use Rattle.conversation.specs.Devices.{Devices};
 ghost use Rattle.conversation.specs.Sessions as held;
 ghost use Rattle.conversation.specs.declared.sessions.Session.{Session};
-ghost use Rattle.driver.specs.Accepted.{accepted_replied};
-ghost use Rattle.driver.specs.Calls.{Replies, ShowsTurn, TellsAs, is_end, opens_keys};
+ghost use Rattle.driver.specs.Accepted.{accepted_answered};
+ghost use Rattle.driver.specs.Calls.{Answers, ShowsTurn, Takes, is_end, opens_keys};
 ghost use Rattle.driver.specs.Listed.{AreListed};
 ghost use Rattle.wire_messages.specs.declared.replies.Reply.TheVariants as reply;
 
@@ -19,8 +19,9 @@ use ae_base::keys::{KeyMeta, KeyPath};
 use ae_base::lists::{Duplicate, Seq};
 use ae_base::names::Title;
 use ae_edge::vaults::Vault;
-use conversation::answers::ReplyAnswer;
+use conversation::answers::{ExecuteAnswer, RowAnswer};
 use conversation::faults::Halt;
+use conversation::outcomes::Outcome;
 use conversation::sessions::{ColumnType, Session, Turn};
 use hmac_kdf::CellKeys;
 use key_store::KeyStore;
@@ -80,7 +81,7 @@ fn show<V: Vault>(
     vault: &mut V,
     trusted: &[KeyPath],
     header: &Header<'_>,
-) -> Result<Turn<ReplyAnswer>, Halt>
+) -> Result<Turn<ExecuteAnswer>, Halt>
     requires { IsOf (V.seen vault.old).content store.old }
     ensures shows { (beside : Devices)
         → ShowsTurn trusted.now result header.now
@@ -105,7 +106,7 @@ fn show<V: Vault>(
     };
     match opened {
         Ok(keys) => Ok(Turn {
-            answer: ReplyAnswer::Header(heading.titles),
+            answer: ExecuteAnswer::Shows(heading.titles),
             after: Session::Reading {
                 columns: heading.types,
                 keys,
@@ -113,7 +114,7 @@ fn show<V: Vault>(
             },
         }),
         Err(fault) => Ok(Turn {
-            answer: ReplyAnswer::Failed(fault),
+            answer: ExecuteAnswer::Skips(fault),
             after: Session::Skipping {
                 columns: heading.types,
                 count: 0,
@@ -122,7 +123,7 @@ fn show<V: Vault>(
     }
 }
 
-fn halted(halt: Halt, session: Session) -> Turn<Result<ReplyAnswer, Halt>>
+fn halted<A>(halt: Halt, session: Session) -> Turn<Result<A, Halt>>
     ensures { result ≡ record { answer = Err halt; after = session } }
 {
     Turn {
@@ -131,50 +132,150 @@ fn halted(halt: Halt, session: Session) -> Turn<Result<ReplyAnswer, Halt>>
     }
 }
 
-fn sent_refused(fault: &SqlFault) -> Turn<Result<ReplyAnswer, Halt>>
-    ensures { TellsAs result.answer (held.replied Session.Sent (reply.Refused fault.now))
-        Session.Sent result.after }
+fn sent_refused(fault: &SqlFault) -> Turn<Result<ExecuteAnswer, Halt>>
+    ensures { (trusted : List (List ℕ)) (now : Devices) → Answers trusted result.answer
+        (held.answered Session.Sent (reply.Refused fault.now)) Session.Sent result.after now now }
 {
     match fault.copy() {
         Ok(fault) => Turn {
-            answer: Ok(ReplyAnswer::Refused(fault)),
+            answer: Ok(ExecuteAnswer::Says(Outcome::Refused(fault))),
             after: Session::Idle,
         },
         Err(_) => halted(Halt::OutOfMemory, Session::Sent),
     }
 }
 
-fn sent_ended(done: Done) -> Turn<Result<ReplyAnswer, Halt>>
-    ensures { TellsAs result.answer (held.replied Session.Sent (reply.Ended done)) Session.Sent
-        result.after }
+fn sent_ended(done: Done) -> Turn<Result<ExecuteAnswer, Halt>>
+    ensures { (trusted : List (List ℕ)) (now : Devices) → Answers trusted result.answer
+        (held.answered Session.Sent (reply.Ended done)) Session.Sent result.after now now }
 {
     match done {
         Done::Defined => Turn {
-            answer: Ok(ReplyAnswer::Defined),
+            answer: Ok(ExecuteAnswer::Says(Outcome::Defined)),
             after: Session::Idle,
         },
         Done::Changed(count) => Turn {
-            answer: Ok(ReplyAnswer::Changed(count)),
+            answer: Ok(ExecuteAnswer::Says(Outcome::Changed(count))),
             after: Session::Idle,
         },
         Done::Answered(_) => halted(Halt::BadReply, Session::Sent),
     }
 }
 
+fn shown<V: Vault>(
+    alloc: Global,
+    store: &mut KeyStore,
+    vault: &mut V,
+    trusted: &[KeyPath],
+    accepted: &mut Option<Columns>,
+    header: &Header<'_>,
+) -> Turn<Result<ExecuteAnswer, Halt>>
+    requires { IsOf (V.seen vault.old).content store.old }
+    ensures answered { (beside : Devices)
+        → Answers trusted.now result.answer (held.answered Session.Sent
+        (reply.Columns header.now)) Session.Sent
+        result.after (record beside { vault = V.seen vault.old })
+        (record beside { vault = V.seen vault.new }) }
+    ensures of_vault { IsOf (V.seen vault.new).content store.new }
+    ensures accepted { accepted.new ≡ accepted_answered result.answer
+        (held.answered Session.Sent (reply.Columns header.now)) accepted.old }
+{
+    let columns = match accepted_columns(alloc, header.columns()) {
+        Ok(columns) => columns,
+        Err(_) => return halted(Halt::OutOfMemory, Session::Sent),
+    };
+    match show(alloc, store, vault, trusted, header) {
+        Ok(turn) => {
+            accept(accepted, columns);
+            Turn {
+                answer: Ok(turn.answer),
+                after: turn.after,
+            }
+        }
+        Err(halt) => halted(halt, Session::Sent),
+    }
+}
+
+fn sent_answered<V: Vault>(
+    alloc: Global,
+    store: &mut KeyStore,
+    vault: &mut V,
+    trusted: &[KeyPath],
+    accepted: &mut Option<Columns>,
+    reply: &Reply<'_>,
+) -> Turn<Result<ExecuteAnswer, Halt>>
+    requires { IsOf (V.seen vault.old).content store.old }
+    ensures answered { (beside : Devices)
+        → Answers trusted.now result.answer
+        (held.answered Session.Sent reply.now) Session.Sent result.after
+        (record beside { vault = V.seen vault.old })
+        (record beside { vault = V.seen vault.new }) }
+    ensures of_vault { IsOf (V.seen vault.new).content store.new }
+    ensures accepted { accepted.new ≡ accepted_answered result.answer
+        (held.answered Session.Sent reply.now) accepted.old }
+    ensures kept { opens_keys Session.Sent reply.now ≡ false → store.new ≡ store.old }
+{
+    match reply {
+        Reply::Columns(header) => shown(alloc, store, vault, trusted, accepted, header),
+        Reply::Ended(done) => sent_ended(*done),
+        Reply::Refused(fault) => sent_refused(fault),
+        Reply::Row(_) => halted(Halt::BadReply, Session::Sent),
+        Reply::Described(_) => halted(Halt::BadReply, Session::Sent),
+    }
+}
+
+/// Takes the first reply to a session's request to execute a batch. No key is opened but at its
+/// columns; with any other reply, awaited or not, the store stays as it is.
+pub fn answered<V: Vault>(
+    alloc: Global,
+    store: &mut KeyStore,
+    vault: &mut V,
+    trusted: &[KeyPath],
+    accepted: &mut Option<Columns>,
+    session: Session,
+    reply: &Reply<'_>,
+) -> Turn<Result<ExecuteAnswer, Halt>>
+    requires { IsOf (V.seen vault.old).content store.old }
+    ensures answered { (beside : Devices)
+        → Answers trusted.now result.answer (held.answered session reply.now) session result.after
+        (record beside { vault = V.seen vault.old })
+        (record beside { vault = V.seen vault.new }) }
+    ensures of_vault { IsOf (V.seen vault.new).content store.new }
+    ensures accepted { accepted.new ≡ accepted_answered result.answer
+        (held.answered session reply.now) accepted.old }
+    ensures kept { opens_keys session reply.now ≡ false → store.new ≡ store.old }
+{
+    match session {
+        Session::Sent => sent_answered(alloc, store, vault, trusted, accepted, reply),
+        Session::Idle => halted(Halt::BadReply, Session::Idle),
+        Session::Begun(batch) => halted(Halt::BadReply, Session::Begun(batch)),
+        Session::Pending(pending) => halted(Halt::BadReply, Session::Pending(pending)),
+        Session::Reading {
+            columns,
+            keys,
+            count,
+        } => halted(
+            Halt::BadReply,
+            Session::Reading {
+                columns,
+                keys,
+                count,
+            },
+        ),
+        Session::Skipping { columns, count } => {
+            halted(Halt::BadReply, Session::Skipping { columns, count })
+        }
+    }
+}
+
 /// What a row that was read says, and the session after it.
-fn row_told(
-    columns: Seq<ColumnType>,
-    keys: Seq<Option<CellKeys>>,
-    read: RowRead,
-) -> Turn<Result<ReplyAnswer, Halt>>
-    ensures { (old : Session)
-        → TellsAs result.answer (held.row_read columns keys read.number read.values) old
-        result.after }
+fn row_told(columns: Seq<ColumnType>, keys: Seq<Option<CellKeys>>, read: RowRead) -> Turn<RowAnswer>
+    ensures { result ≡ held.row_read columns keys read.number read.values }
 {
     let RowRead { number, values } = read;
     match values {
         Ok(values) => Turn {
-            answer: Ok(ReplyAnswer::Row(values)),
+            answer: RowAnswer::Row(values),
             after: Session::Reading {
                 columns,
                 keys,
@@ -184,7 +285,7 @@ fn row_told(
         Err(fault) => {
             drop(keys);
             Turn {
-                answer: Ok(ReplyAnswer::Failed(fault)),
+                answer: RowAnswer::Failed(fault),
                 after: Session::Skipping {
                     columns,
                     count: number,
@@ -200,13 +301,19 @@ fn read_next(
     keys: Seq<Option<CellKeys>>,
     count: u64,
     row: &RowParts<'_>,
-) -> Turn<Result<ReplyAnswer, Halt>>
-    ensures { TellsAs result.answer
-        (held.replied (Session.Reading columns keys count) (reply.Row row.now))
+) -> Turn<Result<RowAnswer, Halt>>
+    ensures { Takes result.answer
+        (held.next_row (Session.Reading columns keys count) (reply.Row row.now))
         (Session.Reading columns keys count) result.after }
 {
     match next_row(alloc, columns.as_slice(), keys.as_slice(), count, row) {
-        Ok(read) => row_told(columns, keys, read),
+        Ok(read) => {
+            let turn = row_told(columns, keys, read);
+            Turn {
+                answer: Ok(turn.answer),
+                after: turn.after,
+            }
+        }
         Err(halt) => halted(
             halt,
             Session::Reading {
@@ -222,9 +329,9 @@ fn skip_next(
     columns: Seq<ColumnType>,
     count: u64,
     row: &RowParts<'_>,
-) -> Turn<Result<ReplyAnswer, Halt>>
-    ensures { TellsAs result.answer
-        (held.replied (Session.Skipping columns count) (reply.Row row.now))
+) -> Turn<Result<RowAnswer, Halt>>
+    ensures { Takes result.answer
+        (held.next_row (Session.Skipping columns count) (reply.Row row.now))
         (Session.Skipping columns count) result.after }
 {
     if !is_row_of(columns.as_slice(), row.atoms()) {
@@ -232,7 +339,7 @@ fn skip_next(
     }
     match count.checked_add(1) {
         Some(more) => Turn {
-            answer: Ok(ReplyAnswer::Skipped),
+            answer: Ok(RowAnswer::Skipped),
             after: Session::Skipping {
                 columns,
                 count: more,
@@ -252,14 +359,14 @@ fn ends(done: Done, count: u64) -> bool
     }
 }
 
-fn reading_replied(
+fn reading_answered(
     alloc: Global,
     columns: Seq<ColumnType>,
     keys: Seq<Option<CellKeys>>,
     count: u64,
     reply: &Reply<'_>,
-) -> Turn<Result<ReplyAnswer, Halt>>
-    ensures { TellsAs result.answer (held.replied (Session.Reading columns keys count) reply.now)
+) -> Turn<Result<RowAnswer, Halt>>
+    ensures { Takes result.answer (held.next_row (Session.Reading columns keys count) reply.now)
         (Session.Reading columns keys count) result.after }
 {
     match reply {
@@ -269,7 +376,7 @@ fn reading_replied(
                 drop(columns);
                 drop(keys);
                 return Turn {
-                    answer: Ok(ReplyAnswer::Rows(count)),
+                    answer: Ok(RowAnswer::Rows(count)),
                     after: Session::Idle,
                 };
             }
@@ -293,12 +400,12 @@ fn reading_replied(
     }
 }
 
-fn skipping_replied(
+fn skipping_answered(
     columns: Seq<ColumnType>,
     count: u64,
     reply: &Reply<'_>,
-) -> Turn<Result<ReplyAnswer, Halt>>
-    ensures { TellsAs result.answer (held.replied (Session.Skipping columns count) reply.now)
+) -> Turn<Result<RowAnswer, Halt>>
+    ensures { Takes result.answer (held.next_row (Session.Skipping columns count) reply.now)
         (Session.Skipping columns count) result.after }
 {
     match reply {
@@ -307,7 +414,7 @@ fn skipping_replied(
             if ends(*done, count) {
                 drop(columns);
                 return Turn {
-                    answer: Ok(ReplyAnswer::Over),
+                    answer: Ok(RowAnswer::Over),
                     after: Session::Idle,
                 };
             }
@@ -319,99 +426,24 @@ fn skipping_replied(
     }
 }
 
-fn shown<V: Vault>(
+/// Takes the next reply to a session that reads or skips rows.
+pub fn row_answered(
     alloc: Global,
-    store: &mut KeyStore,
-    vault: &mut V,
-    trusted: &[KeyPath],
-    accepted: &mut Option<Columns>,
-    header: &Header<'_>,
-) -> Turn<Result<ReplyAnswer, Halt>>
-    requires { IsOf (V.seen vault.old).content store.old }
-    ensures replies { (beside : Devices)
-        → Replies trusted.now result.answer (held.replied Session.Sent
-        (reply.Columns header.now)) Session.Sent
-        result.after (record beside { vault = V.seen vault.old })
-        (record beside { vault = V.seen vault.new }) }
-    ensures of_vault { IsOf (V.seen vault.new).content store.new }
-    ensures accepted { accepted.new ≡ accepted_replied result.answer
-        (held.replied Session.Sent (reply.Columns header.now)) accepted.old }
-{
-    let columns = match accepted_columns(alloc, header.columns()) {
-        Ok(columns) => columns,
-        Err(_) => return halted(Halt::OutOfMemory, Session::Sent),
-    };
-    match show(alloc, store, vault, trusted, header) {
-        Ok(turn) => {
-            accept(accepted, columns);
-            Turn {
-                answer: Ok(turn.answer),
-                after: turn.after,
-            }
-        }
-        Err(halt) => halted(halt, Session::Sent),
-    }
-}
-
-fn sent_replied<V: Vault>(
-    alloc: Global,
-    store: &mut KeyStore,
-    vault: &mut V,
-    trusted: &[KeyPath],
-    accepted: &mut Option<Columns>,
-    reply: &Reply<'_>,
-) -> Turn<Result<ReplyAnswer, Halt>>
-    requires { IsOf (V.seen vault.old).content store.old }
-    ensures replies { (beside : Devices)
-        → Replies trusted.now result.answer
-        (held.replied Session.Sent reply.now) Session.Sent result.after
-        (record beside { vault = V.seen vault.old })
-        (record beside { vault = V.seen vault.new }) }
-    ensures of_vault { IsOf (V.seen vault.new).content store.new }
-    ensures accepted { accepted.new ≡ accepted_replied result.answer
-        (held.replied Session.Sent reply.now) accepted.old }
-    ensures kept { opens_keys Session.Sent reply.now ≡ false → store.new ≡ store.old }
-{
-    match reply {
-        Reply::Columns(header) => shown(alloc, store, vault, trusted, accepted, header),
-        Reply::Ended(done) => sent_ended(*done),
-        Reply::Refused(fault) => sent_refused(fault),
-        Reply::Row(_) => halted(Halt::BadReply, Session::Sent),
-        Reply::Described(_) => halted(Halt::BadReply, Session::Sent),
-    }
-}
-
-/// Takes a reply to a session's request to execute a batch. No key is opened but at its columns;
-/// with any other reply, awaited or not, the store stays as it is.
-pub fn replied<V: Vault>(
-    alloc: Global,
-    store: &mut KeyStore,
-    vault: &mut V,
-    trusted: &[KeyPath],
-    accepted: &mut Option<Columns>,
     session: Session,
     reply: &Reply<'_>,
-) -> Turn<Result<ReplyAnswer, Halt>>
-    requires { IsOf (V.seen vault.old).content store.old }
-    ensures replies { (beside : Devices)
-        → Replies trusted.now result.answer (held.replied session reply.now) session result.after
-        (record beside { vault = V.seen vault.old })
-        (record beside { vault = V.seen vault.new }) }
-    ensures of_vault { IsOf (V.seen vault.new).content store.new }
-    ensures accepted { accepted.new ≡ accepted_replied result.answer
-        (held.replied session reply.now) accepted.old }
-    ensures kept { opens_keys session reply.now ≡ false → store.new ≡ store.old }
+) -> Turn<Result<RowAnswer, Halt>>
+    ensures { Takes result.answer (held.next_row session reply.now) session result.after }
 {
     match session {
-        Session::Sent => sent_replied(alloc, store, vault, trusted, accepted, reply),
         Session::Reading {
             columns,
             keys,
             count,
-        } => reading_replied(alloc, columns, keys, count, reply),
-        Session::Skipping { columns, count } => skipping_replied(columns, count, reply),
+        } => reading_answered(alloc, columns, keys, count, reply),
+        Session::Skipping { columns, count } => skipping_answered(columns, count, reply),
         Session::Idle => halted(Halt::BadReply, Session::Idle),
         Session::Begun(batch) => halted(Halt::BadReply, Session::Begun(batch)),
         Session::Pending(pending) => halted(Halt::BadReply, Session::Pending(pending)),
+        Session::Sent => halted(Halt::BadReply, Session::Sent),
     }
 }

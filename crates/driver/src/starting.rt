@@ -4,7 +4,7 @@ ghost use Rattle.std.specs.Prelude.{◌≡◌, IfOk, Ok, Err, length};
 ghost use Rattle.conversation.specs.Sessions as held;
 ghost use Rattle.conversation.specs.Batches.{fit_batch};
 ghost use Rattle.conversation.specs.declared.sessions.Session.{Session};
-ghost use Rattle.driver.specs.Calls.{Comes, Describes, is_idle};
+ghost use Rattle.driver.specs.Calls.{Comes, Takes, is_idle};
 ghost use Rattle.driver.specs.Found.{FindsAs};
 ghost use Rattle.wire_messages.specs.declared.replies.Reply.TheVariants as reply;
 
@@ -137,7 +137,7 @@ fn begun_described(
     batch: FitBatch,
     description: &Description<'_>,
 ) -> Turn<Result<DescribeAnswer, Halt>>
-    ensures { Describes result.answer
+    ensures { Takes result.answer
         (held.described (Session.Begun batch) (reply.Described description.now))
         (Session.Begun batch) result.after }
 {
@@ -185,7 +185,7 @@ fn waiting(halt: Halt, batch: FitBatch) -> Turn<Result<DescribeAnswer, Halt>>
 }
 
 fn begun_refused(batch: FitBatch, fault: &SqlFault) -> Turn<Result<DescribeAnswer, Halt>>
-    ensures { Describes result.answer
+    ensures { Takes result.answer
         (held.described (Session.Begun batch) (reply.Refused fault.now)) (Session.Begun batch)
         result.after }
 {
@@ -209,7 +209,7 @@ fn begun_replied(
     batch: FitBatch,
     reply: &Reply<'_>,
 ) -> Turn<Result<DescribeAnswer, Halt>>
-    ensures { Describes result.answer (held.described (Session.Begun batch) reply.now)
+    ensures { Takes result.answer (held.described (Session.Begun batch) reply.now)
         (Session.Begun batch) result.after }
 {
     match reply {
@@ -234,7 +234,7 @@ pub fn described(
     session: Session,
     reply: &Reply<'_>,
 ) -> Turn<Result<DescribeAnswer, Halt>>
-    ensures { Describes result.answer (held.described session reply.now) session result.after }
+    ensures { Takes result.answer (held.described session reply.now) session result.after }
 {
     match session {
         Session::Begun(batch) => begun_replied(alloc, batch, reply),

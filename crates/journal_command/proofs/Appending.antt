@@ -1,20 +1,19 @@
 -- A record is added, and then the replies are put.
 use Rattle.std.proofs.Common.{◌≡◌, inl, ◌+◌, ◌<◌, ◌≤◌, ℕ, List, [], ◌∷◌, length, map, Option, Some, None, refl, sym, ap, subst, ◌∙◌, arith}
-use Rattle.std.specs.Prelude.{◌↔◌, option_to_list}
+use Rattle.std.specs.Prelude.{◌↔◌, option_to_list, Result, Ok, Err}
 use Rattle.ae_edge.specs.Devices.{WhereExposed, Adds}
 use Rattle.disk.specs.Moments.{Moments}
 use Rattle.journal_core.specs.Appends.{Appends, gate_after, most_bytes}
 use Rattle.journal_core.specs.declared.journal.Appended.{Appended}
 use Rattle.journal_core.specs.declared.journal.Appended.TheVariants as appended
+use Rattle.serve_command.specs.Requests.{Answers}
 use Rattle.serve_command.specs.ServeAll.{answer_frames}
 use Rattle.wire_messages.specs.declared.replies.Reply.{Reply}
 use Rattle.wire_encoding.specs.Packing.{packed}
-use Rattle.journal_command.specs.Durable.{AnswersBy, AppendsEntry, DurableState, IsServed, PutsBy}
-use Rattle.journal_command.specs.Keeping.{Asked, entries_of, frames_of, keeping}
+use Rattle.journal_command.specs.Durable.{AnswersRequest, AppendsEntry, DurableState, DurableView, IsServed, PutsBy, StopsRequest, outside_of}
+use Rattle.journal_command.specs.Keeping.{Asked, entries_of, keeping}
 use Rattle.journal_command.specs.Records.{HaveRoom}
 use Rattle.journal_command.specs.Stopping.{AreThere, Outside, StopsBy}
-use Rattle.journal_command.specs.declared.durable.Answered.{Answered}
-use Rattle.journal_command.specs.declared.durable.Answered.TheVariants as answered
 use Rattle.journal_command.specs.declared.endings.Stop.{Stop}
 use Rattle.journal_command.specs.declared.endings.Stop.TheVariants as stops
 use Rattle.journal_command.proofs.Adding.{adds_no_entry, appended_done, appended_tried, tries_none}
@@ -50,21 +49,21 @@ stops_alike : (stop : Stop) (frames others : List ℕ) (xs ys : List (List ℕ))
 stops_alike stop frames others xs ys before after e f s =
     subst (λ (l : List (List ℕ)). StopsBy stop others l before after) f (subst (λ (l : List ℕ). StopsBy stop l xs before after) e s)
 
-pub answers_so : (result : Answered) (held : List (List Asked)) (asked : Asked) (old mid new : DurableState) (replies : List Reply) (entry : Option (List ℕ)) (before after : Outside)
-    → IsServed replies entry asked old mid → old.held ≡ map frames_of held → new ≡ record mid { journal = new.journal }
-    → PutsBy result (packed asked.version replies) (option_to_list entry) before after
-    → AnswersBy result held asked old new before after
-answers_so answered.Whole held asked old mid new replies entry before after s e n p =
+pub answers_so : {A : Type 0} (result : Result A Stop) (asked : Asked) (mid : DurableState) (old new : DurableView) (replies : List Reply) (entry : Option (List ℕ))
+    → IsServed replies entry asked old.durable mid → new.durable ≡ record mid { journal = new.durable.journal }
+    → PutsBy result (packed asked.version replies) (option_to_list entry) (outside_of old) (outside_of new)
+    → Answers AnswersRequest StopsRequest result asked old new
+answers_so (Ok x) asked mid old new replies entry s n p = λ held e.
     let k = s.kept held e in
     record {
       state = ap (λ (d : DurableState). d.state) n ∙ s.after;
       held = ap (λ (d : DurableState). d.held) n ∙ k.1;
-      there = subst (λ (l : List (List ℕ)). AreThere l before after) k.0 p.0;
-      put = subst (λ (l : List Reply). Adds (packed asked.version l) before.out after.out) s.replies p.1;
+      there = subst (λ (l : List (List ℕ)). AreThere l (outside_of old) (outside_of new)) k.0 p.0;
+      put = subst (λ (l : List Reply). Adds (packed asked.version l) old.out new.out) s.replies p.1;
     }
-answers_so (answered.Stopped stop) held asked old mid new replies entry before after s e n p =
-    stops_alike stop (packed asked.version replies) (answer_frames old.state asked) (option_to_list entry) (entries_of (keeping old.state held asked).records) before after
-    (ap (packed asked.version) s.replies) (s.kept held e).0 p
+answers_so (Err stop) asked mid old new replies entry s n p = λ held e.
+    stops_alike stop (packed asked.version replies) (answer_frames old.durable.state asked) (option_to_list entry) (entries_of (keeping old.durable.state held asked).records)
+    (outside_of old) (outside_of new) (ap (packed asked.version) s.replies) (s.kept held e).0 p
 
 -- before anything was done
 pub unanswered : (frames : List ℕ) (more : List (List ℕ)) (old : Outside) → StopsBy stops.OutOfMemory frames more old old

@@ -1,5 +1,5 @@
 -- A server whose changes are kept in a journal: what it does with a request.
-use Rattle.std.specs.Prelude.{◌≡◌, ◌⊎◌, ℕ, ◌+◌, List, [], map, false, Option, IfSome, option_to_list}
+use Rattle.std.specs.Prelude.{◌≡◌, ◌⊎◌, ℕ, ◌+◌, List, [], map, false, Option, IfSome, option_to_list, Result, Ok, Err}
 use Rattle.ae_edge.specs.Devices.{Adds}
 use Rattle.disk.specs.Moments.{Moments}
 use Rattle.journal_core.specs.Appends.{IsMounted}
@@ -17,9 +17,8 @@ use Rattle.wire_messages.specs.declared.requests.Request.{Request}
 use Rattle.wire_messages.specs.declared.requests.Request.TheVariants.{Describe, Execute}
 use Rattle.journal_command.specs.Keeping.{Asked, HeldFrames, IsHolding, entries_of, frames_of, held_behind, keeping}
 use Rattle.journal_command.specs.Records.{AddsEntries, TriesEntries, HaveRoom, HasNoRoom}
-use Rattle.journal_command.specs.Stopping.{Outside, AreThere, StopsBy, Faults, CountsStop}
-use Rattle.journal_command.specs.declared.durable.Answered.{Answered}
-use Rattle.journal_command.specs.declared.durable.Answered.TheVariants as answered
+use Rattle.journal_command.specs.Stopping.{Outside, AreThere, StopsBy, outside}
+use Rattle.journal_command.specs.declared.endings.Stop.{Stop}
 
 -- the server's state, what is held of its sessions' transactions, and the journal
 pub record DurableState : Type 0 where
@@ -63,9 +62,9 @@ AppendsEntry appended.JournalFull gate after more old new = TriesEntries gate []
 -- ---- and it is answered
 
 -- of the frames of its replies, and of the bytes of its records
-abbrev pub PutsBy : Answered → List ℕ → List (List ℕ) → Outside → Outside → Type 0
-PutsBy answered.Whole frames more old new = AreThere more old new × Adds frames old.out new.out
-PutsBy (answered.Stopped stop) frames more old new = StopsBy stop frames more old new
+abbrev pub PutsBy : {A : Type 0} → Result A Stop → List ℕ → List (List ℕ) → Outside → Outside → Type 0
+PutsBy (Ok x) frames more old new = AreThere more old new × Adds frames old.out new.out
+PutsBy (Err stop) frames more old new = StopsBy stop frames more old new
 
 -- its records are on the disk, and all frames of its replies were put
 pub record AnswersWhole (all : List (List Asked)) (asked : Asked) (old new : DurableState) (before after : Outside) : Type 0 where
@@ -74,15 +73,20 @@ pub record AnswersWhole (all : List (List Asked)) (asked : Asked) (old new : Dur
   pub there : AreThere (entries_of (keeping old.state all asked).records) before after
   pub put : Adds (answer_frames old.state asked) before.out after.out
 
-abbrev pub AnswersBy : Answered → List (List Asked) → Asked → DurableState → DurableState → Outside → Outside → Type 0
-AnswersBy answered.Whole held asked old new before after = AnswersWhole held asked old new before after
-AnswersBy (answered.Stopped stop) held asked old new before after =
-    StopsBy stop (answer_frames old.state asked) (entries_of (keeping old.state held asked).records) before after
+-- with what is told of the disk and of the output
+pub record DurableView : Type 0 where
+  pub durable : DurableState
+  pub disk : Option Moments
+  pub out : Option (List ℕ)
 
-abbrev pub CountsAnswer : Answered → Faults → Faults → Type 0
-CountsAnswer answered.Whole old new = new ≡ old
-CountsAnswer (answered.Stopped stop) old new = CountsStop stop old new
+abbrev pub outside_of : DurableView → Outside
+outside_of view = outside view.durable.journal.gate view.disk view.out
 
-abbrev pub GoesOn : Answered → DurableState → Option Moments → Type 0
-GoesOn answered.Whole durable disk = IsSound durable disk
-GoesOn (answered.Stopped stop) durable disk = Unit {0}
+-- whatever requests are held: the request was answered whole
+abbrev pub AnswersRequest : DurableView → Asked → DurableView → Type 0
+AnswersRequest old asked new = (held : List (List Asked)) → old.durable.held ≡ map frames_of held → AnswersWhole held asked old.durable new.durable (outside_of old) (outside_of new)
+
+-- or it wasn't
+abbrev pub StopsRequest : Stop → DurableView → Asked → DurableView → Type 0
+StopsRequest stop old asked new = (held : List (List Asked)) → old.durable.held ≡ map frames_of held
+    → StopsBy stop (answer_frames old.durable.state asked) (entries_of (keeping old.durable.state held asked).records) (outside_of old) (outside_of new)

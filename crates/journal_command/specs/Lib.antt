@@ -8,4 +8,3 @@ pub mod Restarts
 pub mod Running
 pub mod Servable
 pub mod Stopping
-pub mod Turns

@@ -8,7 +8,7 @@ use Rattle.server_core.specs.Serve.{State}
 use Rattle.server_core.specs.States.{any_cell}
 use Rattle.recording_laws.specs.Recorded.{nothing_held}
 use Rattle.serve_command.specs.ServeAll.{messages_of, reply_frames}
-use Rattle.serve_command.specs.Serving.{Begins, AnswersFirst, BreaksOff, Ends, most_stream_bytes}
+use Rattle.serve_command.specs.Serving.{Begins, AnswersFirst, Ends, most_stream_bytes}
 use Rattle.serve_command.specs.declared.commands.Served.TheVariants as served
 use Rattle.transactions.specs.WellKept.{HasNoTransactions, IsStore}
 use Rattle.wire_frames.specs.Frames.{IsNotYet, IsRefused, is_request_head}
@@ -18,8 +18,6 @@ use Rattle.journal_command.specs.Records.{HaveRoom, TriesEntries}
 use Rattle.journal_command.specs.Stopping.{Outside}
 use Rattle.journal_command.specs.declared.endings.Ended.{Ended}
 use Rattle.journal_command.specs.declared.endings.Ended.TheVariants as ended
-use Rattle.journal_command.specs.declared.endings.Stop.{Stop}
-use Rattle.journal_command.specs.declared.endings.Stop.TheVariants as stops
 
 -- Replies were put to the requests that were answered, to the last of them perhaps not all; and the next one was tried, if any.
 -- A crash leaves a front of the records of all of these, and now those of the answered ones at least, each of which had room.
@@ -56,20 +54,6 @@ pub record HasKeptAll (start : State) (bytes taken : List ℕ) (old new : Outsid
   pub kept : HasRoomFor start taken old new
   pub all : AreAllOf bytes kept.kept.answered
   pub none : kept.kept.tried ≡ []
-
--- ---- where a request wasn't answered whole
-
-abbrev pub PutsOf : Stop → State → List ℕ → Option (List ℕ) → Option (List ℕ) → Type 0
-PutsOf stops.WriteFault start taken old new = BreaksOff start taken old new
-PutsOf stops.DiskFault start taken old new = AnswersFirst start taken old new
-PutsOf stops.JournalFull start taken old new = AnswersFirst start taken old new
-PutsOf stops.OutOfMemory start taken old new = AnswersFirst start taken old new ⊎ BreaksOff start taken old new
-
-abbrev pub KeepsBy : Stop → State → List ℕ → Outside → Outside → Type 0
-KeepsBy stops.WriteFault start taken old new = HasRoomFor start taken old new
-KeepsBy stops.DiskFault start taken old new = HasRoomFor start taken old new
-KeepsBy stops.JournalFull start taken old new = HasNoRoomFor start taken old new
-KeepsBy stops.OutOfMemory start taken old new = HasKept start taken old new
 
 -- ---- by how it ended
 

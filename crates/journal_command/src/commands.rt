@@ -1,124 +1,26 @@
 //! The command `serve --journal`.
 
-ghost use Rattle.std.specs.Prelude.{◌≡◌, ◌++◌, ◌<◌, ◌^◌, List, ℕ, length, map, IfSome, false};
+ghost use Rattle.std.specs.Prelude.{◌≡◌, IfSome, false};
 ghost use Rattle.ae_edge.specs.Devices.{Rose, WhereExposed};
 ghost use Rattle.journal_core.specs.Appends.{IsMounted};
-ghost use Rattle.recording_laws.specs.Recorded.{nothing_held};
-ghost use Rattle.server_core.specs.Serve.{State};
-ghost use Rattle.wire_frames.specs.declared.decoding.Way.TheVariants.{ToServer};
-ghost use Rattle.journal_command.specs.Durable.{IsSound};
 ghost use Rattle.journal_command.specs.Exact.{ServesExactly};
 ghost use Rattle.journal_command.specs.Journaling.{ServesFound, ServesFrom, ServesJournal};
-ghost use Rattle.journal_command.specs.Keeping.{frames_of};
-ghost use Rattle.journal_command.specs.Running.{ServesPieces};
 ghost use Rattle.journal_command.specs.Servable.{IsntDamaged, StaysServable};
-ghost use Rattle.journal_command.specs.Stopping.{Outside, faults, outside};
-ghost use Rattle.journal_command.specs.Turns.{Comes, CountsCame, EndsAt, IsSoFar};
 
 use crate::durable::Durable;
-use crate::endings::{Ended, Stop};
+use crate::endings::Ended;
 use crate::restarts::{Restarted, serve_records};
-use crate::turns::{Came, answer_held};
-use ae_base::blobs::Blob;
-use ae_base::limits::MOST_STREAM_BYTES;
 use ae_edge::sinks::Sink;
-use ae_edge::sources::{Source, Taken};
+use ae_edge::sources::Source;
 use disk::disks::Disk;
-use frame_feed::FrameFeed;
 use journal_core::journal::Journal;
 use journal_core::mounting::Mounted;
 use recording_laws::laws::prefixes_are_accepted;
+use serve_command::inputs::serve_input;
 use server_core::laws::{requests_are_serial_from, requests_may_be_asked};
 use server_core::server::Server;
 use std::alloc::Global;
-use wire_frames::{Way, frames_are_read_back, one_reading, streams_are_read_once};
-
-/// The most bytes that one call asks the input for.
-const MOST_PIECE_BYTES: usize = 65_536;
-
-/// What the end of the input means for what is held.
-fn at_end(feed: &FrameFeed) -> Ended
-    ensures { EndsAt result feed.now }
-{
-    match feed.finish() {
-        None => Ended::Done,
-        Some(place) => Ended::BadFrame(place),
-    }
-}
-
-/// Takes a piece into the feed, and answers the requests that are whole.
-fn answer_piece<W: Sink, D: Disk>(
-    alloc: Global,
-    piece: &Blob,
-    feed: &mut FrameFeed,
-    durable: &mut Durable,
-    out: &mut W,
-    disk: &mut D,
-) -> Came
-    requires way { feed.old.way ≡ ToServer }
-    requires sound { IsSound durable.old (D.seen disk.old).content }
-    ensures way { feed.new.way ≡ ToServer }
-    ensures comes { (start : State) (taken : List ℕ) (first : Outside)
-        → length (taken ++ piece.now) < 2 ^ 64
-        → IsSoFar start taken feed.old durable.old first
-        (outside durable.old.journal.gate (D.seen disk.old).content (W.seen out.old).content)
-        → Comes start result (taken ++ piece.now) feed.new durable.new first
-        (outside durable.new.journal.gate (D.seen disk.new).content (W.seen out.new).content) }
-    ensures sound { result ≡ Came.Waits → IsSound durable.new (D.seen disk.new).content }
-    ensures same { (D.seen disk.new).names ≡ (D.seen disk.old).names }
-    ensures counts { CountsCame result (faults (D.seen disk.old).faults (W.seen out.old).faults)
-        (faults (D.seen disk.new).faults (W.seen out.new).faults) }
-{
-    match feed.feed(piece.as_slice()) {
-        Ok(()) => answer_held(alloc, feed, durable, out, disk),
-        Err(_) => Came::Stopped(Stop::OutOfMemory),
-    }
-}
-
-/// Answers the requests of the input, piece by piece. At the limit one byte more is asked for.
-fn serve_pieces<S: Source, W: Sink, D: Disk>(
-    alloc: Global,
-    input: &mut S,
-    out: &mut W,
-    disk: &mut D,
-    durable: &mut Durable,
-) -> Ended
-    requires held { durable.old.held ≡ map frames_of nothing_held }
-    requires sound { IsSound durable.old (D.seen disk.old).content }
-    ensures serves { ServesPieces result durable.old.state (S.seen input.old).content
-        (S.seen input.new).content
-        (outside durable.old.journal.gate (D.seen disk.old).content (W.seen out.old).content)
-        (outside durable.new.journal.gate (D.seen disk.new).content (W.seen out.new).content) }
-    ensures same { (D.seen disk.new).names ≡ (D.seen disk.old).names }
-    ensures read { result ≡ Ended.ReadFault
-        → Rose (S.seen input.old).faults (S.seen input.new).faults }
-    ensures write { result ≡ Ended.WriteFault
-        → Rose (W.seen out.old).faults (W.seen out.new).faults }
-    ensures stored { result ≡ Ended.DiskFault
-        → Rose (D.seen disk.old).faults (D.seen disk.new).faults }
-{
-    requests_are_serial_from();
-    let mut feed = FrameFeed::new(alloc, Way::ToServer);
-    let mut left = MOST_STREAM_BYTES;
-    'pieces: loop {
-        match input.take(alloc, left.min(MOST_PIECE_BYTES).max(1)) {
-            Taken::Bytes(piece) => {
-                if left == 0 {
-                    return Ended::TooLong;
-                }
-                left -= piece.len();
-                match answer_piece(alloc, &piece, &mut feed, durable, out, disk) {
-                    Came::Waits => {}
-                    Came::Refused(place) => return Ended::BadFrame(place),
-                    Came::Stopped(stop) => return stop.ended(),
-                }
-            }
-            Taken::End => return at_end(&feed),
-            Taken::Failed => return Ended::ReadFault,
-            Taken::OutOfMemory => return Ended::OutOfMemory,
-        }
-    }
-}
+use wire_frames::{frames_are_read_back, one_reading, streams_are_read_once};
 
 /// Serves the input with a server that stands where the records have led.
 fn serve_from<S: Source, W: Sink, D: Disk>(
@@ -142,11 +44,12 @@ fn serve_from<S: Source, W: Sink, D: Disk>(
     ensures stored { result ≡ Ended.DiskFault
         → Rose (D.seen disk.old).faults (D.seen disk.new).faults }
 {
+    requests_are_serial_from();
     match Durable::new(alloc, server, journal) {
         Ok(mut durable) => {
-            let ended = serve_pieces(alloc, input, out, disk, &mut durable);
+            let ending = serve_input(alloc, input, out, disk, &mut durable);
             drop(durable);
-            ended
+            Ended::from(ending)
         }
         Err(_) => Ended::OutOfMemory,
     }
@@ -234,8 +137,8 @@ pub fn serve_journal<S: Source, W: Sink, D: Disk>(
     ensures servable { WhereExposed StaysServable (D.seen disk.old).content
         (D.seen disk.new).content }
     ensures undamaged { IsntDamaged result (D.seen disk.old).content (D.seen disk.new).content }
-    // The faults of the outside come only where a count rose.
     ensures same { (D.seen disk.new).names ≡ (D.seen disk.old).names }
+    // The faults of the outside come only where a count rose.
     ensures read { result ≡ Ended.ReadFault
         → Rose (S.seen input.old).faults (S.seen input.new).faults }
     ensures write { result ≡ Ended.WriteFault

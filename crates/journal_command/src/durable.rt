@@ -1,14 +1,15 @@
 //! A server whose changes are kept in a journal.
 
 ghost use Rattle.recording_laws.specs.Recorded as records;
-ghost use Rattle.std.specs.Prelude.{◌≡◌, ◌||◌, List, ℕ, None, false, map, option_to_list, IfOk, IfSome, OnOk};
+ghost use Rattle.std.specs.Prelude.{◌≡◌, ◌||◌, None, false, map, option_to_list, IfOk, IfSome, OnOk};
 ghost use Rattle.journal_core.specs.Appends.{CountsAppended, IsMounted};
 ghost use Rattle.journal_core.specs.Records.{IsRecord};
 ghost use Rattle.recording_laws.specs.Recorded.{nothing_held};
-ghost use Rattle.journal_command.specs.Durable.{AnswersBy, AppendsEntry, CountsAnswer, GoesOn, IsReadOf, IsServed, IsSound, IsStatementOf, PutsBy};
-ghost use Rattle.journal_command.specs.Keeping.{Asked, IsHolding, frames_of};
+ghost use Rattle.serve_command.specs.Requests.{CountsAnswer};
+ghost use Rattle.journal_command.specs.Durable.{AppendsEntry, IsReadOf, IsServed, IsStatementOf, PutsBy};
+ghost use Rattle.journal_command.specs.Keeping.{IsHolding, frames_of};
 ghost use Rattle.wire_encoding.specs.Packing.{packed};
-ghost use Rattle.journal_command.specs.Stopping.{faults, outside};
+ghost use Rattle.journal_command.specs.Stopping.{CountsStop, faults, outside};
 
 use crate::endings::Stop;
 use crate::keepers::Keeper;
@@ -21,6 +22,7 @@ use ae_edge::sinks::Sink;
 use ae_edge::streams::WriteError;
 use disk::disks::Disk;
 use journal_core::journal::{Appended, Journal};
+use serve_command::answering::Answering;
 use serve_command::answers::put_replies;
 use server_core::server::Server;
 use statement_analysis::sorts::Sort;
@@ -60,14 +62,6 @@ impl Model for Durable {
 struct Answer {
     replies: Seq<Reply<'static>>,
     entry: Option<Blob>,
-}
-
-/// What came of a request.
-#[derive(Clone, Copy)]
-pub(crate) enum Answered {
-    /// All replies were put.
-    Whole,
-    Stopped(Stop),
 }
 
 impl Durable {
@@ -199,7 +193,7 @@ impl Durable {
         answer: &Answer,
         out: &mut W,
         disk: &mut D,
-    ) -> Answered
+    ) -> Result<(), Stop>
         requires ready { self.old.journal.failed ≡ false }
         requires mounted { IfSome (D.seen disk.old).content (IsMounted self.old.journal.gate) }
         requires proper { IfSome answer.now.entry IsRecord }
@@ -208,48 +202,63 @@ impl Durable {
             (outside self.old.journal.gate (D.seen disk.old).content (W.seen out.old).content)
             (outside self.new.journal.gate (D.seen disk.new).content (W.seen out.new).content) }
         ensures kept { self.new ≡ record self.old { journal = self.new.journal } }
-        ensures ready { result ≡ Answered.Whole → self.new.journal.failed ≡ false }
-        ensures mounted { result ≡ Answered.Whole
-            → IfSome (D.seen disk.new).content (IsMounted self.new.journal.gate) }
+        ensures ready { OnOk result (self.new.journal.failed ≡ false) }
+        ensures mounted { OnOk result
+            (IfSome (D.seen disk.new).content (IsMounted self.new.journal.gate)) }
         ensures same { (D.seen disk.new).names ≡ (D.seen disk.old).names }
-        ensures counts { CountsAnswer result
+        ensures counts { CountsAnswer CountsStop result
             (faults (D.seen disk.old).faults (W.seen out.old).faults)
             (faults (D.seen disk.new).faults (W.seen out.new).faults) }
     {
         match self.append(alloc, &answer.entry, disk) {
             Appended::Done => match put_replies(alloc, version, answer.replies.as_slice(), out) {
-                Ok(()) => Answered::Whole,
-                Err(WriteError::Failed) => Answered::Stopped(Stop::WriteFault),
-                Err(WriteError::OutOfMemory) => Answered::Stopped(Stop::OutOfMemory),
+                Ok(()) => Ok(()),
+                Err(WriteError::Failed) => Err(Stop::WriteFault),
+                Err(WriteError::OutOfMemory) => Err(Stop::OutOfMemory),
             },
-            Appended::DiskFault => Answered::Stopped(Stop::DiskFault),
-            Appended::JournalFull => Answered::Stopped(Stop::JournalFull),
-            Appended::OutOfMemory => Answered::Stopped(Stop::OutOfMemory),
+            Appended::DiskFault => Err(Stop::DiskFault),
+            Appended::JournalFull => Err(Stop::JournalFull),
+            Appended::OutOfMemory => Err(Stop::OutOfMemory),
         }
     }
+}
 
-    /// Serves a request: its record is on the disk before a byte of its replies is put.
-    pub(crate) fn answer<W: Sink, D: Disk>(
+impl<D: Disk> Answering<D> for Durable {
+    ghost use Rattle.journal_command.specs.Durable.{AnswersRequest, DurableView, IsSound, StopsRequest};
+    ghost use Rattle.journal_command.specs.Stopping.{CountsStop, Faults, faults};
+
+    type Stop = Stop;
+
+    ghost View = { DurableView };
+
+    ghost seen = { λ durable disk out.
+        record { durable = durable; disk = (D.seen disk).content; out = out } };
+
+    ghost is_ready = { λ view. IsSound view.durable view.disk };
+
+    ghost answers = { AnswersRequest };
+
+    ghost stops = { StopsRequest };
+
+    ghost Faults = { Faults };
+
+    ghost failed = { λ disk out. faults (D.seen disk).faults out };
+
+    ghost counts = { CountsStop };
+
+    ghost names = { λ disk. (D.seen disk).names };
+
+    /// The record is on the disk before a byte of the replies is put.
+    fn answer<W: Sink>(
         &mut self,
         alloc: Global,
         asked: &Versioned<Request<'_>>,
         out: &mut W,
         disk: &mut D,
-    ) -> Answered
-        requires sound { IsSound self.old (D.seen disk.old).content }
-        ensures answers { (held : List (List Asked)) → self.old.held ≡ map frames_of held
-            → AnswersBy result held asked.now self.old self.new
-            (outside self.old.journal.gate (D.seen disk.old).content (W.seen out.old).content)
-            (outside self.new.journal.gate (D.seen disk.new).content (W.seen out.new).content) }
-        ensures sound { GoesOn result self.new (D.seen disk.new).content }
-        ensures same { (D.seen disk.new).names ≡ (D.seen disk.old).names }
-        ensures counts { CountsAnswer result
-            (faults (D.seen disk.old).faults (W.seen out.old).faults)
-            (faults (D.seen disk.new).faults (W.seen out.new).faults) }
-    {
+    ) -> Result<(), Stop> {
         match self.serve(alloc, asked) {
             Ok(answer) => self.append_and_put(alloc, asked.version, &answer, out, disk),
-            Err(_) => Answered::Stopped(Stop::OutOfMemory),
+            Err(_) => Err(Stop::OutOfMemory),
         }
     }
 }

@@ -1,7 +1,6 @@
 //! How serving ends.
 
-ghost use Rattle.std.specs.Prelude.{◌≡◌};
-ghost use Rattle.journal_command.specs.Endings.{ended_by};
+use serve_command::inputs::Ending;
 
 /// How the command ended.
 #[derive(Clone, Copy, PartialEq, Eq, Debug)]
@@ -34,16 +33,23 @@ pub(crate) enum Stop {
     OutOfMemory,
 }
 
-impl Stop {
-    /// How the command ends then.
-    pub(crate) fn ended(self) -> Ended
-        ensures { result ≡ ended_by self }
-    {
-        match self {
-            Stop::WriteFault => Ended::WriteFault,
-            Stop::DiskFault => Ended::DiskFault,
-            Stop::JournalFull => Ended::JournalFull,
-            Stop::OutOfMemory => Ended::OutOfMemory,
+impl From<Ending<Stop>> for Ended {
+    ghost use Rattle.std.specs.Prelude.{◌≡◌};
+    ghost use Rattle.journal_command.specs.Endings.{ended_by};
+
+    ghost from_gives = { λ ending ended. ended ≡ ended_by ending };
+
+    fn from(ending: Ending<Stop>) -> Ended {
+        match ending {
+            Ending::Done => Ended::Done,
+            Ending::ReadFault => Ended::ReadFault,
+            Ending::TooLong => Ended::TooLong,
+            Ending::BadFrame(place) => Ended::BadFrame(place),
+            Ending::OutOfMemory => Ended::OutOfMemory,
+            Ending::Stopped(Stop::WriteFault) => Ended::WriteFault,
+            Ending::Stopped(Stop::DiskFault) => Ended::DiskFault,
+            Ending::Stopped(Stop::JournalFull) => Ended::JournalFull,
+            Ending::Stopped(Stop::OutOfMemory) => Ended::OutOfMemory,
         }
     }
 }

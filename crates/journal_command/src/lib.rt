@@ -8,4 +8,3 @@ pub mod endings;
 mod keepers;
 mod replies;
 pub mod restarts;
-mod turns;

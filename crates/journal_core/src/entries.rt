@@ -31,8 +31,8 @@ impl Journal {
     pub fn entry_at<D: Disk>(&self, alloc: Global, disk: &mut D, place: u64) -> Entry
         requires mounted { IfSome (D.seen disk.old).content (IsMounted self.now.gate) }
         requires before { place ≤ self.now.gate }
-        ensures call { Calls (WhereExposed (Continues result place self.now.gate)) (CountsEntry result)
-            (D.seen disk.old) (D.seen disk.new) }
+        ensures call { Calls (WhereExposed (Continues result place self.now.gate))
+            (CountsEntry result) (D.seen disk.old) (D.seen disk.new) }
         ensures mounted { IfSome (D.seen disk.new).content (IsMounted self.now.gate) }
         ensures inside { IsNotPast result place self.now.gate }
         ensures fits { self.now.gate < 2 ^ 64 }

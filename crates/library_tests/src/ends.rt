@@ -6,12 +6,12 @@ ghost use Rattle.driver.specs.Clients.{IsOfVault};
 use ae_base::batches::Batch;
 use ae_base::lists::Seq;
 use ae_base::sessions::SessionId;
-use ae_base::values::Value;
 use ae_edge::memory::entropy::MemEntropy;
 use ae_edge::memory::vault::MemVault;
 use ae_edge::vaults::Vault;
-use conversation::answers::{DescribeAnswer, ReplyAnswer};
+use conversation::answers::{DescribeAnswer, ExecuteAnswer, RowAnswer};
 use conversation::faults::Halt;
+use conversation::outcomes;
 use driver::{Driver, Fault, Outcome};
 use server_core::server::Server;
 use std::alloc::{AllocError, Global};
@@ -72,19 +72,37 @@ fn describe(
     }
 }
 
-/// Takes what a reply says of a batch: a row, or what the batch came to.
-fn take(answer: ReplyAnswer, rows: &mut Seq<Seq<Value>>) -> Result<Option<Outcome>, AllocError> {
-    match answer {
-        ReplyAnswer::Row(row) => {
-            rows.push(row)?;
-            Ok(None)
+/// What a batch without rows came to.
+fn ended(outcome: outcomes::Outcome) -> Result<Outcome, Halt> {
+    match outcome {
+        outcomes::Outcome::Changed(count) => Ok(Outcome::Changed(count)),
+        outcomes::Outcome::Defined => Ok(Outcome::Defined),
+        outcomes::Outcome::Refused(fault) => Ok(Outcome::Refused(Fault::OfServer(fault))),
+        _ => Err(Halt::BadReply),
+    }
+}
+
+/// Hands the driver the replies with the rows of an answer: all rows, or why one isn't opened.
+fn read_rows(
+    alloc: Global,
+    driver: &mut Driver,
+    session: SessionId,
+    replies: &[Reply<'static>],
+) -> Result<Outcome, Halt>
+    ensures { driver.new.kept ≡ driver.old.kept }
+{
+    let mut rows = Seq::new(alloc);
+    let mut fault = None;
+    for reply in replies {
+        match driver.next_row(alloc, session, reply)? {
+            RowAnswer::Row(row) => rows.push(row)?,
+            RowAnswer::Failed(why) => fault = Some(why),
+            RowAnswer::Rows(_) | RowAnswer::Skipped | RowAnswer::Over => {}
         }
-        ReplyAnswer::Changed(count) => Ok(Some(Outcome::Changed(count))),
-        ReplyAnswer::Defined => Ok(Some(Outcome::Defined)),
-        ReplyAnswer::Refused(fault) => Ok(Some(Outcome::Refused(Fault::OfServer(fault)))),
-        ReplyAnswer::Failed(fault) => Ok(Some(Outcome::Refused(Fault::OfDriver(fault)))),
-        ReplyAnswer::Header(_) | ReplyAnswer::Rows(_) | ReplyAnswer::Skipped | ReplyAnswer::Over =>
-            Ok(None),
+    }
+    match fault {
+        Some(fault) => Ok(Outcome::Refused(Fault::OfDriver(fault))),
+        None => Ok(Outcome::Rows(rows)),
     }
 }
 
@@ -99,17 +117,16 @@ fn read(
     requires { IsOfVault (Some vault.old.keys) driver.old }
     ensures { IsOfVault (Some vault.new.keys) driver.new }
 {
-    let mut rows = Seq::new(alloc);
-    let mut end = None;
-    for reply in replies {
-        let answer = driver.replied(alloc, session, reply, vault)?;
-        if let Some(outcome) = take(answer, &mut rows)? {
-            end = Some(outcome);
+    let [first, rest @ ..] = replies else {
+        return Err(Halt::BadReply);
+    };
+    match driver.answered(alloc, session, first, vault)? {
+        ExecuteAnswer::Shows(_) => read_rows(alloc, driver, session, rest),
+        ExecuteAnswer::Skips(fault) => {
+            drop(read_rows(alloc, driver, session, rest)?);
+            Ok(Outcome::Refused(Fault::OfDriver(fault)))
         }
-    }
-    match end {
-        Some(outcome) => Ok(outcome),
-        None => Ok(Outcome::Rows(rows)),
+        ExecuteAnswer::Says(outcome) => ended(outcome),
     }
 }
 

@@ -1,16 +1,17 @@
 //! What a run counts.
 
-ghost use Rattle.std.specs.Prelude.{◌≡◌, ◌+◌, None, IfOk, string_bytes};
+ghost use Rattle.std.specs.Prelude.{◌≡◌, ◌+◌, ◌≤◌, ◌^◌, None, IfOk, MatchResult, string_bytes};
 ghost use Rattle.conversation.specs.declared.outcomes.Outcome.TheVariants as outcome_of;
 ghost use Rattle.outcome_text.specs.Counting as counting;
 ghost use Rattle.outcome_text.specs.Printing as printing;
 
 use crate::texts::{is_refusal, listing_text, text_of};
+use conversation::counts::plus;
 use conversation::outcomes::{Listing, Outcome};
 use std::alloc::{AllocError, Global};
 use std::fmt::Write;
 
-/// What a run counts. There is no memory for as many of anything as 64 bits count.
+/// What a run counts.
 #[derive(Clone, Copy, PartialEq, Eq, Debug)]
 pub struct Tally {
     /// The outcomes that are refusals.
@@ -26,15 +27,6 @@ pub struct Tally {
 pub struct Page {
     pub text: String,
     pub tally: Tally,
-}
-
-fn plus(count: u64, more: u64) -> Result<u64, AllocError>
-    ensures { IfOk result (λ sum. sum ≡ count + more) }
-{
-    match count.checked_add(more) {
-        Some(sum) => Ok(sum),
-        None => Err(AllocError),
-    }
 }
 
 /// How many refusals an outcome is.
@@ -78,9 +70,10 @@ impl Tally {
         self.errors > 0
     }
 
-    /// With one more request.
+    /// With one more request; out of memory exactly where their number leaves 64 bits.
     pub fn asked(&self) -> Result<Tally, AllocError>
-        ensures { IfOk result (λ tally. tally ≡ counting.asked self.now) }
+        ensures { MatchResult result (λ tally. tally ≡ counting.asked self.now)
+            (λ _. 2 ^ 64 ≤ self.now.requests + 1) }
     {
         let requests = plus(self.requests, 1)?;
         Ok(Tally { requests, ..*self })

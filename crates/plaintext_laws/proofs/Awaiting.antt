@@ -52,7 +52,7 @@ use Rattle.ae_base.specs.declared.types.Enc.{Enc}
 use Rattle.wire_messages.specs.Messages.{Description}
 use Rattle.conversation.specs.Sessions as conversation
 use Rattle.conversation.specs.Sessions.{begun, first_open, row_read, titles_of}
-use Rattle.conversation.specs.Talk.{Talk, Draws, Opens, Heard, Got, Said, hear, described_outcome, heard_answer, nothing_shown, with_row}
+use Rattle.conversation.specs.Talk.{Talk, Draws, Opens, Heard, Got, Said, hear, described_outcome, heard_next, nothing_shown, with_row}
 use Rattle.conversation.specs.Turns as turns
 use Rattle.conversation.specs.Turns.{Accepted, on_result, opening_by, asked, described_on, describing, executing, running, hearing, saying, rested, answered_on, rows_on, reading, over_on}
 use Rattle.conversation.specs.declared.faults.DriverFault.{DriverFault}
@@ -191,7 +191,7 @@ module _ (laws : LawsBelow) (Proper : Type 0) where
     on_read : (rest : List Reply) (shown : Listing) (n : ℕ) (r : Result (List Value) DriverFault)
         → ((values : List Value) → r ≡ Ok values → IsHeard P rest (session.Reading (types_shown columns) os n) (with_row shown values))
         → ((f : DriverFault) → P (Said (Some (outcome.Broken shown (Some f))) (session.Skipping (types_shown columns) n)) rest)
-        → IsHeardBy (λ after more. IsHeard P rest after more) (λ heard. P heard rest) (heard_answer shown (row_read (types_shown columns) os n r))
+        → IsHeardBy (λ after more. IsHeard P rest after more) (λ heard. P heard rest) (heard_next shown (Some (row_read (types_shown columns) os n r)))
     on_read rest shown n (Ok values) h g = h values refl
     on_read rest shown n (Err f) h g = g f
 

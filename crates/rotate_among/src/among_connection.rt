@@ -13,6 +13,7 @@ use ae_base::frames::FrameVersion;
 use ae_base::lists::Seq;
 use ae_edge::sinks::Sink;
 use ae_edge::streams::WriteError;
+use conversation::counts::past_64_bits;
 use run_command::peer_connection::{Places, Waiting, join, put_exchange};
 use script_run::connection::{Connection, EndFault, Front, LentReply, ReplyFault};
 use server_core::peers::Peer;
@@ -233,7 +234,7 @@ impl<T: Sink, P: Peer> Connection for AmongConnection<'_, '_, T, P> {
                 used: 0,
             })
         } else {
-            Err(AllocError)
+            Err(past_64_bits())
         }
     }
 

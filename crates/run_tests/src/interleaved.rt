@@ -15,8 +15,9 @@ use ae_base::values::{Datum, Value};
 use ae_edge::entropies::Entropy;
 use ae_edge::memory::entropy::MemEntropy;
 use ae_edge::vaults::Vault;
-use conversation::answers::{DescribeAnswer, ReplyAnswer};
+use conversation::answers::{DescribeAnswer, ExecuteAnswer, RowAnswer};
 use conversation::faults::{DriverFault, Halt};
+use conversation::outcomes::Outcome;
 use driver::Driver;
 use std::alloc::{AllocError, Global};
 use std::test::Fail;
@@ -149,18 +150,35 @@ fn executed<V: Vault, E: Entropy>(
     }
 }
 
-fn replied<V: Vault>(
+fn answered<V: Vault>(
     alloc: Global,
     driver: &mut Driver,
     number: SessionId,
     frame: &[u8],
     vault: &mut V,
-) -> Result<ReplyAnswer, Halt>
+) -> Result<ExecuteAnswer, Halt>
     requires { IsOfVault (V.seen vault.old).content driver.old }
     ensures { IsOfVault (V.seen vault.new).content driver.new }
 {
     match reply_of(alloc, frame) {
-        Some(reply) => driver.replied(alloc, number, &reply, vault),
+        Some(reply) => driver.answered(alloc, number, &reply, vault),
+        None => Err(Halt::OutOfMemory),
+    }
+}
+
+#[tactic(auto, using(crate::proofs::Keeping::of_same))]
+fn next_row<V: Vault>(
+    alloc: Global,
+    driver: &mut Driver,
+    number: SessionId,
+    frame: &[u8],
+    vault: &V,
+) -> Result<RowAnswer, Halt>
+    requires { IsOfVault (V.seen vault.now).content driver.old }
+    ensures { IsOfVault (V.seen vault.now).content driver.new }
+{
+    match reply_of(alloc, frame) {
+        Some(reply) => driver.next_row(alloc, number, &reply),
         None => Err(Halt::OutOfMemory),
     }
 }
@@ -185,13 +203,20 @@ fn is_ready(answer: Result<DescribeAnswer, Halt>) -> bool {
     matches!(answer, Ok(DescribeAnswer::Ready(_)))
 }
 
-fn is_header(answer: Result<ReplyAnswer, Halt>) -> bool {
-    matches!(answer, Ok(ReplyAnswer::Header(_)))
+fn shows_columns(answer: Result<ExecuteAnswer, Halt>) -> bool {
+    matches!(answer, Ok(ExecuteAnswer::Shows(_)))
 }
 
-fn is_row_of(answer: Result<ReplyAnswer, Halt>, number: i64) -> bool {
+fn is_change_of(answer: Result<ExecuteAnswer, Halt>, count: u64) -> bool {
     match answer {
-        Ok(ReplyAnswer::Row(values)) => match values.as_slice() {
+        Ok(ExecuteAnswer::Says(Outcome::Changed(changed))) => changed == count,
+        _ => false,
+    }
+}
+
+fn is_row_of(answer: Result<RowAnswer, Halt>, number: i64) -> bool {
+    match answer {
+        Ok(RowAnswer::Row(values)) => match values.as_slice() {
             [Value::Is(Datum::Num(n))] => *n == number,
             _ => false,
         },
@@ -199,15 +224,14 @@ fn is_row_of(answer: Result<ReplyAnswer, Halt>, number: i64) -> bool {
     }
 }
 
-/// How many rows were changed, or read.
-fn count_of(answer: Result<ReplyAnswer, Halt>) -> Option<u64> {
+fn is_end_of(answer: Result<RowAnswer, Halt>, count: u64) -> bool {
     match answer {
-        Ok(ReplyAnswer::Changed(count)) | Ok(ReplyAnswer::Rows(count)) => Some(count),
-        _ => None,
+        Ok(RowAnswer::Rows(rows)) => rows == count,
+        _ => false,
     }
 }
 
-fn is_stray(answer: Result<ReplyAnswer, Halt>) -> bool {
+fn is_stray<A: Drop>(answer: Result<A, Halt>) -> bool {
     matches!(answer, Err(Halt::BadReply))
 }
 
@@ -218,7 +242,7 @@ fn keep_their_batches<V: Vault, E: Entropy>(
     driver: &mut Driver,
     vault: &mut V,
     entropy: &mut E,
-) -> [bool; 13]
+) -> [bool; 15]
     requires { IsOfVault (V.seen vault.old).content driver.old }
 {
     let (one, two) = (session(1), session(2));
@@ -243,11 +267,13 @@ fn keep_their_batches<V: Vault, E: Entropy>(
             executed(alloc, driver, one, vault, entropy),
             SELECTS.execute,
         ),
-        is_header(replied(alloc, driver, one, COLUMNS, vault)),
-        is_stray(replied(alloc, driver, two, ROW, vault)),
-        is_row_of(replied(alloc, driver, one, ROW, vault), 5),
-        count_of(replied(alloc, driver, two, CHANGED, vault)) == Some(2),
-        count_of(replied(alloc, driver, one, ANSWERED, vault)) == Some(1),
+        shows_columns(answered(alloc, driver, one, COLUMNS, vault)),
+        is_stray(answered(alloc, driver, one, COLUMNS, vault)),
+        is_stray(answered(alloc, driver, two, ROW, vault)),
+        is_stray(next_row(alloc, driver, two, ROW, vault)),
+        is_row_of(next_row(alloc, driver, one, ROW, vault), 5),
+        is_change_of(answered(alloc, driver, two, CHANGED, vault), 2),
+        is_end_of(next_row(alloc, driver, one, ANSWERED, vault), 1),
     ]
 }
 
@@ -269,6 +295,6 @@ fn sessions_in_turn_keep_their_batches(rt: HostRuntime) -> Result<(), Fail> {
     drop(entropy);
     drop(driver);
     drop(vault);
-    assert_eq!(rt; kept, [true; 13]);
+    assert_eq!(rt; kept, [true; 15]);
     Ok(())
 }

@@ -1,34 +1,30 @@
 -- What is known of a session by what it answers.
-use Rattle.std.proofs.Common.{◌≡◌, ℕ, List, Option, Some, None, Result, Ok, Err, Bool, true, false, refl, sym, ◌∙◌, ap, subst}
+use Rattle.std.proofs.Common.{◌≡◌, ℕ, List, Option, Some, None, Result, Ok, Err, Bool, true, false, refl, sym, ap, subst}
 use Rattle.std.specs.Prelude.{IfSome, ◌+◌, ◌==◌, if◌then◌else◌}
 use Rattle.ae_base.specs.declared.batches.Batch.{Batch}
 use Rattle.ae_base.specs.declared.types.Enc.{Enc}
 use Rattle.ae_base.specs.declared.values.Value.{Value}
 use Rattle.hmac_kdf.specs.Keys.{Keys}
-use Rattle.wire_messages.specs.Messages.{Description, Header}
+use Rattle.wire_messages.specs.Messages.{Description}
 use Rattle.wire_messages.specs.declared.replies.Done.{Done}
 use Rattle.wire_messages.specs.declared.replies.Done.TheVariants as done
 use Rattle.wire_messages.specs.declared.replies.Reply.{Reply}
 use Rattle.wire_messages.specs.declared.replies.Reply.TheVariants as reply
 use Rattle.conversation.specs.declared.answers.DescribeAnswer.{DescribeAnswer}
-use Rattle.conversation.specs.declared.answers.ReplyAnswer.{ReplyAnswer}
-use Rattle.conversation.specs.declared.answers.ReplyAnswer.TheVariants as answer
+use Rattle.conversation.specs.declared.answers.RowAnswer.{RowAnswer}
+use Rattle.conversation.specs.declared.answers.RowAnswer.TheVariants as answer
 use Rattle.conversation.specs.declared.faults.DriverFault.{DriverFault}
-use Rattle.conversation.specs.declared.faults.Halt.{Halt}
 use Rattle.conversation.specs.declared.outcomes.Listing.{Listing}
 use Rattle.conversation.specs.declared.sessions.ColumnType.{ColumnType}
 use Rattle.conversation.specs.declared.sessions.Session.{Session}
 use Rattle.conversation.specs.declared.sessions.Session.TheVariants.{Idle, Begun, Pending, Sent, Reading, Skipping}
+use Rattle.conversation.specs.declared.sessions.Turn.{Turn}
 use Rattle.conversation.specs.Cells.{is_row_of, read_atoms}
-use Rattle.conversation.specs.Devices.{Devices}
-use Rattle.conversation.specs.Sessions.{described, described_as, readied, first_open, encs_of, Told, Tells, Shows, Stray, replied, sent_ended, rows_ended, row_read}
-use Rattle.conversation.specs.Talk.{Hearing, More, Got, Missed, Said, hear, heard_answer, heard_description, described_outcome, broken, nothing_shown}
-use Rattle.conversation.specs.Turns.{Accepted}
-use Rattle.driver.specs.Accepted.{accepted_told}
-use Rattle.driver.specs.Calls.{SaysAs, ShowsAs, HaltsAs}
+use Rattle.conversation.specs.Sessions.{described, described_as, readied, first_open, encs_of, next_row, rows_ended, row_read}
+use Rattle.conversation.specs.Talk.{Hearing, More, Got, Missed, Said, hear, heard_next, heard_row, heard_description, described_outcome, broken, nothing_shown}
 use Rattle.script_run.specs.declared.around.RowHeard.{RowHeard}
 use Rattle.script_run.specs.declared.around.RowHeard.TheVariants as row
-use Rattle.script_run.specs.Heard.{IsOfFirst, HeardAs}
+use Rattle.script_run.specs.Heard.{HeardAs}
 use Rattle.script_run.specs.Onward.{IsBegun, IsRows, IsDescribed, RowsStay}
 
 -- ---- a description
@@ -81,102 +77,51 @@ known (Skipping columns count) r = tt
 pub is_described : (session : Session) (r : Reply) (a : DescribeAnswer) (after : Session) → described session r ≡ Some (record { answer = a; after = after }) → IsDescribed a after
 is_described session r a after e = subst (λ w. IfSome w (λ t. IsDescribed t.answer t.after)) e (known session r)
 
--- ---- the first reply to an execution
-
-of_shown : (trusted : List (List ℕ)) (x : ReplyAnswer) (header : Header) (after : Session) (before now : Devices) → ShowsAs trusted x header after before now → IsOfFirst x
-of_shown trusted (answer.Header titles) header after before now h = tt
-of_shown trusted (answer.Failed f) header after before now h = tt
-of_shown trusted (answer.Row values) header after before now h = h
-of_shown trusted (answer.Rows count) header after before now h = h
-of_shown trusted (answer.Changed count) header after before now h = tt
-of_shown trusted answer.Defined header after before now h = tt
-of_shown trusted (answer.Refused f) header after before now h = tt
-of_shown trusted answer.Skipped header after before now h = h
-of_shown trusted answer.Over header after before now h = h
-
-of_ended : (trusted : List (List ℕ)) (x : ReplyAnswer) (d : Done) (after : Session) (before now : Devices) → SaysAs trusted x (sent_ended d) after before now → IsOfFirst x
-of_ended trusted x done.Defined after before now h = subst IsOfFirst (sym h.0) tt
-of_ended trusted x (done.Changed count) after before now h = subst IsOfFirst (sym h.0) tt
-of_ended trusted x (done.Answered count) after before now h = absurd h
-
-pub of_first : (trusted : List (List ℕ)) (x : ReplyAnswer) (r : Reply) (after : Session) (before now : Devices) → SaysAs trusted x (replied Sent r) after before now → IsOfFirst x
-of_first trusted x (reply.Columns header) after before now h = of_shown trusted x header after before now h
-of_first trusted x (reply.Ended d) after before now h = of_ended trusted x d after before now h
-of_first trusted x (reply.Refused f) after before now h = subst IsOfFirst (sym h.0) tt
-of_first trusted x (reply.Row atoms) after before now h = absurd h
-of_first trusted x (reply.Described d) after before now h = absurd h
-
 -- ---- rows
 
--- rows alone are told of, or the end
-abbrev pub TellsRows : Told → Type 0
-TellsRows (Tells (answer.Row values) after) = IsRows after
-TellsRows (Tells answer.Skipped after) = IsRows after
-TellsRows (Tells (answer.Header titles) after) = ⊥
-TellsRows (Tells (answer.Rows count) after) = Unit {0}
-TellsRows (Tells (answer.Changed count) after) = Unit {0}
-TellsRows (Tells answer.Defined after) = Unit {0}
-TellsRows (Tells (answer.Refused f) after) = Unit {0}
-TellsRows (Tells (answer.Failed f) after) = Unit {0}
-TellsRows (Tells answer.Over after) = Unit {0}
-TellsRows (Shows header) = ⊥
-TellsRows Stray = Unit {0}
+-- where more is awaited, it is rows
+abbrev AwaitsRows : RowAnswer → Session → Type 0
+AwaitsRows (answer.Row values) after = IsRows after
+AwaitsRows answer.Skipped after = IsRows after
+AwaitsRows (answer.Rows count) after = Unit {0}
+AwaitsRows (answer.Failed f) after = Unit {0}
+AwaitsRows answer.Over after = Unit {0}
 
-read_tells : (columns : List ColumnType) (keys : List (Option Keys)) (count : ℕ) (read : Result (List Value) DriverFault) → TellsRows (row_read columns keys count read)
-read_tells columns keys count (Ok values) = tt
-read_tells columns keys count (Err f) = tt
+abbrev NextAwaits : Option (Turn RowAnswer) → Type 0
+NextAwaits o = IfSome o (λ t. AwaitsRows t.answer t.after)
 
-if_tells : (b : Bool) (told : Told) → TellsRows told → TellsRows (if b then told else Stray)
-if_tells true told h = h
-if_tells false told h = tt
+row_awaits : (columns : List ColumnType) (keys : List (Option Keys)) (count : ℕ) (read : Result (List Value) DriverFault) → let t = row_read columns keys count read in AwaitsRows t.answer t.after
+row_awaits columns keys count (Ok values) = tt
+row_awaits columns keys count (Err f) = tt
 
-ended_rows : (count : ℕ) (d : Done) → TellsRows (rows_ended count (answer.Rows count) d)
-ended_rows count done.Defined = tt
-ended_rows count (done.Changed n) = tt
-ended_rows count (done.Answered n) = if_tells (n == count) (Tells (answer.Rows count) Idle) tt
+if_awaits : (b : Bool) (t : Turn RowAnswer) → AwaitsRows t.answer t.after → NextAwaits (if b then Some t else None)
+if_awaits true t h = h
+if_awaits false t h = tt
 
-ended_over : (count : ℕ) (d : Done) → TellsRows (rows_ended count answer.Over d)
-ended_over count done.Defined = tt
-ended_over count (done.Changed n) = tt
-ended_over count (done.Answered n) = if_tells (n == count) (Tells answer.Over Idle) tt
+end_awaits : (count : ℕ) (says : RowAnswer) (d : Done) → AwaitsRows says Idle → NextAwaits (rows_ended count says d)
+end_awaits count says done.Defined h = tt
+end_awaits count says (done.Changed n) h = tt
+end_awaits count says (done.Answered n) h = if_awaits (n == count) (record { answer = says; after = Idle }) h
 
-pub tells_rows : (session : Session) → IsRows session → (r : Reply) → TellsRows (replied session r)
-tells_rows (Reading columns keys count) w (reply.Row atoms) =
-    if_tells (is_row_of columns atoms) (row_read columns keys (count + 1) (read_atoms (count + 1) 1 columns keys atoms))
-    (read_tells columns keys (count + 1) (read_atoms (count + 1) 1 columns keys atoms))
-tells_rows (Reading columns keys count) w (reply.Ended d) = ended_rows count d
-tells_rows (Reading columns keys count) w (reply.Refused f) = tt
-tells_rows (Reading columns keys count) w (reply.Columns header) = tt
-tells_rows (Reading columns keys count) w (reply.Described d) = tt
-tells_rows (Skipping columns count) w (reply.Row atoms) = if_tells (is_row_of columns atoms) (Tells answer.Skipped (Skipping columns (count + 1))) tt
-tells_rows (Skipping columns count) w (reply.Ended d) = ended_over count d
-tells_rows (Skipping columns count) w (reply.Refused f) = tt
-tells_rows (Skipping columns count) w (reply.Columns header) = tt
-tells_rows (Skipping columns count) w (reply.Described d) = tt
-tells_rows Idle w r = absurd w
-tells_rows (Begun batch) w r = absurd w
-tells_rows (Pending pending) w r = absurd w
-tells_rows Sent w r = absurd w
+next_awaits : (session : Session) (r : Reply) → NextAwaits (next_row session r)
+next_awaits (Reading columns keys count) (reply.Row atoms) =
+    if_awaits (is_row_of columns atoms) (row_read columns keys (count + 1) (read_atoms (count + 1) 1 columns keys atoms))
+    (row_awaits columns keys (count + 1) (read_atoms (count + 1) 1 columns keys atoms))
+next_awaits (Reading columns keys count) (reply.Ended d) = end_awaits count (answer.Rows count) d tt
+next_awaits (Reading columns keys count) (reply.Refused f) = tt
+next_awaits (Reading columns keys count) (reply.Columns header) = tt
+next_awaits (Reading columns keys count) (reply.Described d) = tt
+next_awaits (Skipping columns count) (reply.Row atoms) = if_awaits (is_row_of columns atoms) (record { answer = answer.Skipped; after = Skipping columns (count + 1) }) tt
+next_awaits (Skipping columns count) (reply.Ended d) = end_awaits count answer.Over d tt
+next_awaits (Skipping columns count) (reply.Refused f) = tt
+next_awaits (Skipping columns count) (reply.Columns header) = tt
+next_awaits (Skipping columns count) (reply.Described d) = tt
+next_awaits Idle r = tt
+next_awaits (Begun batch) r = tt
+next_awaits (Pending pending) r = tt
+next_awaits Sent r = tt
 
--- what is said is what is told, and no device is touched
-pub says_told : (trusted : List (List ℕ)) (told : Told) → TellsRows told → (x : ReplyAnswer) (after : Session) (before now : Devices)
-    → SaysAs trusted x told after before now → (told ≡ Tells x after) × (now ≡ before)
-says_told trusted (Tells wanted next) w x after before now h = (ap (λ y. Tells y next) (sym h.0) ∙ ap (λ y. Tells x y) (sym h.1), h.2)
-says_told trusted (Shows header) w x after before now h = absurd w
-says_told trusted Stray w x after before now h = absurd h
-
--- no columns are accepted
-pub rows_accepted : (told : Told) → TellsRows told → (old : Accepted) → accepted_told told old ≡ old
-rows_accepted (Tells wanted next) w old = refl
-rows_accepted (Shows header) w old = absurd w
-rows_accepted Stray w old = refl
-
-pub halts_told : (trusted : List (List ℕ)) (told : Told) → TellsRows told → (h : Halt) (before now : Devices) → HaltsAs trusted h told before now → now ≡ before
-halts_told trusted (Tells wanted next) w h before now p = p.1
-halts_told trusted (Shows header) w h before now p = absurd w
-halts_told trusted Stray w h before now p = p.1
-
-pub hears_rows : (session : Session) → IsRows session → (shown : Listing) (r : Reply) → hear session shown r ≡ heard_answer shown (replied session r)
+pub hears_rows : (session : Session) → IsRows session → (shown : Listing) (r : Reply) → hear session shown r ≡ heard_next shown (next_row session r)
 hears_rows (Reading columns keys count) w shown r = refl
 hears_rows (Skipping columns count) w shown r = refl
 hears_rows Idle w shown r = absurd w
@@ -184,25 +129,19 @@ hears_rows (Begun batch) w shown r = absurd w
 hears_rows (Pending pending) w shown r = absurd w
 hears_rows Sent w shown r = absurd w
 
--- ---- where more is awaited, it is rows
-
 abbrev IsMore : Hearing → Type 0
 IsMore (More after shown) = Unit {0}
 IsMore (Got heard) = ⊥
 IsMore Missed = ⊥
 
-more_rows : (x : ReplyAnswer) (after : Session) (shown more : Listing) → TellsRows (Tells x after) → heard_answer shown (Tells x after) ≡ More after more → IsRows after
+more_rows : (x : RowAnswer) (after : Session) (shown more : Listing) → AwaitsRows x after → heard_row shown x after ≡ More after more → IsRows after
 more_rows (answer.Row values) after shown more w e = w
 more_rows answer.Skipped after shown more w e = w
-more_rows (answer.Header titles) after shown more w e = absurd w
 more_rows (answer.Rows count) after shown more w e = absurd (subst IsMore (sym e) tt)
-more_rows (answer.Changed count) after shown more w e = absurd (subst IsMore (sym e) tt)
-more_rows answer.Defined after shown more w e = absurd (subst IsMore (sym e) tt)
-more_rows (answer.Refused f) after shown more w e = absurd (subst IsMore (sym e) tt)
 more_rows (answer.Failed f) after shown more w e = absurd (subst IsMore (sym e) tt)
 more_rows answer.Over after shown more w e = absurd (subst IsMore (sym e) tt)
 
-pub rows_stay : (heard : RowHeard) (x : ReplyAnswer) (after : Session) (shown more : Listing) → TellsRows (Tells x after)
-    → HeardAs heard more after (heard_answer shown (Tells x after)) → RowsStay after heard
-rows_stay row.More x after shown more w e = more_rows x after shown more w e
-rows_stay (row.Said comes) x after shown more w e = tt
+pub rows_stay : (session : Session) (r : Reply) (heard : RowHeard) (x : RowAnswer) (after : Session) (shown more : Listing) → next_row session r ≡ Some (record { answer = x; after = after })
+    → HeardAs heard more after (heard_row shown x after) → RowsStay after heard
+rows_stay session r row.More x after shown more s e = more_rows x after shown more (subst NextAwaits s (next_awaits session r)) e
+rows_stay session r (row.Said comes) x after shown more s e = tt

@@ -3,16 +3,16 @@ use Rattle.std.proofs.Common.{◌≡◌, ℕ, List, [], ◌∷◌, ◌++◌, Opt
 use Rattle.ae_edge.specs.Devices.{Adds, AddsPrefix, IsPrefix}
 use Rattle.conversation.specs.Talk.{Talk, Ends}
 use Rattle.conversation.specs.declared.sessions.Session.{Session}
-use Rattle.script_run.specs.Closing.{ClosesBehind, closed_as}
-use Rattle.script_run.specs.Shares.{Outside, Wire}
+use Rattle.script_run.specs.Closing.{ClosesBehind, closed_as, wire_as}
+use Rattle.script_run.specs.Shares.{ClientSide, Outside, Wire}
 use Rattle.script_run.specs.Ways.{Advances, Proceeds, StopsBy}
 use Rattle.script_run.specs.declared.stops.Stop.{Stop}
 use Rattle.script_run.proofs.Going.{leads_then}
 use Rattle.script_run.specs.declared.connection.EndFault.{EndFault}
 use Rattle.script_run.specs.declared.connection.EndFault.TheVariants as ending
 use Rattle.script_run.specs.declared.connection.ReplyFault.TheVariants as fault
-use Rattle.script_run.specs.Connections.{Finishes}
-use Rattle.script_run.proofs.Lent.{fails_same}
+use Rattle.script_run.specs.Connections.{Finishes, in_version}
+use Rattle.script_run.proofs.Lent.{AreSame, fails_same, leads_in, leads_same}
 
 -- ---- nothing is put
 
@@ -42,17 +42,38 @@ finished_tap (Err (ending.Replies fault.OutOfMemory)) old new f = front_still ol
 
 -- ---- to the end, or no further
 
-pub ends_then : (result : Result (Unit {0}) Stop) (t : Talk) (sessions : List Session) (a b c : Outside) → Proceeds t (Ends sessions) a b
+ends_then : (result : Result (Unit {0}) Stop) (t : Talk) (sessions : List Session) (a b c : Outside) → Proceeds t (Ends sessions) a b
     → Advances result (Ends sessions) (λ o. Ends sessions) b (closed_as b.wire.closed c) → Advances result t (λ o. Ends sessions) a (closed_as a.wire.closed c)
 ends_then result t sessions a b c p l =
     leads_then result t (Ends sessions) (λ o. Ends sessions) a b (closed_as a.wire.closed c) p
     (subst (λ w. Advances result (Ends sessions) (λ o. Ends sessions) b (closed_as w c)) p.put.wire.closed l)
 
-pub stops_so : (s : Stop) (t : Talk) (a b : Outside) → StopsBy s t a b → StopsBy s t a (closed_as a.wire.closed b)
+-- the same is lent after the end
+pub same_at_end : (result : Result (Unit {0}) Stop) (t : Talk) (sessions : List Session) (a b : Outside) (client : ClientSide) (wire : Wire) → Proceeds t (Ends sessions) a b
+    → Advances result (Ends sessions) (λ o. Ends sessions) b (closed_as b.wire.closed (record { client = client; wire = wire }))
+    → AreSame a (closed_as a.wire.closed (record { client = client; wire = wire }))
+same_at_end result t sessions a b client wire p l =
+    leads_same result t (λ o. Ends sessions) a (closed_as a.wire.closed (record { client = client; wire = wire }))
+    (ends_then result t sessions a b (record { client = client; wire = wire }) p l)
+
+pub lent_at_end : (result : Result (Unit {0}) Stop) (t : Talk) (sessions : List Session) (a b : Outside) (client : ClientSide) (wire : Wire) → Proceeds t (Ends sessions) a b
+    → Advances result (Ends sessions) (λ o. Ends sessions) b (closed_as b.wire.closed (record { client = client; wire = wire }))
+    → Advances result t (λ o. Ends sessions) a (record { client = client; wire = in_version a.wire.version (wire_as a.wire.closed wire) })
+lent_at_end result t sessions a b client wire p l =
+    leads_in result t (λ o. Ends sessions) a client (wire_as a.wire.closed wire) a.wire.version (same_at_end result t sessions a b client wire p l).version
+    (ends_then result t sessions a b (record { client = client; wire = wire }) p l)
+
+stops_so : (s : Stop) (t : Talk) (a b : Outside) → StopsBy s t a b → StopsBy s t a (closed_as a.wire.closed b)
 stops_so s t a b h = let e = (fails_same s t a b h).closed in subst (λ w. StopsBy s t a (closed_as w b)) e h
 
-pub behind_end : (t : Talk) (sessions : List Session) (a b c : Outside) → Proceeds t (Ends sessions) a b → c.wire.tap.content ≡ b.wire.tap.content → ClosesBehind t a c.wire
-behind_end t sessions a b c p e = inr (record { sessions = sessions; end = b; goes = p; tap = e })
+pub lent_where_stopped : (s : Stop) (t : Talk) (a : Outside) (client : ClientSide) (wire : Wire) → StopsBy s t a (record { client = client; wire = wire })
+    → StopsBy s t a (record { client = client; wire = in_version a.wire.version (wire_as a.wire.closed wire) })
+lent_where_stopped s t a client wire h =
+    leads_in {A = Unit {0}} (Err s) t (λ o. t) a client (wire_as a.wire.closed wire) a.wire.version (fails_same s t a (record { client = client; wire = wire }) h).version
+    (stops_so s t a (record { client = client; wire = wire }) h)
+
+pub behind_end : (t : Talk) (sessions : List Session) (a b : Outside) (wire : Wire) → Proceeds t (Ends sessions) a b → wire.tap.content ≡ b.wire.tap.content → ClosesBehind t a wire
+behind_end t sessions a b wire p e = inr (record { sessions = sessions; end = b; goes = p; tap = e })
 
 pub as_before : (s : Stop) (t : Talk) (a b : Outside) → StopsBy s t a b → ClosesBehind t a b.wire
 as_before s t a b h = inl (fails_same s t a b h).closed

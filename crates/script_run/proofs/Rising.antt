@@ -1,5 +1,5 @@
 -- Where a run stopped for a device, a call of it failed.
-use Rattle.std.proofs.Common.{ℕ, List, Option, Some, None, Bool, true, false, ◌⊎◌, inl, inr, subst}
+use Rattle.std.proofs.Common.{List, Option, Some, None, Bool, true, false, ◌⊎◌, inl, inr, subst}
 use Rattle.ae_base.specs.declared.frames.FrameVersion.{FrameVersion}
 use Rattle.ae_edge.specs.Devices.{Rose, Stays}
 use Rattle.ae_edge.proofs.Interface.{rose_before}

@@ -2,22 +2,18 @@
 use Rattle.std.proofs.Common.{◌≡◌, ℕ, List, Option, Some, None, Result, Ok, Err, refl, ◌∙◌, ap, subst}
 use Rattle.std.specs.Prelude.{IfOk}
 use Rattle.std.specs.declared.alloc.AllocError.{AllocError}
-use Rattle.ae_base.specs.declared.batches.Batch.{Batch}
-use Rattle.conversation.specs.declared.faults.DriverFault.{DriverFault}
 use Rattle.conversation.specs.declared.sessions.Session.{Session}
 use Rattle.conversation.specs.declared.sessions.Session.TheVariants.{Idle, Begun, Pending, Sent, Reading, Skipping}
 use Rattle.conversation.specs.Turns.{Accepted}
 use Rattle.conversation.specs.Talk.{Talk}
 use Rattle.driver.specs.Clients.{Client, columns_of, session_of}
-use Rattle.driver.specs.declared.outcomes.Fault.TheVariants.{OfDriver}
 use Rattle.driver.specs.declared.outcomes.Outcome as told
-use Rattle.driver.specs.declared.outcomes.Outcome.TheVariants.{Refused}
 use Rattle.column_rotate.specs.declared.rotations.Next.{Next}
 use Rattle.column_rotate.specs.declared.rotations.Next.TheVariants as next
 use Rattle.column_rotate.specs.declared.sent.Sent as sends
 use Rattle.column_rotate.specs.declared.sent.Sent.TheVariants as sent
 use Rattle.column_rotate.specs.Laws.{RotationsAreNext}
-use Rattle.column_rotate.specs.Moves.{Move, IsMove, first, move}
+use Rattle.column_rotate.specs.Moves.{Move, IsMove, move}
 use Rattle.column_rotate.specs.Rotating.{Ends, beginning, heard, moved, rotating, told_of}
 use Rattle.script_run.specs.Shares.{Outside}
 use Rattle.script_run.specs.Ways.{Proceeds}

@@ -15,26 +15,13 @@ ghost use Rattle.script_run.specs.Ways.{IsReadOut, Advances};
 ghost use Rattle.script_run.specs.Onward.{IsBegun, IsRows, IsDescribed, Keeps, Leaves, RowsStay, shown_first, said_first, told_on, first_on, row_on};
 
 use crate::stops::Stop;
-use ae_base::lists::Seq;
-use ae_base::names::Title;
 use ae_base::sessions::SessionId;
-use conversation::answers::DescribeAnswer;
+use conversation::answers::{DescribeAnswer, ExecuteAnswer};
 use conversation::faults::DriverFault;
 use conversation::outcomes::{Listing, Outcome};
 use driver::Driver;
 use std::alloc::Global;
 use wire_messages::requests::Request;
-
-/// The first reply to an execution.
-#[derive(Drop)]
-pub enum First {
-    /// Rows follow, under these titles.
-    Shows(Seq<Title>),
-    /// A key of a column wasn't opened, and rows follow that are skipped.
-    Skips(DriverFault),
-    /// That is all.
-    Says(Outcome),
-}
 
 /// What a reply says while rows are awaited.
 #[derive(Drop)]
@@ -119,7 +106,7 @@ pub trait Around {
         alloc: Global,
         driver: &mut Driver,
         number: SessionId,
-    ) -> Result<First, Stop>
+    ) -> Result<ExecuteAnswer, Stop>
         requires sent { session_of driver.old number ≡ Sent }
         requires of_vault { IsOfVault (outside self.old).client.vault.content driver.old }
         ensures leads { (aloud : Bool) (k : Onward) → Advances result

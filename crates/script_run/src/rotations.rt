@@ -21,6 +21,7 @@ use ae_base::names::Name;
 use ae_base::sessions::SessionId;
 use column_rotate::laws::rotations_are_next;
 use column_rotate::{Next, Rotation};
+use conversation::counts::past_64_bits;
 use conversation::faults::DriverFault;
 use conversation::outcomes::Outcome;
 use driver::{Driver, Fault};
@@ -113,7 +114,6 @@ pub(crate) fn run_rotation<A: Around>(
         Err(_) => return Err(Stop::OutOfMemory),
     };
     let mut outcome = None;
-    // there is no memory for as many rows
     'batches: for _ in 0..u64::MAX {
         let batch = match next_of(alloc, driver, &mut rotation, outcome) {
             Ok(Next::Send(batch)) => batch,
@@ -126,7 +126,7 @@ pub(crate) fn run_rotation<A: Around>(
             Err(stop) => return Err(stop),
         };
     }
-    Err(Stop::OutOfMemory)
+    Err(Stop::from(past_64_bits()))
 }
 
 /// Rotates a table, and prints what that came to.

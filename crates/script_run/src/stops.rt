@@ -1,6 +1,7 @@
 //! Why a run stops.
 
 use ae_edge::streams::WriteError;
+use std::alloc::AllocError;
 
 /// Why a conversation is followed no further.
 #[derive(Clone, Copy, PartialEq, Eq, Debug)]
@@ -18,6 +19,17 @@ pub enum Stop {
     /// The text or the tap couldn't be put.
     WriteFault,
     OutOfMemory,
+}
+
+impl From<AllocError> for Stop {
+    ghost use Rattle.std.specs.Prelude.{◌≡◌};
+    ghost use Rattle.script_run.specs.declared.stops.Stop.TheVariants.{OutOfMemory};
+
+    ghost from_gives = { λ _ stop. stop ≡ OutOfMemory };
+
+    fn from(_error: AllocError) -> Stop {
+        Stop::OutOfMemory
+    }
 }
 
 impl From<WriteError> for Stop {

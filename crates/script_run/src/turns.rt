@@ -15,13 +15,13 @@ ghost use Rattle.script_run.specs.Ways.{Advances};
 ghost use Rattle.script_run.specs.declared.turns.Described.TheVariants as described_as;
 ghost use Rattle.script_run.specs.Onward.{IsBegun, IsBlind, IsCleared, IsRows, IsReady, Keeps, Leaves, LooksAside, SaysThen, ready_on};
 
-use crate::around::{Around, First, RowHeard};
+use crate::around::{Around, RowHeard};
 use crate::hearing::is_skipping;
 use crate::stops::Stop;
 use ae_base::batches::Batch;
 use ae_base::lists::Seq;
 use ae_base::sessions::SessionId;
-use conversation::answers::DescribeAnswer;
+use conversation::answers::{DescribeAnswer, ExecuteAnswer};
 use conversation::faults::DriverFault;
 use conversation::outcomes::{DescribedParam, Listing, Outcome};
 use driver::Driver;
@@ -234,12 +234,12 @@ fn hear_answer<A: Around>(
         (λ _. Leaves number driver.old driver.new (A.outside env.new).client.vault.content) }
 {
     match env.hear_answer(alloc, driver, number) {
-        Ok(First::Shows(titles)) => {
+        Ok(ExecuteAnswer::Shows(titles)) => {
             let rows = Seq::new(alloc);
             read(alloc, env, driver, number, aloud, Listing { titles, rows })
         }
-        Ok(First::Skips(fault)) => say_and_rest(alloc, env, driver, number, aloud, fault),
-        Ok(First::Says(outcome)) => say(alloc, env, aloud, outcome),
+        Ok(ExecuteAnswer::Skips(fault)) => say_and_rest(alloc, env, driver, number, aloud, fault),
+        Ok(ExecuteAnswer::Says(outcome)) => say(alloc, env, aloud, outcome),
         Err(stop) => Err(stop),
     }
 }

@@ -13,7 +13,7 @@ use Rattle.wire_encoding.specs.Spelling.{SpellsRequest, asked_frame}
 use Rattle.wire_frames.specs.Frames.{Placed, End, Whole, Refused, Rest, EndsSo, ReadsAs, RequestFrames, IsRefused, is_request_head, is_no_header, placed_from, stated}
 use Rattle.wire_frames.specs.Laws.{HasOneReading, IsReadBack, IsReadOnce}
 use Rattle.serve_command.specs.ServeAll.{requests_of}
-use Rattle.serve_command.specs.Serving.{Begins, IsProper}
+use Rattle.serve_command.specs.Requests.{Begins, IsProper}
 
 -- ---- beginnings
 

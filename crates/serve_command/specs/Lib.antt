@@ -1,6 +1,9 @@
 pub mod Answers
 pub mod Correspond
+pub mod Inputs
+pub mod Requests
 pub mod ServeAll
+pub mod Servers
 pub mod Serving
 pub mod Turns
 pub mod Laws

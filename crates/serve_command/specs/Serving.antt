@@ -1,12 +1,9 @@
 -- The command `serve`: what it puts of what it took of its input, by how it ended.
-use Rattle.std.specs.Prelude.{◌≡◌, ◌⊎◌, ℕ, ◌+◌, ◌≤◌, ◌<◌, List, [], ◌∷◌, ◌++◌, length, take, flat_map, Option}
+use Rattle.std.specs.Prelude.{◌≡◌, ◌⊎◌, ℕ, ◌+◌, ◌≤◌, ◌<◌, List, [], ◌∷◌, ◌++◌, length, take, Option}
 use Rattle.std.specs.Io.KnownBytes.{IsAtEnd}
-use Rattle.std.specs.List.{All}
 use Rattle.ae_edge.specs.Devices.{Adds, AddsPrefix, IsPrefix, Removes}
-use Rattle.wire_messages.specs.Conditions.{IsRequest}
 use Rattle.wire_messages.specs.declared.requests.Request.{Request}
 use Rattle.wire_payloads.specs.declared.versioned.Versioned.{Versioned}
-use Rattle.wire_encoding.specs.Spelling.{asked_frame}
 use Rattle.wire_frames.specs.Frames.{End, Whole, Refused, Rest}
 use Rattle.server_core.specs.Laws.{AreServedSerially}
 use Rattle.server_core.specs.Serve.{State, empty_state}
@@ -14,17 +11,9 @@ use Rattle.serve_command.specs.ServeAll.{ServeAll, answer_frames, messages_of, r
 use Rattle.serve_command.specs.declared.commands.Served.{Served}
 use Rattle.serve_command.specs.declared.commands.Served.TheVariants as served
 pub use Rattle.ae_base.specs.Limits.{most_stream_bytes}
+pub use Rattle.serve_command.specs.Requests.{Begins, IsOpen, IsProper}
 
 -- ---- how far it came
-
--- the message meets its conditions
-abbrev pub IsProper : Versioned Request → Type 0
-IsProper asked = IsRequest asked.message
-
--- the bytes begin with the frames of these requests, and then come the others
-pub record Begins (bytes : List ℕ) (requests : List (Versioned Request)) (others : List ℕ) : Type 0 where
-  pub whole : bytes ≡ flat_map asked_frame requests ++ others
-  pub proper : All IsProper requests
 
 -- the bytes taken end so, and the frames of all replies to their requests were put
 pub record AnswersAll (first : State) (taken : List ℕ) (end : End) (old new : Option (List ℕ)) : Type 0 where
@@ -51,11 +40,6 @@ pub record BreaksOff (first : State) (taken : List ℕ) (old new : Option (List 
   pub put : Adds (reply_frames first answered ++ front) old new
 
 -- they end after a frame, or inside one
-abbrev pub IsOpen : End → Type 0
-IsOpen Whole = Unit {0}
-IsOpen (Refused place) = ⊥
-IsOpen (Rest place) = Unit {0}
-
 abbrev pub AnswersOpen : State → List ℕ → Option (List ℕ) → Option (List ℕ) → Type 0
 AnswersOpen first taken old new = (end : End) × IsOpen end × AnswersAll first taken end old new
 

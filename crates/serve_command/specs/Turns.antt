@@ -1,6 +1,5 @@
 -- What is done with the bytes that a feed holds.
-use Rattle.std.specs.Prelude.{◌≡◌, ◌⊎◌, ℕ, ◌<◌, ◌≤◌, List, [], length, take, flat_map, false, Option}
-use Rattle.ae_edge.specs.Devices.{Adds, AddsPrefix, Rose, Stays}
+use Rattle.std.specs.Prelude.{◌≡◌, ℕ, ◌≤◌, List, length, take, flat_map, false}
 use Rattle.wire_messages.specs.declared.requests.Request.{Request}
 use Rattle.wire_payloads.specs.declared.versioned.Versioned.{Versioned}
 use Rattle.wire_encoding.specs.Spelling.{SpellsRequest, asked_frame}
@@ -9,15 +8,11 @@ use Rattle.wire_frames.specs.declared.decoding.Way.TheVariants.{ToServer}
 use Rattle.frame_feed.specs.Feeding.{Feeding}
 use Rattle.frame_feed.specs.declared.messages.Message.{Message}
 use Rattle.frame_feed.specs.declared.messages.Message.TheVariants.{Asks, Tells}
-use Rattle.server_core.specs.Serve.{State, serve}
-use Rattle.serve_command.specs.ServeAll.{answer_frames, reply_frames, state_after}
-use Rattle.serve_command.specs.Serving.{Begins, AnswersAll, AnswersFirst, BreaksOff}
-use Rattle.serve_command.specs.declared.commands.Served.{Served}
-use Rattle.serve_command.specs.declared.commands.Served.TheVariants as served
+use Rattle.serve_command.specs.Requests.{AnswersEach, AnswersSome, AreAnswered, Begins, StopsAfter}
 use Rattle.serve_command.specs.declared.turns.Turn.{Turn}
 use Rattle.serve_command.specs.declared.turns.Turn.TheVariants as turn
-use Rattle.serve_command.specs.declared.turns.Came.{Came}
-use Rattle.serve_command.specs.declared.turns.Came.TheVariants as came
+use Rattle.serve_command.specs.declared.turns.Drained.{Drained}
+use Rattle.serve_command.specs.declared.turns.Drained.TheVariants as drained
 
 -- ---- one request
 
@@ -25,15 +20,14 @@ abbrev pub IsAsked : Message → Type 0
 IsAsked (Asks asked) = Unit {0}
 IsAsked (Tells payload) = ⊥
 
--- the request was answered, whole or in part
-abbrev pub Answers : Turn → ℕ → Message → State → State → Option (List ℕ) → Option (List ℕ) → Type 0
-Answers (turn.Answered count) used (Asks asked) state after old new =
-    (count ≡ used) × (after ≡ (serve state asked.message).after) × Adds (answer_frames state asked) old new
-Answers turn.WriteFault used (Asks asked) state after old new = AddsPrefix (answer_frames state asked) old new
-Answers turn.OutOfMemory used (Asks asked) state after old new = AddsPrefix (answer_frames state asked) old new
-Answers turn.Waits used (Asks asked) state after old new = ⊥
-Answers (turn.Refused place) used (Asks asked) state after old new = ⊥
-Answers turn used (Tells payload) state after old new = ⊥
+-- the request was answered, whole or not
+abbrev pub Responds : {V E : Type 0} → (V → Versioned Request → V → Type 0) → (E → V → Versioned Request → V → Type 0) → Turn E → ℕ → Message → V → V → Type 0
+Responds answers stops (turn.Answered count) used (Asks asked) old new = (count ≡ used) × answers old asked new
+Responds answers stops (turn.Stopped stop) used (Asks asked) old new = stops stop old asked new
+Responds answers stops turn.Waits used (Asks asked) old new = ⊥
+Responds answers stops (turn.Refused place) used (Asks asked) old new = ⊥
+Responds answers stops turn.OutOfMemory used (Asks asked) old new = ⊥
+Responds answers stops turn used (Tells payload) old new = ⊥
 
 -- a request stands next, whose frame has so many bytes
 pub record IsNext (feed : Feeding) (request : Versioned Request) (used : ℕ) : Type 0 where
@@ -42,63 +36,61 @@ pub record IsNext (feed : Feeding) (request : Versioned Request) (used : ℕ) : 
   pub spells : SpellsRequest request (take used feed.held)
 
 -- a request stands next, and was answered
-pub record AnswersNext (feed : Feeding) (used : ℕ) (state after : State) (old new : Option (List ℕ)) : Type 0 where
+pub record AnswersNext {V : Type 0} (answers : V → Versioned Request → V → Type 0) (feed : Feeding) (used : ℕ) (old new : V) : Type 0 where
   pub request : Versioned Request
   pub next : IsNext feed request used
   pub waits : feed.failed ≡ false
-  pub left : after ≡ (serve state request.message).after
-  pub put : Adds (answer_frames state request) old new
+  pub answered : answers old request new
 
--- a request stands next, and was answered in part
-pub record BreaksNext (feed : Feeding) (state : State) (old new : Option (List ℕ)) : Type 0 where
+-- a request stands next, and wasn't answered whole
+pub record StopsNext {V : Type 0} (stops : V → Versioned Request → V → Type 0) (feed : Feeding) (old new : V) : Type 0 where
   pub request : Versioned Request
   pub used : ℕ
   pub next : IsNext feed request used
-  pub put : AddsPrefix (answer_frames state request) old new
+  pub stopped : stops old request new
 
-abbrev pub Turns : Turn → Feeding → State → State → Option (List ℕ) → Option (List ℕ) → Type 0
-Turns (turn.Answered used) feed state after old new = AnswersNext feed used state after old new
-Turns turn.Waits feed state after old new = IsNotYet is_request_head feed.held × (feed.failed ≡ false) × (after ≡ state) × (new ≡ old)
-Turns (turn.Refused place) feed state after old new = (place ≡ feed.at) × IsRefused is_request_head SpellsRequest feed.held × (new ≡ old)
-Turns turn.WriteFault feed state after old new = BreaksNext feed state old new
-Turns turn.OutOfMemory feed state after old new = (new ≡ old) ⊎ BreaksNext feed state old new
+abbrev pub Turns : {V E : Type 0} → (V → Versioned Request → V → Type 0) → (E → V → Versioned Request → V → Type 0) → Turn E → Feeding → V → V → Type 0
+Turns answers stops (turn.Answered used) feed old new = AnswersNext answers feed used old new
+Turns answers stops turn.Waits feed old new = IsNotYet is_request_head feed.held × (feed.failed ≡ false) × (new ≡ old)
+Turns answers stops (turn.Refused place) feed old new = (place ≡ feed.at) × IsRefused is_request_head SpellsRequest feed.held × (new ≡ old)
+Turns answers stops turn.OutOfMemory feed old new = new ≡ old
+Turns answers stops (turn.Stopped stop) feed old new = StopsNext (stops stop) feed old new
 
--- the count of faults stays, but where a call failed
-abbrev pub CountsTurn : Turn → ℕ → ℕ → Type 0
-CountsTurn (turn.Answered used) = Stays
-CountsTurn turn.Waits = Stays
-CountsTurn (turn.Refused place) = Stays
-CountsTurn turn.WriteFault = Rose
-CountsTurn turn.OutOfMemory = Stays
+-- the counts of faults stay, but where a request wasn't answered whole
+abbrev pub CountsTurn : {F E : Type 0} → (E → F → F → Type 0) → Turn E → F → F → Type 0
+CountsTurn counts (turn.Answered used) old new = new ≡ old
+CountsTurn counts turn.Waits old new = new ≡ old
+CountsTurn counts (turn.Refused place) old new = new ≡ old
+CountsTurn counts turn.OutOfMemory old new = new ≡ old
+CountsTurn counts (turn.Stopped stop) old new = counts stop old new
+
+-- a condition holds, where a request was answered
+abbrev pub WhereAnswered : {E : Type 0} → Turn E → Type 0 → Type 0
+WhereAnswered (turn.Answered used) P = P
+WhereAnswered turn.Waits P = Unit {0}
+WhereAnswered (turn.Refused place) P = Unit {0}
+WhereAnswered turn.OutOfMemory P = Unit {0}
+WhereAnswered (turn.Stopped stop) P = Unit {0}
 
 -- ---- all that is held
 
--- the bytes taken begin with requests, which were answered from the first state on, and the feed holds the others
-pub record Stands (start : State) (taken : List ℕ) (feed : Feeding) (state : State) (old now : Option (List ℕ)) : Type 0 where
-  pub answered : List (Versioned Request)
-  pub begins : Begins taken answered feed.held
-  pub place : feed.at ≡ length (flat_map asked_frame answered)
+-- the bytes taken begin with requests, which were answered, and the feed holds the others
+pub record Stands {V : Type 0} (answers : V → Versioned Request → V → Type 0) (taken : List ℕ) (feed : Feeding) (first now : V) : Type 0 where
+  pub requests : List (Versioned Request)
+  pub begins : Begins taken requests feed.held
+  pub place : feed.at ≡ length (flat_map asked_frame requests)
   pub way : feed.way ≡ ToServer
   pub waits : feed.failed ≡ false
-  pub left : state ≡ state_after start answered
-  pub put : Adds (reply_frames start answered) old now
+  pub answered : AreAnswered answers first requests now
 
-abbrev pub Comes : State → Came → List ℕ → Feeding → State → Option (List ℕ) → Option (List ℕ) → Type 0
-Comes start came.Waits taken feed state old now = Stands start taken feed state old now × IsNotYet is_request_head feed.held
-Comes start (came.Refused place) taken feed state old now = AnswersAll start taken (Refused place) old now
-Comes start came.WriteFault taken feed state old now = BreaksOff start taken old now
-Comes start came.OutOfMemory taken feed state old now = AnswersFirst start taken old now ⊎ BreaksOff start taken old now
+abbrev pub Drains : {V E : Type 0} → (V → Versioned Request → V → Type 0) → (E → V → Versioned Request → V → Type 0) → Drained E → List ℕ → Feeding → V → V → Type 0
+Drains answers stops drained.Waits taken feed first now = Stands answers taken feed first now × IsNotYet is_request_head feed.held
+Drains answers stops (drained.Refused place) taken feed first now = AnswersEach answers taken (Refused place) first now
+Drains answers stops drained.OutOfMemory taken feed first now = AnswersSome answers taken first now
+Drains answers stops (drained.Stopped stop) taken feed first now = StopsAfter answers (stops stop) taken first now
 
-abbrev pub CountsCame : Came → ℕ → ℕ → Type 0
-CountsCame came.Waits = Stays
-CountsCame (came.Refused place) = Stays
-CountsCame came.WriteFault = Rose
-CountsCame came.OutOfMemory = Stays
-
--- ---- the end of the input
-
--- nothing is held, or less than a frame, from this place on
-abbrev pub EndsAt : Served → Feeding → Type 0
-EndsAt served.Done feed = feed.held ≡ []
-EndsAt (served.BadFrame place) feed = (place ≡ feed.at) × (0 < length feed.held)
-EndsAt other feed = ⊥
+abbrev pub CountsDrained : {F E : Type 0} → (E → F → F → Type 0) → Drained E → F → F → Type 0
+CountsDrained counts drained.Waits old new = new ≡ old
+CountsDrained counts (drained.Refused place) old new = new ≡ old
+CountsDrained counts drained.OutOfMemory old new = new ≡ old
+CountsDrained counts (drained.Stopped stop) old new = counts stop old new

@@ -1,13 +1,12 @@
 //! One request, and the frames of its replies.
 
-ghost use Rattle.std.specs.Prelude.{◌≡◌, ◌<◌, OnOk, length};
+ghost use Rattle.std.specs.Prelude.{◌<◌, length};
 ghost use Rattle.ae_edge.specs.Devices.{Calls};
 ghost use Rattle.ae_edge.specs.Streams.{CountsPutAll, PutsAll};
-ghost use Rattle.server_core.specs.Serve.{serve};
 ghost use Rattle.wire_encoding.specs.Packing.{packed};
 ghost use Rattle.serve_command.specs.Answers.{PutsOrKeeps};
-ghost use Rattle.serve_command.specs.ServeAll.{answer_frames};
 
+use crate::answering::Answering;
 use ae_base::frames::FrameVersion;
 use ae_edge::sinks::Sink;
 use ae_edge::streams::{WriteError, put_all};
@@ -58,19 +57,41 @@ pub fn put_replies<W: Sink>(
     put_all(out, frames.as_slice())
 }
 
-/// Serves a request, and puts the frames of its replies, in its version.
-pub(crate) fn answer<W: Sink>(
-    alloc: Global,
-    asked: &Versioned<Request<'_>>,
-    server: &mut Server,
-    out: &mut W,
-) -> Result<(), WriteError>
-    ensures left { OnOk result (server.new ≡ (serve server.old asked.now.message).after) }
-    ensures call { Calls (PutsAll (answer_frames server.old asked.now) result)
-        (CountsPutAll result) (W.seen out.old) (W.seen out.new) }
-{
-    match server.serve(alloc, &asked.message) {
-        Ok(replies) => put_replies(alloc, asked.version, replies.as_slice(), out),
-        Err(_) => Err(WriteError::OutOfMemory),
+impl Answering<()> for Server {
+    ghost use Rattle.std.specs.Prelude.{[], ℕ};
+    ghost use Rattle.ae_edge.specs.Streams.{CountsWrite};
+    ghost use Rattle.serve_command.specs.Servers.{AnswersRequest, ServerView, StopsRequest};
+
+    type Stop = WriteError;
+
+    ghost View = { ServerView };
+
+    ghost seen = { λ server device out. record { state = server; out = out } };
+
+    ghost is_ready = { λ view. Unit {0} };
+
+    ghost answers = { AnswersRequest };
+
+    ghost stops = { StopsRequest };
+
+    ghost Faults = { ℕ };
+
+    ghost failed = { λ device out. out };
+
+    ghost counts = { CountsWrite };
+
+    ghost names = { λ device. [] };
+
+    fn answer<W: Sink>(
+        &mut self,
+        alloc: Global,
+        asked: &Versioned<Request<'_>>,
+        out: &mut W,
+        _device: &mut (),
+    ) -> Result<(), WriteError> {
+        match self.serve(alloc, &asked.message) {
+            Ok(replies) => put_replies(alloc, asked.version, replies.as_slice(), out),
+            Err(_) => Err(WriteError::OutOfMemory),
+        }
     }
 }

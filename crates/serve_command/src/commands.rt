@@ -1,28 +1,20 @@
 //! The command `serve`.
 
-ghost use Rattle.std.specs.Prelude.{◌≡◌, ◌++◌, ◌<◌, ◌^◌, List, ℕ, Option, Some, length, take};
+ghost use Rattle.std.specs.Prelude.{◌≡◌, List, ℕ, Some, take};
 ghost use Rattle.ae_edge.specs.Devices.{Rose};
-ghost use Rattle.frame_feed.specs.Feeding.{empty_feed};
 ghost use Rattle.server_core.specs.Serve.{State, empty_state};
 ghost use Rattle.wire_frames.specs.Frames.{End};
-ghost use Rattle.wire_frames.specs.declared.decoding.Way.TheVariants.{ToServer};
 ghost use Rattle.serve_command.specs.ServeAll.{ServeAll};
 ghost use Rattle.serve_command.specs.Serving.{IsServed, ServesStream, most_stream_bytes};
-ghost use Rattle.serve_command.specs.Turns.{Comes, CountsCame, EndsAt, Stands};
 
-use crate::turns::{Came, answer_held};
-use ae_base::blobs::Blob;
-use ae_base::limits::MOST_STREAM_BYTES;
+use crate::inputs::{Ending, serve_input};
 use ae_edge::sinks::Sink;
-use ae_edge::sources::{Source, Taken};
-use frame_feed::FrameFeed;
+use ae_edge::sources::Source;
+use ae_edge::streams::WriteError;
 use server_core::laws::requests_are_serial;
 use server_core::server::Server;
 use std::alloc::Global;
-use wire_frames::{Way, frames_are_read_back, one_reading, streams_are_read_once};
-
-/// The most bytes that one call asks the input for.
-const MOST_PIECE_BYTES: usize = 65_536;
+use wire_frames::{frames_are_read_back, one_reading, streams_are_read_once};
 
 /// How the command ended.
 #[derive(Clone, Copy, PartialEq, Eq, Debug)]
@@ -40,75 +32,21 @@ pub enum Served {
     BadFrame(u64),
 }
 
-/// What the end of the input means for what is held.
-fn at_end(feed: &FrameFeed) -> Served
-    ensures { EndsAt result feed.now }
-{
-    match feed.finish() {
-        None => Served::Done,
-        Some(place) => Served::BadFrame(place),
-    }
-}
+impl From<Ending<WriteError>> for Served {
+    ghost use Rattle.std.specs.Prelude.{◌≡◌};
+    ghost use Rattle.serve_command.specs.Servers.{served_by};
 
-/// Takes a piece into the feed, and answers the requests that are whole.
-fn answer_piece<W: Sink>(
-    alloc: Global,
-    piece: &Blob,
-    feed: &mut FrameFeed,
-    server: &mut Server,
-    out: &mut W,
-) -> Came
-    requires { feed.old.way ≡ ToServer }
-    ensures way { feed.new.way ≡ ToServer }
-    ensures comes { (taken : List ℕ) (first : Option (List ℕ))
-        → length (taken ++ piece.now) < 2 ^ 64
-        → Stands empty_state taken feed.old server.old first (W.seen out.old).content
-        → Comes empty_state result (taken ++ piece.now) feed.new server.new first
-        (W.seen out.new).content }
-    ensures counts { CountsCame result (W.seen out.old).faults (W.seen out.new).faults }
-{
-    match feed.feed(piece.as_slice()) {
-        Ok(()) => answer_held(alloc, feed, server, out),
-        Err(_) => Came::OutOfMemory,
-    }
-}
+    ghost from_gives = { λ ending served. served ≡ served_by ending };
 
-/// Answers the requests of the input, piece by piece. At the limit one byte more is asked for.
-fn serve_pieces<S: Source, W: Sink>(
-    alloc: Global,
-    input: &mut S,
-    out: &mut W,
-    feed: &mut FrameFeed,
-    server: &mut Server,
-) -> Served
-    requires unfed { feed.old ≡ empty_feed ToServer }
-    requires empty { server.old ≡ empty_state }
-    ensures content { ServesStream result (S.seen input.old).content (S.seen input.new).content
-        (W.seen out.old).content (W.seen out.new).content }
-    ensures read { result ≡ Served.ReadFault
-        → Rose (S.seen input.old).faults (S.seen input.new).faults }
-    ensures write { result ≡ Served.WriteFault
-        → Rose (W.seen out.old).faults (W.seen out.new).faults }
-{
-    requests_are_serial();
-    let mut left = MOST_STREAM_BYTES;
-    'pieces: loop {
-        match input.take(alloc, left.min(MOST_PIECE_BYTES).max(1)) {
-            Taken::Bytes(piece) => {
-                if left == 0 {
-                    return Served::TooLong;
-                }
-                left -= piece.len();
-                match answer_piece(alloc, &piece, feed, server, out) {
-                    Came::Waits => {}
-                    Came::Refused(place) => return Served::BadFrame(place),
-                    Came::WriteFault => return Served::WriteFault,
-                    Came::OutOfMemory => return Served::OutOfMemory,
-                }
-            }
-            Taken::End => return at_end(feed),
-            Taken::Failed => return Served::ReadFault,
-            Taken::OutOfMemory => return Served::OutOfMemory,
+    fn from(ending: Ending<WriteError>) -> Served {
+        match ending {
+            Ending::Done => Served::Done,
+            Ending::ReadFault => Served::ReadFault,
+            Ending::TooLong => Served::TooLong,
+            Ending::BadFrame(place) => Served::BadFrame(place),
+            Ending::OutOfMemory => Served::OutOfMemory,
+            Ending::Stopped(WriteError::Failed) => Served::WriteFault,
+            Ending::Stopped(WriteError::OutOfMemory) => Served::OutOfMemory,
         }
     }
 }
@@ -138,10 +76,9 @@ pub fn serve_stream<S: Source, W: Sink>(alloc: Global, input: &mut S, out: &mut 
     one_reading();
     streams_are_read_once();
     frames_are_read_back();
-    let mut feed = FrameFeed::new(alloc, Way::ToServer);
+    requests_are_serial();
     let mut server = Server::new(alloc);
-    let served = serve_pieces(alloc, input, out, &mut feed, &mut server);
-    drop(feed);
+    let ending = serve_input(alloc, input, out, &mut (), &mut server);
     drop(server);
-    served
+    Served::from(ending)
 }

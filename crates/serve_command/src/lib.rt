@@ -2,7 +2,9 @@
 //! next is looked at.
 #![tactic(auto)]
 
+pub mod answering;
 pub mod answers;
 pub mod commands;
+pub mod inputs;
 pub mod laws;
 mod turns;

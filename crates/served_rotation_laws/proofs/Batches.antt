@@ -68,8 +68,8 @@ use Rattle.conversation.specs.Keys.{meta_of, open_key, open_trusted, trusted_met
 use Rattle.conversation.specs.Pending.{Pending, Use, uses_of}
 use Rattle.conversation.specs.Sessions as sessions
 use Rattle.conversation.specs.Sessions.{titles_of, types_of, row_read}
-use Rattle.conversation.specs.declared.answers.ReplyAnswer.TheVariants as answer
-use Rattle.conversation.specs.Talk.{Talk, Asks, Draws, Heard, Notes, Opens, Said, described_outcome, heard_answer, heard_description, nothing_broken, nothing_shown}
+use Rattle.conversation.specs.declared.answers.RowAnswer.TheVariants as answer
+use Rattle.conversation.specs.Talk.{Talk, Asks, Draws, Heard, Notes, Opens, Said, described_outcome, heard_description, heard_next, nothing_broken, nothing_shown}
 use Rattle.conversation.specs.Turns.{
   Onward,
   answered_on,
@@ -248,7 +248,8 @@ module _ (keys : KeyMap) (R : Walk → Passed Beside → Type 0) where
     skipped k h [] count shown taken entropy bytes = at (total == count)
       where
         at : (b : Bool) → Heard_on (over_on false k) entropy
-            (heard_one (λ after more. listen nothing_broken [] after more (suc taken)) None taken [] (heard_answer shown (if b then sessions.Tells answer.Over session.Idle else sessions.Stray)))
+            (heard_one (λ after more. listen nothing_broken [] after more (suc taken)) None taken []
+            (heard_next shown (if b then Some (record { answer = answer.Over; after = session.Idle }) else None)))
         at true = h (suc taken) entropy bytes
         at false = stops entropy (BadReply taken)
     skipped k h (row ∷ rows) count shown taken entropy bytes = at (skipped k h rows (count + 1) shown (suc taken) entropy bytes) (is_row_of columns row)
@@ -256,7 +257,7 @@ module _ (keys : KeyMap) (R : Walk → Passed Beside → Type 0) where
         at : R w (over serve_beside keys (Notes (session.Skipping columns (count + 1)) shown (over_on false k)) (suc taken) entropy w.beside (queue_of rows total))
             → (b : Bool) → Heard_on (over_on false k) entropy
             (heard_one (λ after more. listen nothing_broken (queue_of rows total) after more (suc taken)) None taken (queue_of rows total)
-            (heard_answer shown (if b then sessions.Tells answer.Skipped (session.Skipping columns (count + 1)) else sessions.Stray)))
+            (heard_next shown (if b then Some (record { answer = answer.Skipped; after = session.Skipping columns (count + 1) }) else None)))
         at more true = more
         at more false = stops entropy (BadReply taken)
 
@@ -270,7 +271,7 @@ module _ (keys : KeyMap) (R : Walk → Passed Beside → Type 0) where
         where
           at : (b : Bool) → Heard_on (rows_on false k) entropy
               (heard_one (λ after more. listen nothing_broken [] after more (suc taken)) None taken []
-              (heard_answer (record { titles = titles; rows = before }) (if b then sessions.Tells (answer.Rows count) session.Idle else sessions.Stray)))
+              (heard_next (record { titles = titles; rows = before }) (if b then Some (record { answer = answer.Rows count; after = session.Idle }) else None)))
           at true =
               subst (λ rows. R w (over serve_beside keys (k (outcome.Rows (record { titles = titles; rows = rows })) session.Idle) (suc taken) entropy w.beside [])) (append-nil before)
               (h [] tt (suc taken) entropy bytes)
@@ -287,7 +288,7 @@ module _ (keys : KeyMap) (R : Walk → Passed Beside → Type 0) where
               (suc taken) entropy w.beside (queue_of rows total)))
               → (r : Result (List Value) DriverFault) → read_atoms (count + 1) 1 columns os row ≡ r → Heard_on (rows_on false k) entropy
               (heard_one (λ after more. listen nothing_broken (queue_of rows total) after more (suc taken)) None taken (queue_of rows total)
-              (heard_answer (record { titles = titles; rows = before }) (row_read columns os (count + 1) r)))
+              (heard_next (record { titles = titles; rows = before }) (Some (row_read columns os (count + 1) r))))
           read more (Ok v) e = more v e
           read more (Err f) e =
               skipped (k (outcome.Broken (record { titles = titles; rows = before }) (Some f)))
@@ -298,8 +299,8 @@ module _ (keys : KeyMap) (R : Walk → Passed Beside → Type 0) where
               (suc taken) entropy w.beside (queue_of rows total)))
               → (b : Bool) → is_row_of columns row ≡ b → Heard_on (rows_on false k) entropy
               (heard_one (λ after more. listen nothing_broken (queue_of rows total) after more (suc taken)) None taken (queue_of rows total)
-              (heard_answer (record { titles = titles; rows = before })
-              (if b then row_read columns os (count + 1) (read_atoms (count + 1) 1 columns os row) else sessions.Stray)))
+              (heard_next (record { titles = titles; rows = before })
+              (if b then Some (row_read columns os (count + 1) (read_atoms (count + 1) 1 columns os row)) else None)))
           at more true fit = read (more fit) (read_atoms (count + 1) 1 columns os row) refl
           at more false fit = stops entropy (BadReply taken)
 

@@ -67,4 +67,4 @@ returns-in-Err-run-clause-leads g c = λ k.
     c.in-Ok-Send.field-0-is (c.batches.invariant.goes k) (c.in-Ok-Send.ensures.leads c.args.driver.now.trusted k (session_of c.batches.driver c.args.number))) (rw e at r)
 
 pub returns-clause-leads : goal.returns-clause-leads
-returns-clause-leads g c = λ k. breaks_between _ _ _ _ (c.batches.invariant.goes k)
+returns-clause-leads g c = λ k. rw c.from.ensures (breaks_between _ _ _ _ (c.batches.invariant.goes k))

@@ -1,7 +1,6 @@
 -- One request more is answered, or what was taken ends there.
 use Rattle.std.proofs.Common.{◌∙◌}
-use Rattle.server_core.specs.Serve.{empty_state}
-use Rattle.serve_command.proofs.Turning.{stands_whole, stands_more, stops_refused, breaks_off, stops_unheld}
+use Rattle.serve_command.proofs.Turning.{drains_refused, drains_unread, drains_waits, stands_more, stands_whole, stops_after}
 use Rattle.serve_command.proofs.turns.answer_held.Goals as goal
 
 pub advance-requires : goal.advance-requires
@@ -11,26 +10,28 @@ advance-requires g c =
 
 pub requests-preserved : goal.requests-preserved
 requests-preserved g c =
-    let a = c.in-Answered.ensures.turns in
     let e = c.advance.ensures in
     record {
       way = rw e c.requests.invariant.way;
       stands = λ taken first short s. rw e
-          (stands_more empty_state taken c.requests.feed c.requests.server first (g.W.Sink.seen c.requests.out).content
-          (c.requests.invariant.stands taken first short s) c.in-Answered.used c.answer_next.new.server (g.W.Sink.seen c.answer_next.new.out).content short a);
-      count = c.in-Answered.ensures.counts ∙ c.requests.invariant.count;
+          (stands_more g.A.Answering.answers taken c.requests.feed first _ (c.requests.invariant.stands taken first short s) c.in-Answered.used _ short c.in-Answered.ensures.turns);
+      ready = c.in-Answered.ensures.ready;
+      names = c.in-Answered.ensures.same ∙ c.requests.invariant.names;
+      counts = c.in-Answered.ensures.counts ∙ c.requests.invariant.counts;
     }
 
-pub returns-in-Refused-clause-comes : goal.returns-in-Refused-clause-comes
-returns-in-Refused-clause-comes g c = λ taken first short s. stops_refused empty_state taken c.requests.feed
-    c.requests.server first (g.W.Sink.seen c.requests.out).content (c.requests.invariant.stands taken first short s)
-    c.in-Refused.place c.answer_next.new.server (g.W.Sink.seen c.answer_next.new.out).content c.in-Refused.ensures.turns
+pub returns-in-Waits-clause-drains : goal.returns-in-Waits-clause-drains
+returns-in-Waits-clause-drains g c = λ taken first short s.
+    drains_waits g.A.Answering.answers g.A.Answering.stops taken c.requests.feed first _ _ (c.requests.invariant.stands taken first short s) c.in-Waits.ensures.turns
 
-pub returns-in-WriteFault-clause-comes : goal.returns-in-WriteFault-clause-comes
-returns-in-WriteFault-clause-comes g c = λ taken first short s. breaks_off empty_state taken c.requests.feed
-    c.requests.server first (g.W.Sink.seen c.requests.out).content (c.requests.invariant.stands taken first short s) (g.W.Sink.seen c.answer_next.new.out).content c.in-WriteFault.ensures.turns
+pub returns-in-Refused-clause-drains : goal.returns-in-Refused-clause-drains
+returns-in-Refused-clause-drains g c = λ taken first short s. drains_refused g.A.Answering.answers g.A.Answering.stops
+    taken c.requests.feed first _ _ (c.requests.invariant.stands taken first short s) c.in-Refused.place c.in-Refused.ensures.turns
 
-pub returns-in-OutOfMemory-clause-comes : goal.returns-in-OutOfMemory-clause-comes
-returns-in-OutOfMemory-clause-comes g c = λ taken first short s. stops_unheld empty_state taken c.requests.feed
-    c.requests.server first (g.W.Sink.seen c.requests.out).content (c.requests.invariant.stands taken first short s)
-    c.answer_next.new.server (g.W.Sink.seen c.answer_next.new.out).content c.in-OutOfMemory.ensures.turns
+pub returns-in-OutOfMemory-clause-drains : goal.returns-in-OutOfMemory-clause-drains
+returns-in-OutOfMemory-clause-drains g c = λ taken first short s. drains_unread g.A.Answering.answers g.A.Answering.stops
+    taken c.requests.feed first _ _ (c.requests.invariant.stands taken first short s) c.in-OutOfMemory.ensures.turns
+
+pub returns-in-Stopped-clause-drains : goal.returns-in-Stopped-clause-drains
+returns-in-Stopped-clause-drains g c = λ taken first short s. stops_after g.A.Answering.answers taken c.requests.feed
+    first _ (c.requests.invariant.stands taken first short s) (g.A.Answering.stops c.in-Stopped.stop) _ c.in-Stopped.ensures.turns

@@ -1,6 +1,7 @@
 -- What is no message to the server is no request.
-use Rattle.serve_command.proofs.Turning.{turns_refused}
+use Rattle.std.proofs.Common.{refl}
+use Rattle.serve_command.proofs.Turning.{refused_so}
 use Rattle.serve_command.proofs.turns.answer_next.Goals as goal
 
 pub returns-in-Bad-clause-turns : goal.returns-in-Bad-clause-turns
-returns-in-Bad-clause-turns g c = turns_refused c.in-Bad.place c.args.feed.now _ c.args.server.now _ c.requires c.in-Bad.ensures
+returns-in-Bad-clause-turns g c = let s = c.in-Bad.ensures in (s.0, refused_so c.args.feed.now.way c.args.feed.now.held c.requires.way s.1, refl)

@@ -9,24 +9,25 @@ use Rattle.journal_command.specs.Keeping.{entries_of, keeping}
 use Rattle.journal_command.specs.Stopping.{StopsBy, outside}
 use Rattle.journal_command.specs.declared.endings.Stop.TheVariants as stops
 use Rattle.journal_command.proofs.Appending.{answers_so, unanswered}
-use Rattle.journal_command.proofs.durable.Durable.answer.Goals as goal
+use Rattle.journal_command.proofs.durable.DurableAnswering.answer.Goals as goal
 
-pub returns-in-Ok-clause-answers : goal.returns-in-Ok-clause-answers
-returns-in-Ok-clause-answers g c = λ held e.
+pub returns-in-Ok-clause-answered : goal.returns-in-Ok-clause-answered
+returns-in-Ok-clause-answered g c =
     let result = c.append_and_put.result in
     let new = c.append_and_put.new.self in
     let replies = c.in-Ok.answer.replies in
     let entry = c.in-Ok.answer.entry in
     let disk = (g.D.Disk.seen c.args.disk.now).content in
     let out = (g.W.Sink.seen c.args.out.now).content in
-    let after = outside new.journal.gate (g.D.Disk.seen c.append_and_put.new.disk).content (g.W.Sink.seen c.append_and_put.new.out).content in
-    let put = subst (λ (j : JournalState). PutsBy result (packed c.args.asked.now.version replies) (option_to_list entry) (outside j.gate disk out) after)
+    let disk_after = (g.D.Disk.seen c.append_and_put.new.disk).content in
+    let out_after = (g.W.Sink.seen c.append_and_put.new.out).content in
+    let put = subst (λ (j : JournalState). PutsBy result (packed c.args.asked.now.version replies) (option_to_list entry) (outside j.gate disk out) (outside new.journal.gate disk_after out_after))
     c.in-Ok.ensures.journal c.append_and_put.ensures.put in
-    answers_so result held c.args.asked.now c.args.self.now c.serve.new.self new replies entry
-    (outside c.args.self.now.journal.gate disk out) after c.in-Ok.ensures.served e c.append_and_put.ensures.kept put
+    answers_so result c.args.asked.now c.serve.new.self (record { durable = c.args.self.now; disk = disk; out = out })
+    (record { durable = new; disk = disk_after; out = out_after }) replies entry c.in-Ok.ensures.served c.append_and_put.ensures.kept put
 
-pub returns-in-Err-clause-answers : goal.returns-in-Err-clause-answers
-returns-in-Err-clause-answers g c = λ held e.
+pub returns-in-Err-clause-answered : goal.returns-in-Err-clause-answered
+returns-in-Err-clause-answered g c = λ held e.
     let frames = answer_frames c.args.self.now.state c.args.asked.now in
     let more = entries_of (keeping c.args.self.now.state held c.args.asked.now).records in
     let disk = (g.D.Disk.seen c.args.disk.now).content in
