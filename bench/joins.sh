@@ -1,7 +1,8 @@
 #!/bin/sh
 # A join of two tables of N rows each by one key, plain and protected, and of N / 4 rows, beside the same join in
-# sqlite3 in memory, in processor time of one run. Each row matches one row of the other table. Fails if N rows take
-# more than five times as long as N / 4, or if a number of rows isn't sqlite3's.
+# sqlite3 in memory, in processor time, the least of three measures. Each row matches one row of the other table.
+# Fails if from N / 4 to N its time grows more than twice as much as sqlite3's, which misses the processor's caches as
+# well, or if a number of rows isn't sqlite3's.
 # Usage: bench/joins.sh [N], N from 4 to 100000, with python3 and its sqlite3
 . "$(dirname "$0")/lib.sh"
 n=${1:-100000}
